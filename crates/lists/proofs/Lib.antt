@@ -1,0 +1,5 @@
+pub mod Tests
+pub mod Below
+pub mod Lists
+pub mod Writes
+pub mod Search

@@ -1,0 +1,5 @@
+pub mod Choice
+pub mod Below
+pub mod Lists
+pub mod Products
+pub mod Search

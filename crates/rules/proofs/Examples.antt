@@ -1,0 +1,16 @@
+-- Document 01's twelve examples hold of the definitions: one statement, by computation. Assumes nothing.
+use mathlib.Core.Path.{refl}
+use Rattle.lists.specs.Below.{allBelow, someBelow, countBelow, eachBelow, concatBelow, lowestFrom}
+use Rattle.lists.specs.Lists.{any, keep, member, insert, without, place}
+use Rattle.lists.specs.Products.{falling}
+use Rattle.rules.specs.Placement.{unblocked, trail, placed}
+use Rattle.rules.specs.Setting.{badCell, settingCheck}
+use Rattle.rules.specs.Step.{causeOf, outcomeOf, stepped}
+use Rattle.rules.specs.Chance.{freeFrom, free, outcomes, digits, pick, drawnFrom, drawn, rankIn, rankOf}
+use Rattle.rules.specs.LengthKey.{sorted, folded, lengthKey}
+use Rattle.rules.specs.Examples.{EachHolds, theTwelve}
+
+pub examples-hold : EachHolds theTwelve
+unfolding allBelow someBelow countBelow eachBelow concatBelow lowestFrom any keep member insert without place falling unblocked trail placed badCell settingCheck causeOf outcomeOf stepped freeFrom free outcomes digits pick drawnFrom drawn rankIn rankOf sorted folded lengthKey theTwelve
+examples-hold =
+    ((refl, refl), (refl, ((refl, refl), (refl, (refl, (refl, (refl, ((refl, refl, refl, refl), ((refl, refl, refl, refl), (refl, (refl, (refl, (refl, (refl, tt))))))))))))))

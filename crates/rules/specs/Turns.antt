@@ -1,0 +1,29 @@
+-- Who acts, which actions are legal, and the mark of a truncation (01, 'Turns'). Assumes nothing.
+use Prim.Native.Nat.{ℕ}
+use mathlib.Core.Bool.{Bool, true, false, not, _&&_}
+use mathlib.Core.List.{List, [], _∷_}
+use lib.Dec.{ltb}
+use Rattle.lists.specs.Choice.{_if_else_}
+use Rattle.rules.specs.State.{State, snakeOf}
+use Rattle.rules.specs.declared.Event.{Event}
+
+-- 'Chance acts while food is due; else all snakes at once'
+abbrev pub chanceActs : State → Bool
+chanceActs s = ltb 0 (s .due)
+
+-- 'Actions 0, 1, 2 are legal for a living snake when none is due, otherwise none are'
+abbrev pub legalFor : State → ℕ → List ℕ
+legalFor s a = 0 ∷ 1 ∷ 2 ∷ [] if snakeOf s a .alive && not (chanceActs s) else []
+
+-- 'Truncation sets an event's survival flag to its agent's alive flag and changes nothing else'
+abbrev pub truncated : Event → Bool → Event
+truncated e b = record {
+  ate = e .ate;
+  died = e .died;
+  cause = e .cause;
+  killed = e .killed;
+  won = e .won;
+  lost = e .lost;
+  drew = e .drew;
+  survived = b;
+}

@@ -1,0 +1,143 @@
+// The types that the calls of the arena share. No function: the rules are definitions, in specs/.
+
+pub enum Heading {
+    Up,
+    Right,
+    Down,
+    Left,
+}
+
+// A snake's action, relative to its heading: 0, 1, 2.
+pub enum RelativeAction {
+    Forward,
+    TurnLeft,
+    TurnRight,
+}
+
+// A row and a column, perhaps off the grid.
+pub struct Place {
+    pub row: i32,
+    pub col: i32,
+}
+
+// A number that may be unset.
+pub enum Limit {
+    Unset,
+    Is(u64),
+}
+
+// Snake of the Rust: num_snakes, grid_size, initial_length, play_to_last, win_food_lead, initial_food_count, max_ticks.
+pub struct Setting {
+    pub snakes: u64,
+    pub grid: i32,
+    pub size: u64,
+    pub last: bool,
+    pub lead: Limit,
+    pub food: u64,
+    pub ticks: Limit,
+}
+
+// DeathCause of the Rust, with no cause first: the blank one.
+pub enum Cause {
+    NoCause,
+    Wall,
+    SelfBody,
+    OppBody,
+    HeadOn,
+}
+
+// StepEvent of the Rust: ate_food, died, death_cause, killed_opponent, won, lost, drew, survived_to_max_ticks.
+pub struct Event {
+    pub ate: bool,
+    pub died: bool,
+    pub cause: Cause,
+    pub killed: bool,
+    pub won: bool,
+    pub lost: bool,
+    pub drew: bool,
+    pub survived: bool,
+}
+
+// SnakeReward of the Rust.
+pub struct Weights {
+    pub step: f64,
+    pub food: f64,
+    pub loss: f64,
+    pub draw: f64,
+    pub kill: f64,
+    pub win: f64,
+    pub survival: f64,
+}
+
+// ---- answers; Refused always holds the paper's number
+
+pub enum Verdict {
+    Accepted,
+    Refused(u8),
+}
+
+// How many words or numbers were written.
+pub enum Answer {
+    Done(usize),
+    Refused(u8),
+}
+
+// A step's answer; on a refusal the match is not over and every event is blank.
+pub struct Stepped {
+    pub answer: Answer,
+    pub terminal: bool,
+    pub events: [Event; 8],
+}
+
+// A draw's answer, and how many cells its list has; 0 on a refusal.
+pub struct Drawn {
+    pub answer: Answer,
+    pub cells: usize,
+}
+
+// A count of outcomes, or an index.
+pub enum Number {
+    Value(u64),
+    Refused(u8),
+}
+
+pub enum LengthCell {
+    Key(u64),
+    NoKey,
+    Refused(u8),
+}
+
+pub enum Actor {
+    Chance,
+    Simultaneous,
+    Refused(u8),
+}
+
+// Actions 0, 1 and 2, or none.
+pub enum Legal {
+    AnyAction,
+    NoAction,
+    Refused(u8),
+}
+
+pub enum Truncated {
+    Marked(Event),
+    Refused(u8),
+}
+
+pub enum Reward {
+    Sum(f64),
+    Refused(u8),
+}
+
+pub enum Space {
+    Box {
+        planes: usize,
+        high: usize,
+        wide: usize,
+        low: f32,
+        top: f32,
+    },
+    Discrete(usize),
+    Refused(u8),
+}
