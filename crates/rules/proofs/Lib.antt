@@ -1,2 +1,4 @@
 pub mod Facts
+pub mod Image
+pub mod Words
 pub mod Examples
