@@ -45,7 +45,7 @@ module _ (s : State) where
   records-long : (i : ℕ) → length (concatBelow i (recordOf s)) ≡ 4 * i
   records-long i = blocks-long (recordOf s) 4 i (λ j. refl)
 
-  past-front : drop (front n) (imageOf s) ≡ bodies ++ s .food
+  pub past-front : drop (front n) (imageOf s) ≡ bodies ++ s .food
   past-front = sym (drop-drop (4 * n) 5 (imageOf s)) ∙ ap (drop (4 * n)) past-five ∙ drop-at table (bodies ++ s .food) (4 * n) (records-long n)
 
   module _ (i : ℕ) (h : i < n) where

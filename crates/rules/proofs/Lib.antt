@@ -1,4 +1,5 @@
 pub mod Facts
 pub mod Image
 pub mod Words
+pub mod Holdable
 pub mod Examples
