@@ -2,4 +2,5 @@ pub mod Facts
 pub mod Image
 pub mod Words
 pub mod Holdable
+pub mod Answers
 pub mod Examples
