@@ -134,13 +134,14 @@ pub one-start : (s : Setting) (old new other : List ℕ) (r q : Answer) → Star
 one-start s old new other r q p o = (answer-one r q (p .answer ∙ sym (o .answer)), p .words ∙ sym (o .words))
 
 pub one-step : (s : Setting) (w acts old new other : List ℕ) (r q : Stepped) → Steps s w acts old new r → Steps s w acts old other q → (r ≡ q) × (new ≡ other)
-one-step s w acts old new other r q p o =
-    (λ t. record {
-      answer = answer-one (r .answer) (q .answer) (p .answer ∙ sym (o .answer)) t;
-      terminal = (p .terminal ∙ sym (o .terminal)) t;
-      events = (p .events ∙ sym (o .events)) t;
-    },
-    p .words ∙ sym (o .words))
+one-step s w acts old new other r q p o = (
+  λ t. record {
+    answer = answer-one (r .answer) (q .answer) (p .answer ∙ sym (o .answer)) t;
+    terminal = (p .terminal ∙ sym (o .terminal)) t;
+    events = (p .events ∙ sym (o .events)) t;
+  },
+  p .words ∙ sym (o .words),
+)
 
 pub one-view : (w : List ℕ) (a : ℕ) (old new other : List Float) (r q : Answer) → Observes w a old new r → Observes w a old other q → (r ≡ q) × (new ≡ other)
 one-view w a old new other r q p o = (answer-one r q (p .answer ∙ sym (o .answer)), p .numbers ∙ sym (o .numbers))
@@ -150,13 +151,14 @@ one-count w r q p o = number-one r q (p .answer ∙ sym (o .answer))
 
 pub one-draw : (w : List ℕ) (i : ℕ) (old new other list cells cells′ : List ℕ) (r q : Drawn)
     → Draws w i old new list cells r → Draws w i old other list cells′ q → (r ≡ q) × (new ≡ other) × (cells ≡ cells′)
-one-draw w i old new other list cells cells′ r q p o =
-    (λ t. record {
-      answer = answer-one (r .answer) (q .answer) (p .answer ∙ sym (o .answer)) t;
-      cells = (p .cells ∙ sym (o .cells)) t;
-    },
-    p .words ∙ sym (o .words),
-    p .list ∙ sym (o .list))
+one-draw w i old new other list cells cells′ r q p o = (
+  λ t. record {
+    answer = answer-one (r .answer) (q .answer) (p .answer ∙ sym (o .answer)) t;
+    cells = (p .cells ∙ sym (o .cells)) t;
+  },
+  p .words ∙ sym (o .words),
+  p .list ∙ sym (o .list),
+)
 
 pub one-rank : (w l : List ℕ) (r q : Number) → Ranks w l r → Ranks w l q → r ≡ q
 one-rank w l r q p o = number-one r q (p .answer ∙ sym (o .answer))

@@ -53,13 +53,22 @@ module _ (s : State) (ok : Holdable s) where
   contents : contentsFit (imageOf s) ≡ true
   unfolding contentsFit imageOf
   contents =
-      every-true _
-      (both (le-leb _ _ (ok .snakes-min)) (le-leb _ _ (ok .snakes-max)),
-      (both (le-leb _ _ (ok .side-min)) (le-leb _ _ (ok .side-max)),
-      (le-leb _ _ (ok .due-max),
-      (le-leb _ _ (bit-le (s .birth)),
-      (le-leb _ _ (ok .food-max),
-      tt)))))
+      every-true _ (
+        both (le-leb _ _ (ok .snakes-min)) (le-leb _ _ (ok .snakes-max)),
+        (
+          both (le-leb _ _ (ok .side-min)) (le-leb _ _ (ok .side-max)),
+          (
+            le-leb _ _ (ok .due-max),
+            (
+              le-leb _ _ (bit-le (s .birth)),
+              (
+                le-leb _ _ (ok .food-max),
+                tt,
+              ),
+            ),
+          ),
+        ),
+      )
 
   area-is : areaIn (imageOf s) ≡ area s
   unfolding imageOf
@@ -69,13 +78,20 @@ module _ (s : State) (ok : Holdable s) where
   record-fits i h =
       let l = length-is s i h in
       let a = alive-is s i h in
-      every-true _
-      (le-leb (lengthAt (imageOf s) i) (areaIn (imageOf s)) (rw (l, area-is) (ok .lengths i h)),
-      (le-leb (headingAt (imageOf s) i) 3 (rw (heading-is s i h) (number-le (snakeOf s i .heading))),
-      (le-leb (aliveAt (imageOf s) i) 1 (rw a (bit-le (snakeOf s i .alive))),
-      (implies (eqb (aliveAt (imageOf s) i) 1) (leb 1 (lengthAt (imageOf s) i))
-        (λ t. le-leb 1 (lengthAt (imageOf s) i) (rw l (ok .living i h (sym (bit-back (snakeOf s i .alive)) ∙ ap (λ (k : ℕ). eqb k 1) (sym a) ∙ t)))),
-      tt))))
+      every-true _ (
+        le-leb (lengthAt (imageOf s) i) (areaIn (imageOf s)) (rw (l, area-is) (ok .lengths i h)),
+        (
+          le-leb (headingAt (imageOf s) i) 3 (rw (heading-is s i h) (number-le (snakeOf s i .heading))),
+          (
+            le-leb (aliveAt (imageOf s) i) 1 (rw a (bit-le (snakeOf s i .alive))),
+            (
+              implies (eqb (aliveAt (imageOf s) i) 1) (leb 1 (lengthAt (imageOf s) i))
+                  (λ t. le-leb 1 (lengthAt (imageOf s) i) (rw l (ok .living i h (sym (bit-back (snakeOf s i .alive)) ∙ ap (λ (k : ℕ). eqb k 1) (sym a) ∙ t)))),
+              tt,
+            ),
+          ),
+        ),
+      )
 
   ranges : rangesFit (imageOf s) ≡ true
   unfolding rangesFit
@@ -138,7 +154,7 @@ module _ (w : List ℕ) (ok : Sound w) where
   food-cells =
       all-each (λ c. ltb c (areaIn w)) (foodAt w) 0
       (λ k l. let a = start-mono w 0 (snakesIn w) (omega arith) in let e = length-drop (foodStart w) w in
-        lt-ltb (getD (foodAt w) k 0) (areaIn w) (rw (getD-drop (foodStart w) w k 0) (ok .cells (foodStart w + k) (omega arith) (omega arith))))
+      lt-ltb (getD (foodAt w) k 0) (areaIn w) (rw (getD-drop (foodStart w) w k 0) (ok .cells (foodStart w + k) (omega arith) (omega arith))))
 
   pub food-long : length (foodAt w) ≡ foodCountIn w
   food-long = length-drop (foodStart w) w ∙ (let e = ok .total in omega arith)

@@ -55,9 +55,9 @@ module _ (s : State) where
         sym (getD-drop (5 + 4 * i) (imageOf s) k 0)
         ∙ ap (λ (l : List ℕ). getD l k 0)
         (sym (drop-drop (4 * i) 5 (imageOf s))
-          ∙ ap (drop (4 * i)) past-five
-          ∙ ap (λ (k : ℕ). drop k (table ++ (bodies ++ s .food))) (sym (records-long i))
-          ∙ block-drop (recordOf s) i n h (bodies ++ s .food))
+        ∙ ap (drop (4 * i)) past-five
+        ∙ ap (λ (k : ℕ). drop k (table ++ (bodies ++ s .food))) (sym (records-long i))
+        ∙ block-drop (recordOf s) i n h (bodies ++ s .food))
 
     at : (k m : ℕ) → m ≡ 5 + 4 * i + k → word (imageOf s) m ≡ getD (recordOf s i ++ behind (recordOf s) i n h (bodies ++ s .food)) k 0
     at k m e = ap (word (imageOf s)) e ∙ record-word k
@@ -79,7 +79,7 @@ module _ (s : State) where
         let b = concatBelow i (bodyOf s) in
         rw (start-is, length-is)
         (ap (take (length (bodyOf s i))) (sym (drop-drop (length b) (front n) (imageOf s)) ∙ ap (drop (length b)) past-front)
-          ∙ block-take (bodyOf s) i n h (s .food))
+        ∙ block-take (bodyOf s) i n h (s .food))
 
     pub snake-is : snakeAt (imageOf s) i ≡ snakeOf s i
     snake-is = λ j. record {

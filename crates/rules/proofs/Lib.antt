@@ -3,4 +3,6 @@ pub mod Image
 pub mod Words
 pub mod Holdable
 pub mod Answers
+pub mod Step
 pub mod Examples
+pub mod Sample

@@ -76,10 +76,10 @@ module _ (w : List ℕ) (ok : Sound w) where
       let f : headingAt w i ≡ word w (suc (suc b)) = ap (word w) (omega arith) in
       let g : aliveAt w i ≡ word w (suc (suc (suc b))) = ap (word w) (omega arith) in
       (λ j. start-at i h j
-          ∷ (ap length (body-at i h) ∙ body-long i h ∙ e) j
-          ∷ (ap (λ (z : Snake). numberOf (z .heading)) z ∙ number-back (headingAt w i) (ok .headings i h) ∙ f) j
-          ∷ (ap (λ (z : Snake). bit (z .alive)) z ∙ bit-of (aliveAt w i) (ok .flags i h) ∙ g) j
-          ∷ [])
+      ∷ (ap length (body-at i h) ∙ body-long i h ∙ e) j
+      ∷ (ap (λ (z : Snake). numberOf (z .heading)) z ∙ number-back (headingAt w i) (ok .headings i h) ∙ f) j
+      ∷ (ap (λ (z : Snake). bit (z .alive)) z ∙ bit-of (aliveAt w i) (ok .flags i h) ∙ g) j
+      ∷ [])
       ∙ words-are w b 4 (omega (arith, ok .records-in))
 
   records-are : (i : ℕ) → i ≤ n → concatBelow i (recordOf (stateOf w)) ≡ take (4 * i) (drop 5 w)
