@@ -3,3 +3,6 @@ pub mod Below
 pub mod Lists
 pub mod Writes
 pub mod Search
+pub mod Members
+pub mod Products
+pub mod Blocks
