@@ -6,3 +6,5 @@ pub mod Search
 pub mod Members
 pub mod Products
 pub mod Blocks
+pub mod Order
+pub mod Equal

@@ -1,2 +1,5 @@
 pub mod Facts
 pub mod Examples
+pub mod FreeCells
+pub mod Digits
+pub mod Draws
