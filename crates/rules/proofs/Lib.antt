@@ -3,3 +3,4 @@ pub mod Examples
 pub mod FreeCells
 pub mod Digits
 pub mod Draws
+pub mod Sets
