@@ -4,3 +4,4 @@ pub mod FreeCells
 pub mod Digits
 pub mod Draws
 pub mod Sets
+pub mod Fairness
