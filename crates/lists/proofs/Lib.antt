@@ -8,3 +8,4 @@ pub mod Products
 pub mod Blocks
 pub mod Order
 pub mod Equal
+pub mod Lowest

@@ -5,3 +5,5 @@ pub mod Digits
 pub mod Draws
 pub mod Sets
 pub mod Fairness
+pub mod Births
+pub mod DrawFacts

@@ -16,3 +16,4 @@ pub mod Says
 pub mod Calls
 pub mod Promises
 pub mod Examples
+pub mod Births
