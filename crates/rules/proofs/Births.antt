@@ -1,16 +1,16 @@
 -- 'A birth chain with p due ends after exactly min(p, n+1) draws', whatever indices below the counts it draws. Assumes nothing.
 use mathlib.Core.Path.{_≡_, refl, sym, ap, _∙_, subst}
-use mathlib.Core.Logic.{_⊎_, inl, inr, ⊎-elim}
-use mathlib.Core.Bool.{Bool, true, false, not, _||_, or-assoc}
+use mathlib.Core.Logic.{_⊎_, inl, inr}
+use mathlib.Core.Bool.{Bool, true, not, _||_, or-assoc}
 use mathlib.Core.List.{List, [], _∷_}
-use Prim.Native.Nat.{ℕ, zero, suc, _+_, _-_, _≤_, _<_, min}
+use Prim.Native.Nat.{ℕ, zero, suc, _+_, _-_, _<_, min}
 use native.Mathlib.Nat.{not-suc-le-zero, suc-inj, lt-irrefl, suc-ne-zero, zero-add}
 use native.Mathlib.Omega.{arith}
 use lib.Dec.{eqb}
 use lib.ListN.{length, getD}
 use borrow.Author.Tests.{eq-eqb, ne-eqb}
-use Rattle.lists.specs.Below.{someBelow, lowestFrom}
-use Rattle.lists.specs.Lists.{member, insert, without}
+use Rattle.lists.specs.Below.{someBelow}
+use Rattle.lists.specs.Lists.{member, without}
 use Rattle.lists.proofs.Lists.{member-at}
 use Rattle.lists.proofs.Members.{length-without}
 use Rattle.lists.proofs.Order.{member-insert}
@@ -20,7 +20,7 @@ use Rattle.rules.specs.Image.{bodyOf}
 use Rattle.rules.specs.Chance.{taken, freeFrom, free, outcomes, drawn, withFood, afterDraw}
 use Rattle.rules.specs.Births.{afterDraws, chainDraws}
 use Rattle.rules.proofs.FreeCells.{free-ext, from-without}
-use Rattle.rules.proofs.Fairness.{Born, born, born-full, birth-count}
+use Rattle.rules.proofs.Fairness.{born, born-full, birth-count}
 
 -- k draws leave no food due, and fewer do not
 pub record Ends (index : ℕ → ℕ) (t : State) (k : ℕ) : Type 0 where

@@ -1,26 +1,24 @@
 -- What a draw answers is well-formed again: facts of the state after it. Assumes nothing.
-use mathlib.Core.Path.{_≡_, refl, sym, ap, _∙_, subst}
-use mathlib.Core.Logic.{_⊎_, inl, inr, ⊎-elim}
-use mathlib.Core.Bool.{Bool, true, false, not, _&&_, _||_}
-use mathlib.Core.List.{List, [], _∷_}
-use Prim.Native.Nat.{ℕ, zero, suc, _+_, _-_, _≤_, _<_, min}
+use mathlib.Core.Path.{_≡_, refl, sym, ap, _∙_}
+use mathlib.Core.Logic.{_⊎_, ⊎-elim}
+use mathlib.Core.Bool.{Bool, true, false, not, _&&_}
+use mathlib.Core.List.{List}
+use Prim.Native.Nat.{ℕ, _+_, _-_, _≤_, _<_}
 use native.Mathlib.Nat.{le-trans}
 use native.Mathlib.Omega.{arith}
 use lib.Dec.{eqb, ltb}
-use lib.ListN.{length, getD, drop, length-drop}
+use lib.ListN.{length, getD, length-drop}
 use lib.Seq.{getD-drop}
 use borrow.Author.Tests.{lt-ltb}
 use Rattle.lists.specs.Choice.{_if_else_}
-use Rattle.lists.specs.Lists.{all, member, distinct, ascending}
+use Rattle.lists.specs.Lists.{all, member, ascending, place}
 use Rattle.lists.proofs.Members.{all-members, place-lt, getD-place}
-use Rattle.lists.specs.Lists.{place}
 use Rattle.lists.proofs.Order.{ascending-short}
 use Rattle.rules.specs.State.{State, area}
-use Rattle.rules.specs.Image.{front, snakesIn, areaIn, dueIn, foodStart, foodAt, foodCountIn, stateOf}
+use Rattle.rules.specs.Image.{snakesIn, areaIn, foodStart, foodAt, stateOf}
 use Rattle.rules.specs.Facts.{Sound}
 use Rattle.rules.specs.Chance.{free, drawSize, outcomes, drawn, withFood, afterDraw}
 use Rattle.rules.proofs.FreeCells.{free-below, free-off-food}
-use Rattle.rules.proofs.Draws.{Listed}
 use Rattle.rules.proofs.Sets.{listed-ascending, of-with, with-long}
 use Rattle.rules.proofs.Fairness.{listed}
 use Rattle.rules.proofs.Facts.{start-mono, start-first}

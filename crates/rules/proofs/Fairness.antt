@@ -1,26 +1,25 @@
 -- The draw is fair (01, 'Chance'): for a state t whose food ascends, with n = length (free t) free cells, k = drawSize t draws and
 -- P = outcomes t, the indices below P and the ordered lists of k different free cells match one to one by `drawn` and `rankOf`, and each
 -- set of k free cells is added to the food by exactly k! of the indices. Below that, what a draw leaves as it was. Assumes nothing.
-use mathlib.Core.Path.{_≡_, refl, sym, ap, _∙_}
-use mathlib.Core.Bool.{Bool, true, false, not, _&&_, _||_}
+use mathlib.Core.Path.{_≡_, refl, _∙_}
+use mathlib.Core.Bool.{true, false, not, _&&_}
 use mathlib.Core.List.{List, [], _∷_}
-use Prim.Native.Nat.{ℕ, zero, suc, _+_, _-_, _*_, _%_, _≤_, _<_, min}
+use Prim.Native.Nat.{ℕ, zero, suc, _-_, _%_, _<_, min}
 use native.Mathlib.Nat.{mul-one, sub-zero, mod-eq-of-lt, lt-irrefl}
 use native.Mathlib.Omega.{arith}
 use lib.Dec.{eqb}
 use lib.ListN.{length, getD}
 use borrow.Author.Tests.{eqb-true, eq-eqb, ne-eqb}
-use Rattle.lists.specs.Choice.{_if_else_}
 use Rattle.lists.specs.Below.{countBelow}
 use Rattle.lists.specs.Lists.{all, member, distinct, ascending}
 use Rattle.lists.specs.Products.{falling, factorial}
 use Rattle.lists.specs.Equal.{sameList}
 use Rattle.lists.proofs.Tests.{and-left, and-right, both}
-use Rattle.lists.proofs.Members.{all-member, all-members, member-first, place-getD}
+use Rattle.lists.proofs.Members.{all-member, all-members}
 use Rattle.rules.specs.State.{State, area}
 use Rattle.rules.specs.Chance.{taken, free, drawSize, outcomes, digits, pick, drawnFrom, drawn, withFood, afterDraw, rankOf, canRank}
 use Rattle.rules.proofs.FreeCells.{free-distinct, free-below, free-untaken, free-member, free-off-food}
-use Rattle.rules.proofs.Draws.{Listed, listed-turn, drawn-listed, drawn-length, drawn-none, rank-drawn, rank-lt, drawn-rank}
+use Rattle.rules.proofs.Draws.{Listed, listed-turn, drawn-listed, drawn-none, rank-drawn, rank-lt, drawn-rank}
 use Rattle.rules.proofs.Sets.{food-count, with-none}
 
 pub record Fair (t : State) : Type 0 where

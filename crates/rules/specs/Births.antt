@@ -1,6 +1,5 @@
 -- A chain of draws, one after the other, and how many it has. Assumes nothing.
 use Prim.Native.Nat.{ℕ, zero, suc}
-use mathlib.Core.Bool.{Bool}
 use lib.Dec.{eqb}
 use Rattle.lists.specs.Below.{lowestFrom}
 use Rattle.rules.specs.State.{State}
