@@ -4,3 +4,9 @@ pub mod Lists
 pub mod Writes
 pub mod Search
 pub mod Blocks
+pub mod Concat
+pub mod Members
+pub mod Products
+pub mod Order
+pub mod Equal
+pub mod Lowest

@@ -10,7 +10,7 @@ use lib.Seq.{getD-drop, drop-drop, drop-at}
 use Rattle.lists.specs.Choice.{bit}
 use Rattle.lists.specs.Below.{concatBelow, sumBelow, eachBelow}
 use Rattle.lists.proofs.Below.{each-back, each-ext, sum-ext, concat-long}
-use Rattle.lists.proofs.Blocks.{behind, block-drop, block-take, blocks-long}
+use Rattle.lists.proofs.Concat.{behind, block-drop, block-take, blocks-long}
 use Rattle.rules.specs.Headings.{numberOf, headingOf}
 use Rattle.rules.specs.State.{Snake, State, nobody, count, snakeOf}
 use Rattle.rules.specs.Image.{front, bodyOf, startOf, recordOf, contentsOf, imageOf, word, snakesIn, startAt, lengthAt, headingAt, aliveAt, startDue, foodStart, bodyAt, foodAt, snakeAt, stateOf}

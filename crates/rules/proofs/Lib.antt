@@ -6,3 +6,10 @@ pub mod Answers
 pub mod Step
 pub mod Examples
 pub mod Sample
+pub mod FreeCells
+pub mod Digits
+pub mod Draws
+pub mod Sets
+pub mod Fairness
+pub mod Births
+pub mod DrawFacts

@@ -17,3 +17,4 @@ pub mod Calls
 pub mod Promises
 pub mod Examples
 pub mod Sample
+pub mod Births
