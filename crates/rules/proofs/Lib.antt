@@ -13,3 +13,4 @@ pub mod Sets
 pub mod Fairness
 pub mod Births
 pub mod DrawFacts
+pub mod Again
