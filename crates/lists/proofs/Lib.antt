@@ -3,3 +3,5 @@ pub mod Below
 pub mod Lists
 pub mod Writes
 pub mod Search
+pub mod Boards
+pub mod Flags
