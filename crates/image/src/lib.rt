@@ -1,7 +1,9 @@
 // The state image in 16-bit words: which slices are well-formed, what their parts are, and how words are written.
+mod check;
 mod table;
 mod words;
 
+pub use check::well_formed;
 use rules::Heading;
 pub use table::record_at;
 pub use table::records;
