@@ -10,3 +10,5 @@ pub mod Products
 pub mod Order
 pub mod Equal
 pub mod Lowest
+pub mod Boards
+pub mod Flags
