@@ -5,3 +5,6 @@ pub mod Writes
 pub mod Search
 pub mod Boards
 pub mod Flags
+pub mod Squares
+pub mod Parts
+pub mod Insertion

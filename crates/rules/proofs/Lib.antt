@@ -1,3 +1,4 @@
 pub mod Facts
 pub mod Parts
 pub mod Examples
+pub mod View
