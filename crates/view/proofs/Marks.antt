@@ -13,7 +13,7 @@ use lib.Seq.{drop-cons, length-take-le, getD-take, getD-drop}
 use borrow.Author.Tests.{eq-eqb, ne-eqb}
 use Rattle.lists.specs.Choice.{_if_else_}
 use Rattle.lists.proofs.Lists.{part-is, part-long}
-use Rattle.rules.specs.Image.{front, snakesIn, sideIn, startAt, lengthAt}
+use Rattle.rules.specs.Image.{front, snakesIn, sideIn}
 use Rattle.rules.specs.Facts.{Sound}
 use Rattle.rules.specs.View.{turnedCell}
 use Rattle.rules.specs.declared.Heading.{Heading}
@@ -69,15 +69,8 @@ module _ (g : ℕ) (d : Heading) (o : List Float) where
 pub plane-in : (ch m n : ℕ) → ch < 5 → 5 * m ≤ n → ch * m + m ≤ n
 plane-in ch m n h r = omega (arith, mul-le-mul-right {m = suc ch} {n = 5} m h, suc-mul ch m)
 
-module _ (w : List ℕ) (ok : Sound w) where
-  pub part-fits : (g s n : ℕ) → g ≡ sideIn w → front (snakesIn w) ≤ s → s + n ≤ length w → OnGrid (g * g) (take (s + n - s) (drop s w))
-  part-fits g s n e a b k h =
-      let q = rw (part-is w s n) at h in
-      let l : k < n = omega (arith, part-long w s n b) in
-      rw (part-is w s n, getD-take n (drop s w) k 0 l, getD-drop s w k 0, e) (ok .cells (s + k) (omega arith) (omega arith))
-
-  pub body-from : (i : ℕ) → i < snakesIn w → front (snakesIn w) ≤ startAt w i
-  body-from i h = omega (arith, ok .starts i h)
-
-  pub body-to : (i : ℕ) → i < snakesIn w → startAt w i + lengthAt w i ≤ length w
-  body-to i h = omega (arith, ok .bodies-in i h, ok .total)
+pub part-fits : (w : List ℕ) (g s n : ℕ) → Sound w → g ≡ sideIn w → front (snakesIn w) ≤ s → s + n ≤ length w → OnGrid (g * g) (take (s + n - s) (drop s w))
+part-fits w g s n ok e a b k h =
+    let q = rw (part-is w s n) at h in
+    let l : k < n = omega (arith, part-long w s n b) in
+    rw (part-is w s n, getD-take n (drop s w) k 0 l, getD-drop s w k 0, e) (ok .cells (s + k) (omega arith) (omega arith))

@@ -4,9 +4,10 @@ use Prim.Native.Nat.{_+_, _*_, _≤_, _<_}
 use mathlib.Core.Path.{_≡_, sym}
 use lib.ListN.{length}
 use denote.Ref.{now}
-use Rattle.view.proofs.Marks.{body-none, body-from, body-to}
+use Rattle.view.proofs.Marks.{body-none}
 use Rattle.view.specs.Marks.{withBody}
 use Rattle.lists.proofs.Parts.{first-of, rest-of}
+use Rattle.rules.proofs.Parts.{body-from, body-in}
 use Rattle.lists.proofs.Lists.{part-long}
 use Rattle.rules.specs.Image.{bodyAt, startAt, lengthAt, snakesIn}
 use Rattle.view.proofs.planes.mark_body.Statement.{statement}
@@ -49,7 +50,7 @@ returns c =
     let w = now (s .image) in
     let i : s .i < snakesIn w = c .before .before .before .before .before .pre .1 .1 in
     let f = body-from w (p .sound) (s .i) i in
-    let t = body-to w (p .sound) (s .i) i in
+    let t = body-in w (p .sound) (s .i) i in
     sym (body-none (s .g) (s .heading) (now (s .obs)) (s .ch) (bodyAt w (s .i)) (omega (arith, part-long w (startAt w (s .i)) (lengthAt w (s .i)) t)))
 
 mark-plane-requires : tie.Need-mark-plane-requires
@@ -59,7 +60,7 @@ mark-plane-requires c κs =
     let w = now (s .image) in
     let i : s .i < snakesIn w = c .before .before .before .before .before .before .pre .1 .1 in
     let f = body-from w (p .sound) (s .i) i in
-    let t = body-to w (p .sound) (s .i) i in
+    let t = body-in w (p .sound) (s .i) i in
     (p, (f, omega arith))
 
 add-mark-plane : tie.Need-add-mark-plane
@@ -72,7 +73,7 @@ add-mark-plane-2 c =
     let w = now (s .image) in
     let i : s .i < snakesIn w = c .before .before .before .before .before .before .before .before .before .before .pre .1 .1 in
     let f = body-from w (p .sound) (s .i) i in
-    let t = body-to w (p .sound) (s .i) i in
+    let t = body-in w (p .sound) (s .i) i in
     omega (arith, p .sound .small)
 
 sub-mark-plane : tie.Need-sub-mark-plane
@@ -85,7 +86,7 @@ mark-plane-requires-2 c κs =
     let w = now (s .image) in
     let i : s .i < snakesIn w = c .before .before .before .before .before .before .before .before .before .before .pre .1 .1 in
     let f = body-from w (p .sound) (s .i) i in
-    let t = body-to w (p .sound) (s .i) i in
+    let t = body-in w (p .sound) (s .i) i in
     let l : length (c .before .before .before .mark-plane .last .0) ≡ length (now (s .obs)) = search needs in
     (record { sound = p .sound; side = p .side; channel = omega arith; room = omega (arith, p .room) }, (omega arith, omega arith))
 
@@ -100,7 +101,7 @@ returns-2 c =
     let w = now (s .image) in
     let i : s .i < snakesIn w = c .before .before .before .before .before .before .before .before .before .before .before .before .before .pre .1 .1 in
     let f = body-from w (p .sound) (s .i) i in
-    let t = body-to w (p .sound) (s .i) i in
+    let t = body-in w (p .sound) (s .i) i in
     let a = startAt w (s .i) in
     let n = lengthAt w (s .i) in
     let h : 1 ≤ n = omega arith in

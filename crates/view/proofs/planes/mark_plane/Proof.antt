@@ -77,7 +77,7 @@ mark-requires c κs =
     let m = s .g * s .g in
     let r = plane-in (s .ch) m (length (now (s .obs))) (p .channel) (p .room) in
     let q = c .before .before .before .before .pre .1 in
-    (omega (arith, p .side, p .sound .side-max), rw (rest-is (now (s .obs)) (s .ch * m), length-drop) (omega arith), part-fits (now (s .image)) (p .sound) (s .g) (s .start) (s .len) (p .side) (q .0) (q .1))
+    (omega (arith, p .side, p .sound .side-max), rw (rest-is (now (s .obs)) (s .ch * m), length-drop) (omega arith), part-fits (now (s .image)) (s .g) (s .start) (s .len) (p .sound) (p .side) (q .0) (q .1))
 
 same-length : tie.Need-same-length
 same-length c = search needs
