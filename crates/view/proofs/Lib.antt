@@ -1,3 +1,4 @@
 pub mod Marks
 pub mod Sizes
 pub mod Keys
+pub mod Shown

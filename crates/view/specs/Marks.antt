@@ -41,6 +41,10 @@ unfoldable pub withOthers : ℕ → Heading → (ℕ → List ℕ) → ℕ → �
 withOthers g h body a zero o = o
 withOthers g h body a (suc n) o = let r = withOthers g h body a n o in r if eqb n a else withBody g h 2 (body n) r
 
+-- a's body in planes 0 and 1, those of the other n - 1 in planes 2 and 3
+unfoldable pub withSnakes : ℕ → Heading → (ℕ → List ℕ) → ℕ → ℕ → List Float → List Float
+withSnakes g h body a n o = withOthers g h body a n (withBody g h 0 (body a) o)
+
 -- what a writer of plane ch is handed: a checked image, its side, five planes' room
 pub record Draws (w : List ℕ) (g ch : ℕ) (o : List Float) : Type 0 where
   pub sound : Sound w

@@ -1,15 +1,14 @@
-// The observation: five planes of 0.0 and 1.0, turned so that the agent looks up.
+// The five planes of an observation: the turn of a cell, and bodies and food marked with 1.0.
 use rules::Heading;
 
 ghost use mathlib.Core.Path.{_≡_};
 ghost use mathlib.Core.List.{map};
-ghost use Prim.Native.Nat.{ℕ, _+_, _*_, _<_, _≤_};
+ghost use Prim.Native.Nat.{_+_, _*_, _<_, _≤_};
 ghost use lib.ListN.{length, take, drop, replicate};
 ghost use Rattle.lists.specs.Lists.{overFront};
-ghost use Rattle.rules.specs.Image.{front, snakesIn, sideIn, areaIn, bodyAt};
-ghost use Rattle.rules.specs.Facts.{Sound};
-ghost use Rattle.rules.specs.View.{shows, turnedCell, lit};
-ghost use Rattle.view.specs.Marks.{dark, marked, markedIn, withBody, withOthers, OnGrid, Draws};
+ghost use Rattle.rules.specs.Image.{front, snakesIn, bodyAt, foodAt};
+ghost use Rattle.rules.specs.View.{turnedCell};
+ghost use Rattle.view.specs.Marks.{dark, marked, markedIn, withBody, withOthers, withSnakes, OnGrid, Draws};
 
 // Where a cell shows to an agent that looks Right.
 fn sideways(g: u32, cell: u32) -> u32
@@ -87,8 +86,27 @@ fn mark_others(obs: &mut [f32], image: &[u16], agent: usize, heading: Heading, g
     }
 }
 
+// The agent's body into planes 0 and 1, the others' into 2 and 3.
+pub fn mark_snakes(obs: &mut [f32], image: &[u16], agent: usize, heading: Heading, g: u32)
+    requires { ⌜ Draws (now image) g 2 (now obs) ⌝ }
+    requires { ⌜ agent < snakesIn (now image) ⌝ }
+    ensures { λ _. ⌜ now (obs .exit) ≡ withSnakes g heading (bodyAt (now (image .entry))) agent (snakesIn (now (image .entry))) (now (obs .entry)) ⌝ }
+{
+    mark_body(obs, 0, image, agent, heading, g);
+    mark_others(obs, image, agent, heading, g);
+}
+
+// The food into plane 4.
+pub fn mark_food(obs: &mut [f32], image: &[u16], heading: Heading, g: u32)
+    requires { ⌜ Draws (now image) g 4 (now obs) ⌝ }
+    ensures { λ _. ⌜ now (obs .exit) ≡ markedIn (g * g) 4 (map (turnedCell g heading) (foodAt (now (image .entry)))) (now (obs .entry)) ⌝ }
+{
+    let count = image[4] as usize;
+    mark_plane(obs, 4, image, image.len() - count, count, heading, g);
+}
+
 // Sets the first n numbers to 0.0.
-fn clear(obs: &mut [f32], n: usize)
+pub fn clear(obs: &mut [f32], n: usize)
     requires { ⌜ n ≤ length (now obs) ⌝ }
     ensures { λ _. ⌜ now (obs .exit) ≡ overFront (replicate n dark) (now (obs .entry)) ⌝ }
 {
