@@ -9,11 +9,11 @@ use native.Mathlib.Omega.{arith}
 use lib.Dec.{eqb}
 use lib.Ieee.{Float}
 use lib.ListN.{length, getD, set, take, drop, length-set, length-append, length-drop, take-append-drop, drop-of-length-le}
-use lib.Seq.{drop-cons, length-take-le, getD-take, getD-drop}
+use lib.Seq.{drop-cons, length-take-le, take-all, getD-take, getD-drop}
 use borrow.Author.Tests.{eq-eqb, ne-eqb}
 use Rattle.lists.specs.Choice.{_if_else_}
 use Rattle.lists.proofs.Lists.{part-is, part-long}
-use Rattle.rules.specs.Image.{front, snakesIn, sideIn}
+use Rattle.rules.specs.Image.{front, snakesIn, sideIn, foodCountIn, foodStart, foodAt}
 use Rattle.rules.specs.Facts.{Sound}
 use Rattle.rules.specs.View.{turnedCell}
 use Rattle.rules.specs.declared.Heading.{Heading}
@@ -74,3 +74,9 @@ part-fits w g s n ok e a b k h =
     let q = rw (part-is w s n) at h in
     let l : k < n = omega (arith, part-long w s n b) in
     rw (part-is w s n, getD-take n (drop s w) k 0 l, getD-drop s w k 0, e) (ok .cells (s + k) (omega arith) (omega arith))
+
+-- the food, counted from the image's end
+pub food-part : (w : List ℕ) → Sound w → take (foodCountIn w) (drop (length w - foodCountIn w) w) ≡ foodAt w
+food-part w ok =
+    let e : length w - foodCountIn w ≡ foodStart w = omega (arith, ok .total) in
+    rw e (take-all (foodCountIn w) (foodAt w) (omega (arith, length-drop (foodStart w) w, ok .total)))
