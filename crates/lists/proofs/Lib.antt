@@ -12,3 +12,6 @@ pub mod Equal
 pub mod Lowest
 pub mod Boards
 pub mod Flags
+pub mod Squares
+pub mod Parts
+pub mod Insertion

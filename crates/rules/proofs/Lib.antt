@@ -15,3 +15,4 @@ pub mod Fairness
 pub mod Births
 pub mod DrawFacts
 pub mod Again
+pub mod View
