@@ -1,4 +1,4 @@
-use Rattle.rules.specs.Image.{snakesIn}
+-- The invariant: the bodies so far have no cell twice, and the next stamp is new to the board.
 use borrow.Author.Needs.{needs}
 use borrow.Author.Tests.{not-true, not-false}
 use denote.Ref.{now}
@@ -12,7 +12,7 @@ use Rattle.lists.specs.Lists.{distinct}
 use Rattle.lists.proofs.Below.{all-none, all-more, all-fails, all-done}
 use Rattle.lists.proofs.Boards.{board-blank}
 use Rattle.lists.proofs.Lists.{part-is}
-use Rattle.rules.specs.Image.{startAt, lengthAt, bodyAt, bodiesFit}
+use Rattle.rules.specs.Image.{snakesIn, startAt, lengthAt, bodyAt, bodiesFit}
 use Rattle.image.proofs.check.bodies_fit.Statement.{statement}
 use Rattle.image.proofs.check.bodies_fit.Tie as tie
 

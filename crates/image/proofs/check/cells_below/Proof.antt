@@ -1,12 +1,13 @@
+-- The invariant: the flag, and the test of what is left, give the whole answer.
 use denote.Ref.{now}
-use Rattle.lists.proofs.Flags.{flag-next, flag-end}
 use borrow.Author.Needs.{needs}
 use native.Mathlib.Omega.{arith}
-use Prim.Native.Nat.{_+_, _-_, _≤_}
-use mathlib.Core.Path.{_≡_, refl, sym, ap, _∙_}
+use Prim.Native.Nat.{_-_, _≤_}
+use mathlib.Core.Path.{_≡_, refl}
 use mathlib.Core.Bool.{_&&_}
 use lib.Dec.{ltb}
 use lib.ListN.{length, drop}
+use Rattle.lists.proofs.Flags.{flag-next, flag-end}
 use Rattle.lists.specs.Lists.{all}
 use Rattle.image.proofs.check.cells_below.Statement.{statement}
 use Rattle.image.proofs.check.cells_below.Tie as tie

@@ -1,10 +1,10 @@
 use denote.Ref.{now}
 use lib.Dec.{ltb}
 use mathlib.Core.Path.{ap, _∙_}
+use borrow.Author.Needs.{needs}
 use Rattle.lists.specs.Lists.{all}
 use Rattle.lists.proofs.Lists.{rest-is}
 use Rattle.rules.specs.Image.{front, snakesIn, areaIn, cellsFit}
-use borrow.Author.Needs.{needs}
 use Rattle.image.proofs.check.cells_fit.Statement.{statement}
 use Rattle.image.proofs.check.cells_fit.Tie as tie
 

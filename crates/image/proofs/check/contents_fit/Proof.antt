@@ -1,8 +1,8 @@
 use native.Mathlib.Omega.{arith}
+use borrow.Author.Needs.{needs}
 use Rattle.lists.proofs.Flags.{every-five}
 use Rattle.rules.specs.Image.{contentsFit}
 use Rattle.image.proofs.Checked.{square-fits}
-use borrow.Author.Needs.{needs}
 use Rattle.image.proofs.check.contents_fit.Statement.{statement}
 use Rattle.image.proofs.check.contents_fit.Tie as tie
 

@@ -1,18 +1,15 @@
+-- The invariant: `due` is where snake i is due, and the flag tells of the starts before it.
 use denote.Ref.{now}
-use mathlib.Core.Path.{ap}
+use mathlib.Core.Path.{ap, _≡_, sym, ap₂, _∙_}
 use mathlib.Core.Bool.{Bool}
-use Prim.Native.Nat.{ℕ}
-use Rattle.rules.specs.Image.{snakesIn, startsFit}
-use Rattle.rules.proofs.Facts.{start-first}
-use Rattle.image.proofs.Checked.{startFits, starts-next, due-next}
+use Prim.Native.Nat.{ℕ, _+_, _*_, _-_, _≤_}
 use borrow.Author.Needs.{needs}
 use native.Mathlib.Omega.{arith}
-use Prim.Native.Nat.{_+_, _*_, _-_, _≤_}
-use mathlib.Core.Path.{_≡_, sym, ap₂, _∙_}
-use lib.Dec.{eqb}
 use Rattle.lists.specs.Below.{allBelow}
-use Rattle.lists.proofs.Below.{all-none, all-next, all-done}
-use Rattle.rules.specs.Image.{startAt, startDue}
+use Rattle.lists.proofs.Below.{all-none}
+use Rattle.rules.specs.Image.{snakesIn, startsFit, startDue}
+use Rattle.rules.proofs.Facts.{start-first}
+use Rattle.image.proofs.Checked.{startFits, starts-next, due-next}
 use Rattle.image.proofs.check.laid_out.Statement.{statement}
 use Rattle.image.proofs.check.laid_out.Tie as tie
 

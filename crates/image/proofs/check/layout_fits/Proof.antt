@@ -1,15 +1,15 @@
-use borrow.Author.Tests.{eq-eqb, ne-eqb}
+-- Starts, then the total; with both, each part is where it is due.
+use borrow.Author.Tests.{eq-eqb, ne-eqb, not-true, not-false}
 use Prim.Native.Nat.{_+_}
 use denote.Ref.{now}
 use lib.ListN.{length}
+use mathlib.Core.Path.{sym, ap, _∙_}
+use native.Mathlib.Omega.{arith}
+use borrow.Author.Needs.{needs}
+use Rattle.lists.proofs.Tests.{every-out, every-on}
 use Rattle.rules.specs.Image.{foodStart, foodCountIn, totalFits}
 use Rattle.image.proofs.Checked.{laid-of}
-use borrow.Author.Tests.{not-true, not-false}
-use mathlib.Core.Path.{_≡_, sym, ap, _∙_}
-use Rattle.lists.proofs.Tests.{every-out, every-on}
-use native.Mathlib.Omega.{arith}
 use Rattle.image.specs.declared.check.Layout.{Layout}
-use borrow.Author.Needs.{needs}
 use Rattle.image.proofs.check.layout_fits.Statement.{statement}
 use Rattle.image.proofs.check.layout_fits.Tie as tie
 

@@ -1,14 +1,14 @@
 use borrow.Author.Tests.{not-true, not-false}
-use mathlib.Core.Path.{_≡_, sym, ap, _∙_}
-use Rattle.lists.proofs.Tests.{every-out, every-on}
+use mathlib.Core.Path.{sym, ap, _∙_}
 use Prim.Native.Nat.{ℕ}
 use denote.Ref.{now}
 use lib.ListN.{drop}
+use borrow.Author.Needs.{needs}
+use Rattle.lists.proofs.Tests.{every-out, every-on}
 use Rattle.lists.specs.Lists.{ascending}
 use Rattle.lists.proofs.Lists.{rest-is}
 use Rattle.lists.proofs.Flags.{every-one}
 use Rattle.rules.specs.Image.{foodFits}
-use borrow.Author.Needs.{needs}
 use Rattle.image.proofs.check.lists_fit.Statement.{statement}
 use Rattle.image.proofs.check.lists_fit.Tie as tie
 

@@ -1,7 +1,7 @@
 use native.Mathlib.Omega.{arith}
 use borrow.Author.Tests.{lt-leb, le-leb}
-use Rattle.rules.specs.Image.{longEnough}
 use borrow.Author.Needs.{needs}
+use Rattle.rules.specs.Image.{longEnough}
 use Rattle.image.proofs.check.long_enough.Statement.{statement}
 use Rattle.image.proofs.check.long_enough.Tie as tie
 

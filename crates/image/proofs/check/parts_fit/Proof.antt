@@ -1,8 +1,9 @@
+-- Cells below g² have a square of the board.
 use borrow.Author.Tests.{not-true, not-false}
-use mathlib.Core.Path.{_≡_, sym, ap, _∙_}
+use mathlib.Core.Path.{sym, _∙_}
+use borrow.Author.Needs.{needs}
 use Rattle.lists.proofs.Tests.{every-out, every-on}
 use Rattle.image.proofs.Checked.{board-of}
-use borrow.Author.Needs.{needs}
 use Rattle.image.proofs.check.parts_fit.Statement.{statement}
 use Rattle.image.proofs.check.parts_fit.Tie as tie
 

@@ -1,9 +1,9 @@
 use borrow.Author.Tests.{not-true, not-false}
 use mathlib.Core.Path.{sym, _∙_}
 use native.Mathlib.Omega.{arith}
+use borrow.Author.Needs.{needs}
 use Rattle.rules.specs.Image.{rangesFit}
 use Rattle.image.proofs.Checked.{square-fits}
-use borrow.Author.Needs.{needs}
 use Rattle.image.proofs.check.ranges_fit.Statement.{statement}
 use Rattle.image.proofs.check.ranges_fit.Tie as tie
 

@@ -1,9 +1,8 @@
 use denote.Ref.{now}
-use Rattle.image.proofs.Checked.{record-fits-by}
 use native.Mathlib.Omega.{arith}
 use Prim.Native.Nat.{_+_, _*_}
-use Rattle.lists.proofs.Flags.{every-four}
 use borrow.Author.Needs.{needs}
+use Rattle.image.proofs.Checked.{record-fits-by}
 use Rattle.image.proofs.check.record_fits.Statement.{statement}
 use Rattle.image.proofs.check.record_fits.Tie as tie
 

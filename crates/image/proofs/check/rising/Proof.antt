@@ -1,11 +1,12 @@
+-- The invariant: the flag, and the test of what is left above `low`, give the whole answer.
 use denote.Ref.{now}
-use Rattle.lists.proofs.Flags.{rising-next, rising-end}
 use borrow.Author.Needs.{needs}
 use native.Mathlib.Omega.{arith}
-use Prim.Native.Nat.{_+_, _-_, _≤_}
-use mathlib.Core.Path.{_≡_, refl, sym, ap, _∙_}
+use Prim.Native.Nat.{_-_, _≤_}
+use mathlib.Core.Path.{_≡_, refl}
 use mathlib.Core.Bool.{_&&_}
 use lib.ListN.{length, drop}
+use Rattle.lists.proofs.Flags.{rising-next, rising-end}
 use Rattle.lists.specs.Lists.{ascending}
 use Rattle.image.proofs.check.rising.Statement.{statement}
 use Rattle.image.proofs.check.rising.Tie as tie

@@ -5,9 +5,9 @@ use Prim.Native.Nat.{_+_, _-_, _≤_}
 use mathlib.Core.Path.{sym, _∙_, _≡_}
 use lib.ListN.{drop, getD, length}
 use Rattle.lists.proofs.Boards.{fresh, pass-new, pass-end, pass-stop, pass-on, board-set, board-more}
-use Rattle.image.proofs.check.stamps_once.Statement.{statement}
 use Rattle.lists.specs.Boards.{Board}
 use Rattle.lists.specs.Lists.{distinct}
+use Rattle.image.proofs.check.stamps_once.Statement.{statement}
 use Rattle.image.proofs.check.stamps_once.Tie as tie
 
 abbrev Inv-loop : tie.InvT-loop

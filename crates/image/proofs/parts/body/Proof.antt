@@ -1,11 +1,12 @@
+-- Malformed, no such snake, or the body: the words and their place.
 use native.Mathlib.Omega.{arith}
-use mathlib.Core.Path.{_≡_, sym, ap, _∙_}
+use mathlib.Core.Path.{sym, ap, _∙_}
 use denote.Ref.{now}
 use borrow.Author.Tests.{not-true, not-false}
+use borrow.Author.Needs.{needs}
 use Rattle.rules.proofs.Facts.{sound}
 use Rattle.image.specs.Memory.{wordPlace}
 use Rattle.image.proofs.Asked.{malformed, no-snake, is-there, parts-none, parts-body, start-none, start-body}
-use borrow.Author.Needs.{needs}
 use Rattle.image.proofs.parts.body.Statement.{statement}
 use Rattle.image.proofs.parts.body.Tie as tie
 
