@@ -4,7 +4,7 @@ use mathlib.Core.List.{List}
 use lib.ListN.{length}
 use Rattle.lists.specs.Boards.{Under}
 use Rattle.rules.specs.Image.{front, snakesIn, sideIn, areaIn, startAt, lengthAt, foodStart, bodyAt, startsFit}
-use Rattle.image.specs.declared.check.Layout.{Layout}
+use Rattle.image.specs.declared.contents.Layout.{Layout}
 
 -- the contents are there
 pub record Long (w : List ℕ) : Type 0 where

@@ -1,5 +1,7 @@
 // The state image in 16-bit words: which slices are well-formed, what their parts are, and how words are written.
+mod cells;
 mod check;
+mod contents;
 mod food;
 mod parts;
 mod table;

@@ -9,7 +9,7 @@ use borrow.Author.Needs.{needs}
 use Rattle.lists.proofs.Tests.{every-out, every-on}
 use Rattle.rules.specs.Image.{foodStart, foodCountIn, totalFits}
 use Rattle.image.proofs.Checked.{laid-of}
-use Rattle.image.specs.declared.check.Layout.{Layout}
+use Rattle.image.specs.declared.contents.Layout.{Layout}
 use Rattle.image.proofs.check.layout_fits.Statement.{statement}
 use Rattle.image.proofs.check.layout_fits.Tie as tie
 

@@ -7,8 +7,8 @@ use mathlib.Core.Path.{_≡_, sym, ap₂, _∙_}
 use Rattle.lists.specs.Below.{allBelow}
 use Rattle.lists.proofs.Below.{all-none, all-next, all-done}
 use Rattle.rules.specs.Image.{recordFits}
-use Rattle.image.proofs.check.records_fit.Statement.{statement}
-use Rattle.image.proofs.check.records_fit.Tie as tie
+use Rattle.image.proofs.contents.records_fit.Statement.{statement}
+use Rattle.image.proofs.contents.records_fit.Tie as tie
 
 abbrev Inv-loop : tie.InvT-loop
 Inv-loop image area n fit₀ i₀ fit i = (i ≤ n) × (fit ≡ allBelow i (recordFits image))

@@ -7,8 +7,8 @@ use lib.ListN.{drop, getD, length}
 use Rattle.lists.proofs.Boards.{fresh, pass-new, pass-end, pass-stop, pass-on, board-set, board-more}
 use Rattle.lists.specs.Boards.{Board}
 use Rattle.lists.specs.Lists.{distinct}
-use Rattle.image.proofs.check.stamps_once.Statement.{statement}
-use Rattle.image.proofs.check.stamps_once.Tie as tie
+use Rattle.image.proofs.cells.stamps_once.Statement.{statement}
+use Rattle.image.proofs.cells.stamps_once.Tie as tie
 
 abbrev Inv-loop : tie.InvT-loop
 Inv-loop body board₀ stamp i₀ board i = (i ≤ length body) × (fresh stamp board (drop i body) ≡ distinct body) × Board (stamp + 1) board

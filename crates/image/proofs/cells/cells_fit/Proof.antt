@@ -5,8 +5,8 @@ use borrow.Author.Needs.{needs}
 use Rattle.lists.specs.Lists.{all}
 use Rattle.lists.proofs.Lists.{rest-is}
 use Rattle.rules.specs.Image.{front, snakesIn, areaIn, cellsFit}
-use Rattle.image.proofs.check.cells_fit.Statement.{statement}
-use Rattle.image.proofs.check.cells_fit.Tie as tie
+use Rattle.image.proofs.cells.cells_fit.Statement.{statement}
+use Rattle.image.proofs.cells.cells_fit.Tie as tie
 
 shared-slice-read-from : tie.Need-shared-slice-read-from
 shared-slice-read-from c = search needs

@@ -8,8 +8,8 @@ use mathlib.Core.Bool.{_&&_}
 use lib.ListN.{length, drop}
 use Rattle.lists.proofs.Flags.{rising-next, rising-end}
 use Rattle.lists.specs.Lists.{ascending}
-use Rattle.image.proofs.check.rising.Statement.{statement}
-use Rattle.image.proofs.check.rising.Tie as tie
+use Rattle.image.proofs.cells.rising.Statement.{statement}
+use Rattle.image.proofs.cells.rising.Tie as tie
 
 abbrev Inv-loop : tie.InvT-loop
 Inv-loop food rises₀ low₀ k₀ rises low k = (k ≤ length food) × ((rises && ascending low (drop k food)) ≡ ascending 0 food)

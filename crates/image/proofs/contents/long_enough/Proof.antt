@@ -2,8 +2,8 @@ use native.Mathlib.Omega.{arith}
 use borrow.Author.Tests.{lt-leb, le-leb}
 use borrow.Author.Needs.{needs}
 use Rattle.rules.specs.Image.{longEnough}
-use Rattle.image.proofs.check.long_enough.Statement.{statement}
-use Rattle.image.proofs.check.long_enough.Tie as tie
+use Rattle.image.proofs.contents.long_enough.Statement.{statement}
+use Rattle.image.proofs.contents.long_enough.Tie as tie
 
 returns : tie.Need-returns
 unfolding longEnough

@@ -13,8 +13,8 @@ use Rattle.lists.proofs.Below.{all-none, all-more, all-fails, all-done}
 use Rattle.lists.proofs.Boards.{board-blank}
 use Rattle.lists.proofs.Lists.{part-is}
 use Rattle.rules.specs.Image.{snakesIn, startAt, lengthAt, bodyAt, bodiesFit}
-use Rattle.image.proofs.check.bodies_fit.Statement.{statement}
-use Rattle.image.proofs.check.bodies_fit.Tie as tie
+use Rattle.image.proofs.cells.bodies_fit.Statement.{statement}
+use Rattle.image.proofs.cells.bodies_fit.Tie as tie
 
 abbrev Inv-loop : tie.InvT-loop
 Inv-loop image n board₀ i₀ board i = (i ≤ n) × (allBelow i (λ k. distinct (bodyAt image k)) ≡ true) × Board (i + 1) board

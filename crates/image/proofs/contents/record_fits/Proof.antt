@@ -3,8 +3,8 @@ use native.Mathlib.Omega.{arith}
 use Prim.Native.Nat.{_+_, _*_}
 use borrow.Author.Needs.{needs}
 use Rattle.image.proofs.Checked.{record-fits-by}
-use Rattle.image.proofs.check.record_fits.Statement.{statement}
-use Rattle.image.proofs.check.record_fits.Tie as tie
+use Rattle.image.proofs.contents.record_fits.Statement.{statement}
+use Rattle.image.proofs.contents.record_fits.Tie as tie
 
 mul-len : tie.Need-mul-len
 mul-len c = search needs

@@ -9,8 +9,8 @@ use lib.Dec.{ltb}
 use lib.ListN.{length, drop}
 use Rattle.lists.proofs.Flags.{flag-next, flag-end}
 use Rattle.lists.specs.Lists.{all}
-use Rattle.image.proofs.check.cells_below.Statement.{statement}
-use Rattle.image.proofs.check.cells_below.Tie as tie
+use Rattle.image.proofs.cells.cells_below.Statement.{statement}
+use Rattle.image.proofs.cells.cells_below.Tie as tie
 
 abbrev Inv-loop : tie.InvT-loop
 Inv-loop cells area below₀ k₀ below k = (k ≤ length cells) × ((below && all (λ c. ltb c area) (drop k cells)) ≡ all (λ c. ltb c area) cells)

@@ -9,8 +9,8 @@ use Rattle.lists.specs.Lists.{ascending}
 use Rattle.lists.proofs.Lists.{rest-is}
 use Rattle.lists.proofs.Flags.{every-one}
 use Rattle.rules.specs.Image.{foodFits}
-use Rattle.image.proofs.check.lists_fit.Statement.{statement}
-use Rattle.image.proofs.check.lists_fit.Tie as tie
+use Rattle.image.proofs.cells.lists_fit.Statement.{statement}
+use Rattle.image.proofs.cells.lists_fit.Tie as tie
 
 bodies-fit-requires : tie.Need-bodies-fit-requires
 bodies-fit-requires c κs = search needs

@@ -3,8 +3,8 @@ use borrow.Author.Needs.{needs}
 use Rattle.lists.proofs.Flags.{every-five}
 use Rattle.rules.specs.Image.{contentsFit}
 use Rattle.image.proofs.Checked.{square-fits}
-use Rattle.image.proofs.check.contents_fit.Statement.{statement}
-use Rattle.image.proofs.check.contents_fit.Tie as tie
+use Rattle.image.proofs.contents.contents_fit.Statement.{statement}
+use Rattle.image.proofs.contents.contents_fit.Tie as tie
 
 shared-slice-read-n : tie.Need-shared-slice-read-n
 shared-slice-read-n c = search needs

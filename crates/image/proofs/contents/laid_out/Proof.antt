@@ -10,8 +10,8 @@ use Rattle.lists.proofs.Below.{all-none}
 use Rattle.rules.specs.Image.{snakesIn, startsFit, startDue}
 use Rattle.rules.proofs.Facts.{start-first}
 use Rattle.image.proofs.Checked.{startFits, starts-next, due-next}
-use Rattle.image.proofs.check.laid_out.Statement.{statement}
-use Rattle.image.proofs.check.laid_out.Tie as tie
+use Rattle.image.proofs.contents.laid_out.Statement.{statement}
+use Rattle.image.proofs.contents.laid_out.Tie as tie
 
 abbrev Inv-loop : tie.InvT-loop
 Inv-loop image n due₀ fits₀ i₀ due fits i = (i ≤ n) × (due ≡ startDue image i) × (due ≤ 37 + 65536 * i) × (fits ≡ allBelow i (startFits image))

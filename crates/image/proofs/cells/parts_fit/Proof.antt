@@ -4,8 +4,8 @@ use mathlib.Core.Path.{sym, _∙_}
 use borrow.Author.Needs.{needs}
 use Rattle.lists.proofs.Tests.{every-out, every-on}
 use Rattle.image.proofs.Checked.{board-of}
-use Rattle.image.proofs.check.parts_fit.Statement.{statement}
-use Rattle.image.proofs.check.parts_fit.Tie as tie
+use Rattle.image.proofs.cells.parts_fit.Statement.{statement}
+use Rattle.image.proofs.cells.parts_fit.Tie as tie
 
 cells-fit-requires : tie.Need-cells-fit-requires
 cells-fit-requires c κs = search needs

@@ -4,8 +4,8 @@ use native.Mathlib.Omega.{arith}
 use borrow.Author.Needs.{needs}
 use Rattle.rules.specs.Image.{rangesFit}
 use Rattle.image.proofs.Checked.{square-fits}
-use Rattle.image.proofs.check.ranges_fit.Statement.{statement}
-use Rattle.image.proofs.check.ranges_fit.Tie as tie
+use Rattle.image.proofs.contents.ranges_fit.Statement.{statement}
+use Rattle.image.proofs.contents.ranges_fit.Tie as tie
 
 contents-fit-requires : tie.Need-contents-fit-requires
 contents-fit-requires c κs = search needs
