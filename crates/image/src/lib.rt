@@ -1,10 +1,14 @@
 // The state image in 16-bit words: which slices are well-formed, what their parts are, and how words are written.
+mod cells;
 mod check;
+mod contents;
+mod food;
 mod parts;
 mod table;
 mod words;
 
 pub use check::well_formed;
+pub use food::write_food;
 pub use lists::Found;
 pub use lists::find;
 pub use lists::holds;

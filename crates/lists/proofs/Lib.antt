@@ -15,3 +15,4 @@ pub mod Flags
 pub mod Squares
 pub mod Parts
 pub mod Insertion
+pub mod Inserts
