@@ -66,7 +66,14 @@ loop-again c =
     (omega arith, l .inv .1, l .inv .2 ∙ ap (λ (t : List ℕ). a .from + length t) (sym z), l .inv .3 ∙ ap (λ (t : List ℕ). writeAt (now (a .out)) (a .from) t) (sym z))
 
 mul-out : tie.Need-mul-out Inv-loop μ-loop
-mul-out c = omega arith
+mul-out c =
+    let a = c .before .before .before .before .before .before .before .before .before .args in
+    let l = c .before .before .before .before .loop in
+    let e = now (a .eaten) in
+    let f = now (a .food) in
+    let t = c .before .before .before .loop-test .taken in
+    let z = left-free e f (l .j) t (sym (c .before .holds .ensures) ∙ c .if2 .left) in
+    omega (arith, ap length z, length-append (left e (take (l .j) f)) (getD f (l .j) 0 ∷ []), left-part e f (l .j + 1), l .inv .1, l .inv .2)
 
 slice-write-out : tie.Need-slice-write-out Inv-loop μ-loop
 slice-write-out c =
@@ -79,7 +86,14 @@ slice-write-out c =
     omega (arith, ap length z, length-append (left e (take (l .j) f)) (getD f (l .j) 0 ∷ []), left-part e f (l .j + 1), l .inv .1, l .inv .2)
 
 add-at : tie.Need-add-at Inv-loop μ-loop
-add-at c = omega arith
+add-at c =
+    let a = c .before .before .before .before .before .before .before .before .before .args in
+    let l = c .before .before .before .before .loop in
+    let e = now (a .eaten) in
+    let f = now (a .food) in
+    let t = c .before .before .before .loop-test .taken in
+    let z = left-free e f (l .j) t (sym (c .before .holds .ensures) ∙ c .if2 .left) in
+    omega (arith, ap length z, length-append (left e (take (l .j) f)) (getD f (l .j) 0 ∷ []), left-part e f (l .j + 1), l .inv .1, l .inv .2)
 
 loop-less-2 : tie.Need-loop-less-2 Inv-loop μ-loop
 loop-less-2 c = omega arith
