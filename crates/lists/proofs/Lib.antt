@@ -4,3 +4,8 @@ pub mod Lists
 pub mod Writes
 pub mod Search
 pub mod Signs
+pub mod Members
+pub mod Products
+pub mod Blocks
+pub mod Order
+pub mod Equal
