@@ -9,3 +9,5 @@ pub mod Products
 pub mod Blocks
 pub mod Order
 pub mod Equal
+pub mod Boards
+pub mod Flags
