@@ -3,3 +3,11 @@ pub mod Below
 pub mod Lists
 pub mod Writes
 pub mod Search
+pub mod Signs
+pub mod Members
+pub mod Products
+pub mod Blocks
+pub mod Order
+pub mod Equal
+pub mod Boards
+pub mod Flags
