@@ -1,2 +1,3 @@
 mod Laws
 mod Left
+mod Words

@@ -1,12 +1,15 @@
 // The snakes after the step, and how many live, died, and how many cells they have.
+use crate::Judged;
 use rules::Cause;
 use rules::Heading;
 ghost use mathlib.Core.Path.{_≡_};
 ghost use Prim.Native.Nat.{_+_, _≤_};
 ghost use Rattle.lists.specs.Choice.{bit};
-ghost use Rattle.lists.specs.Below.{countBelow, sumBelow};
+ghost use lib.ListN.{getD};
+ghost use Rattle.lists.specs.Below.{filled};
 ghost use Rattle.rules.specs.Events.{dies};
-ghost use Rattle.step.specs.After.{causes, living, sizeOf, sizes, Short, Counted};
+ghost use Rattle.step.specs.World.{untouched};
+ghost use Rattle.step.specs.After.{settled, gone, sizeOf, Short, Counted};
 
 // A snake after the step: its body is the cell of its moved head, if it lives, and then the part of the image.
 pub struct After {
@@ -36,6 +39,49 @@ pub fn is_death(c: Cause) -> bool
         Cause::OppBody => true,
         Cause::HeadOn => true,
     }
+}
+
+// 'The dying lose their head cell', and did not eat.
+fn settle(g: u16, j: Judged) -> After
+    requires { ⌜ g ≤ 32 ⌝ }
+    ensures { λ r. ⌜ r ≡ settled g j ⌝ }
+{
+    let m = j.moved;
+    let cause = j.cause;
+    let heading = m.heading;
+    let head = m.head;
+    let lasts = !is_death(cause);
+    After {
+        heading,
+        lives: m.moves & lasts,
+        cell: places::cell_of(g, head),
+        start: m.start,
+        keep: m.keep,
+        ate: m.eats & lasts,
+        cause,
+    }
+}
+
+pub fn settle_all(judged: [Judged; 8], n: usize, g: u16) -> [After; 8]
+    requires { ⌜ (n ≤ 8) × (g ≤ 32) ⌝ }
+    ensures { λ r. ⌜ r ≡ filled (λ i. settled g (getD judged i untouched)) n 8 gone ⌝ }
+{
+    let mut all = [After {
+        heading: Heading::Up,
+        lives: false,
+        cell: 0,
+        start: 0,
+        keep: 0,
+        ate: false,
+        cause: Cause::NoCause,
+    }; 8];
+    let mut i = 0;
+    while i < n {
+        let j = judged[i];
+        all[i] = settle(g, j);
+        i += 1;
+    }
+    all
 }
 
 fn more_if(k: usize, b: bool) -> usize

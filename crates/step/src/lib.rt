@@ -1,9 +1,13 @@
 // One step from a checked image: all living snakes move, all causes are judged on that one world, then the consequences.
 mod after;
-mod killers;
-mod leads;
+mod apply;
+mod bodies;
 mod events;
 mod food;
+mod killers;
+mod leads;
+mod next;
+
 use rules::Cause;
 use rules::Heading;
 use rules::Place;
