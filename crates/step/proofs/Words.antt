@@ -10,8 +10,8 @@ use lib.Seq.{length-take-le}
 use Rattle.lists.specs.Choice.{_if_else_, bit}
 use Rattle.lists.specs.Below.{sumBelow, eachBelow, concatBelow}
 use Rattle.lists.specs.Lists.{writeAt}
-use Rattle.lists.proofs.Below.{sum-ext, sum-le, each-long, each-at, concat-ext, concat-long}
-use Rattle.lists.proofs.Writes.{write-more, write-none, length-write, sets-write}
+use Rattle.lists.proofs.Below.{sum-ext, sum-le, each-long, each-at, concat-ext, concat-long, concat-mono}
+use Rattle.lists.proofs.Writes.{write-more, write-none, length-write, sets-write, turn-start, turn-start-at, turn-next, turn-next-at}
 use Rattle.rules.specs.Headings.{numberOf}
 use Rattle.rules.specs.State.{Snake, State, nobody, snakeOf}
 use Rattle.rules.specs.Image.{front, bodyOf, recordOf, imageOf}
@@ -126,3 +126,50 @@ then-write d at s o r t x h =
 
 pub written-long : (d : List ℕ) (at : ℕ) (s o : List ℕ) (r : ℕ) → Written d at s o r → at + length s ≤ length d → length o ≡ length d
 written-long d at s o r x h = ap length (x .words) ∙ length-write d at s h
+
+-- a loop that writes f 0, f 1, .. from `from` on
+module _ (d : List ℕ) (from : ℕ) (f : ℕ → List ℕ) where
+  pub run-start : Written d from (concatBelow 0 f) d from
+  run-start = record { words = turn-start d from f; end = turn-start-at d from f }
+
+  pub run-next : (i at : ℕ) (o p : List ℕ) (r : ℕ) → from ≤ length d → Written d from (concatBelow i f) o at → Written o at (f i) p r → Written d from (concatBelow (i + 1) f) p r
+  run-next i at o p r h x y = record {
+    words = y .words ∙ turn-next d from f i at o (x .end) h (x .words);
+    end = y .end ∙ turn-next-at d from f i at (x .end);
+  }
+
+  -- the next words fit where all of them do
+  pub run-room : (i n at : ℕ) (o : List ℕ) → Written d from (concatBelow i f) o at → i < n → at + length (f i) ≤ from + length (concatBelow n f)
+  run-room i n at o x h = omega (arith, turn-next-at d from f i at (x .end), concat-mono f (i + 1) n (omega arith))
+
+-- the contents, the records, the bodies and the food, one after the other
+module _ (w : List ℕ) (all : List After) (parts : Parts w all) (n g due : ℕ) (food : List ℕ) (foods : ℕ) (d o p q r : List ℕ) (at : ℕ)
+    (counted : foods ≡ length food)
+    (room : front n + sumBelow n (sizes all) + foods ≤ length d)
+    (one : o ≡ writeAt d 0 (n ∷ g ∷ due ∷ 0 ∷ foods ∷ []))
+    (two : p ≡ writeAt o 5 (concatBelow n (recordIn n all))) where
+  pub two-long : length p ≡ length d
+  two-long =
+      let z = records-long n n all in
+      let e : length o ≡ length d = ap length one ∙ length-write d 0 (n ∷ g ∷ due ∷ 0 ∷ foods ∷ []) (omega arith) in
+      ap length two ∙ length-write o 5 (concatBelow n (recordIn n all)) (omega arith) ∙ e
+
+  module _ (three : Written p (front n) (concatBelow n (bodyIn w all)) q at) where
+    pub three-long : length q ≡ length d
+    three-long = written-long p (front n) (concatBelow n (bodyIn w all)) q at three (omega (arith, two-long, bodies-long w all parts n)) ∙ two-long
+
+    pub at-is : at ≡ front n + sumBelow n (sizes all)
+    at-is = omega (arith, three .end, bodies-long w all parts n)
+
+    pub state-written : r ≡ writeAt q at food → r ≡ writeAt d 0 (imageOf (nextOf w all n g due food))
+    state-written four =
+        let t = concatBelow n (recordIn n all) in
+        let b = concatBelow n (bodyIn w all) in
+        let h : List ℕ = n ∷ g ∷ due ∷ 0 ∷ foods ∷ [] in
+        four
+        ∙ ap (λ (l : List ℕ). writeAt l at food) (three .words)
+        ∙ ap (λ (l : List ℕ). writeAt (writeAt l (front n) b) at food) two
+        ∙ ap (λ (l : List ℕ). writeAt (writeAt (writeAt l 5 t) (front n) b) at food) one
+        ∙ four-writes d h t b food 5 (front n) at refl (omega (arith, records-long n n all)) (three .end)
+        ∙ ap (λ (k : ℕ). writeAt d 0 ((n ∷ g ∷ due ∷ 0 ∷ k ∷ []) ++ (t ++ (b ++ food)))) counted
+        ∙ ap (writeAt d 0) (sym (image-is w all parts n g due food))

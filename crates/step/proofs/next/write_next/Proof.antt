@@ -1,5 +1,22 @@
 use borrow.Author.Needs.{needs}
 use Rattle.step.proofs.next.write_next.Statement.{statement}
+use native.Mathlib.Omega.{arith}
+use Prim.Native.Nat.{ℕ, _+_, _-_, _*_, _≤_}
+use mathlib.Core.Path.{_≡_, ap, _∙_}
+use mathlib.Core.Bool.{not}
+use lib.ListN.{length, getD, take, drop}
+use denote.Ref.{now}
+use Rattle.step.specs.After.{cells, eating, sizes}
+use Rattle.lists.specs.Below.{countBelow, sumBelow}
+use Rattle.lists.specs.Lists.{writeAt, keep}
+use Rattle.step.specs.Left.{left}
+use Rattle.rules.specs.Step.{eatenBy}
+use Rattle.step.proofs.Words.{sizes-small, image-long}
+use Rattle.step.specs.Next.{nextOf, nextIn}
+use Rattle.rules.specs.Image.{front, imageOf, foodAt}
+use Rattle.step.proofs.Room.{no-room, has-room, apples-left, apples-few, due-small}
+use Rattle.rules.specs.State.{State}
+use Rattle.lists.specs.Choice.{_if_else_}
 use Rattle.step.proofs.next.write_next.Tie as tie
 use Rattle.step.proofs.next.write_next.Reads as reads
 use Rattle.step.proofs.next.write_next.Lts as lts
@@ -8,117 +25,153 @@ use Rattle.step.proofs.food.eaten_of.Reads as eaten-of-reads
 use Rattle.step.proofs.next.due_of.Reads as due-of-reads
 use Rattle.step.proofs.next.write_state.Reads as write-state-reads
 
--- src/next.rt:45:30
 shared-slice-read-from : tie.Need-shared-slice-read-from
 shared-slice-read-from c = search needs
 
--- src/next.rt:45:30
 cast-from : tie.Need-cast-from
 cast-from c = search needs
 
--- src/next.rt:45:16
 sub-from : tie.Need-sub-from
 sub-from c = search needs
 
--- src/next.rt:46:9
 eaten-of-requires : tie.Need-eaten-of-requires
 eaten-of-requires c κs = search needs
 
--- src/next.rt:49:41
 mul-count-left : tie.Need-mul-count-left
 mul-count-left c = search needs
 
--- src/next.rt:49:41
 sub-count-left : tie.Need-sub-count-left
 sub-count-left c = search needs
 
--- src/next.rt:49:41
 part-count-left-start : tie.Need-part-count-left-start
 part-count-left-start c = search needs
 
--- src/next.rt:49:41
 part-count-left-end : tie.Need-part-count-left-end
 part-count-left-end c = search needs
 
--- src/next.rt:49:57
 sub-count-left-2 : tie.Need-sub-count-left-2
 sub-count-left-2 c = search needs
 
--- src/next.rt:49:57
 part-count-left-start-2 : tie.Need-part-count-left-start-2
 part-count-left-start-2 c = search needs
 
--- src/next.rt:49:57
 part-count-left-end-2 : tie.Need-part-count-left-end-2
 part-count-left-end-2 c = search needs
 
--- src/next.rt:49:9
 count-left-requires : tie.Need-count-left-requires
 count-left-requires c κs = search needs
 
--- src/next.rt:50:20
 mul-room : tie.Need-mul-room
 mul-room c = search needs
 
--- src/next.rt:50:16
 add-room : tie.Need-add-room
 add-room c = search needs
 
--- src/next.rt:50:16
 add-room-2 : tie.Need-add-room-2
-add-room-2 c = ?
+add-room-2 c =
+    let s = c .before .before .before .before .before .before .before .before .before in
+    let m = sizes-small (s .args .all) (s .pre .1 .1 .0) (s .args .n) in
+    omega (arith, s .pre .1 .1 .1 .0, s .pre .1 .1 .1 .2, s .pre .0 .snakes-max)
 
--- src/next.rt:50:16
 add-room-3 : tie.Need-add-room-3
-add-room-3 c = ?
+add-room-3 c =
+    let s = c .before .before .before .before .before .before .before .before .before in
+    let a = s .args in
+    let w = now (a .image) in
+    let f = s .pre .1 .1 .1 in
+    let b = c .before .before .before .before .before .eaten-of .ensures in
+    let left-is = apples-left w (s .pre .0) (a .all) (a .n) (c .before .before .before .before .before .eaten-of .result) b in
+    let few = apples-few w (s .pre .0) (a .all) (a .n) (c .before .before .before .before .before .eaten-of .result) b in
+    let food = keep (λ x. not (eatenBy (a .n) (cells (a .all)) (eating (a .all)) x)) (foodAt w) in
+    let m = sizes-small (a .all) (s .pre .1 .1 .0) (a .n) in
+    let foods : c .count-left .result ≡ length food = c .count-left .ensures ∙ ap length left-is in
+    omega (arith, f .0, f .2, s .pre .0 .snakes-max)
 
--- src/next.rt:52:9
 returns : tie.Need-returns
-returns c = ?
+returns c =
+    let s = c .before .before .before .before .before .before .before .before .before .before in
+    let a = s .args in
+    let w = now (a .image) in
+    let f = s .pre .1 .1 .1 in
+    let b = c .before .before .before .before .before .before .eaten-of .ensures in
+    let left-is = apples-left w (s .pre .0) (a .all) (a .n) (c .before .before .before .before .before .before .eaten-of .result) b in
+    let few = apples-few w (s .pre .0) (a .all) (a .n) (c .before .before .before .before .before .before .eaten-of .result) b in
+    let food = keep (λ x. not (eatenBy (a .n) (cells (a .all)) (eating (a .all)) x)) (foodAt w) in
+    let m = sizes-small (a .all) (s .pre .1 .1 .0) (a .n) in
+    let foods : c .before .count-left .result ≡ length food = c .before .count-left .ensures ∙ ap length left-is in
+    let due = 0 if a .terminal else countBelow (a .n) (eating (a .all)) in
+    let long = image-long w (a .all) (s .pre .1 .0) (a .n) (a .g) due food in
+    let words = imageOf (nextIn w (a .all) (a .n) (a .g) (a .terminal)) in
+    no-room (now (a .out)) words (5 + 4 * a .n + a .cells + c .before .count-left .result) (omega (arith, f .2)) (c .if1 .taken)
 
--- src/next.rt:54:40
 due-of-requires : tie.Need-due-of-requires
 due-of-requires c κs = search needs
 
--- src/next.rt:54:65
 mul-write-state : tie.Need-mul-write-state
 mul-write-state c = search needs
 
--- src/next.rt:54:65
 sub-write-state : tie.Need-sub-write-state
 sub-write-state c = search needs
 
--- src/next.rt:54:65
 part-write-state-start : tie.Need-part-write-state-start
 part-write-state-start c = search needs
 
--- src/next.rt:54:65
 part-write-state-end : tie.Need-part-write-state-end
 part-write-state-end c = search needs
 
--- src/next.rt:54:81
 sub-write-state-2 : tie.Need-sub-write-state-2
 sub-write-state-2 c = search needs
 
--- src/next.rt:54:81
 part-write-state-start-2 : tie.Need-part-write-state-start-2
 part-write-state-start-2 c = search needs
 
--- src/next.rt:54:81
 part-write-state-end-2 : tie.Need-part-write-state-end-2
 part-write-state-end-2 c = search needs
 
--- src/next.rt:54:5
 write-state-requires : tie.Need-write-state-requires
-write-state-requires c κs = ?
+write-state-requires c κs =
+    let s = c .before .before .before .before .before .before .before .before .before .before .before .before .before .before .before in
+    let a = s .args in
+    let w = now (a .image) in
+    let f = s .pre .1 .1 .1 in
+    let b = c .before .before .before .before .before .before .before .before .before .before .before .eaten-of .ensures in
+    let left-is = apples-left w (s .pre .0) (a .all) (a .n) (c .before .before .before .before .before .before .before .before .before .before .before .eaten-of .result) b in
+    let few = apples-few w (s .pre .0) (a .all) (a .n) (c .before .before .before .before .before .before .before .before .before .before .before .eaten-of .result) b in
+    let food = keep (λ x. not (eatenBy (a .n) (cells (a .all)) (eating (a .all)) x)) (foodAt w) in
+    let m = sizes-small (a .all) (s .pre .1 .1 .0) (a .n) in
+    let foods : c .before .before .before .before .before .before .count-left .result ≡ length food = c .before .before .before .before .before .before .count-left .ensures ∙ ap length left-is in
+    let fits : front (a .n) + sumBelow (a .n) (sizes (a .all)) + c .before .before .before .before .before .before .count-left .result ≤ length (now (a .out)) = omega (arith, f .2, c .before .before .before .before .before .if1 .left) in
+    (s .pre .1 .0, (s .pre .1 .1 .0, record {
+      few = omega (arith, f .0, s .pre .0 .snakes-max);
+      narrow = omega (arith, f .1, s .pre .0 .side-max);
+      soon = omega (arith, c .before .before .before .due-of .ensures, due-small (a .terminal) (c .before .before .before .before .before .before .before .before .before .before .before .eaten-of .result .count) 8 (b .few));
+      counted = c .before .before .before .before .before .before .count-left .ensures;
+      short = omega arith;
+      fits = fits;
+    }))
 
--- src/next.rt:38:1
 same-length : tie.Need-same-length
 same-length c = search needs
 
--- src/next.rt:38:1
 returns-2 : tie.Need-returns-2
-returns-2 c = ?
+returns-2 c =
+    let s = c .before .before .before .before .before .before .before .before .before .before .before .before .before .before .before .before .before .before in
+    let a = s .args in
+    let w = now (a .image) in
+    let f = s .pre .1 .1 .1 in
+    let b = c .before .before .before .before .before .before .before .before .before .before .before .before .before .before .eaten-of .ensures in
+    let left-is = apples-left w (s .pre .0) (a .all) (a .n) (c .before .before .before .before .before .before .before .before .before .before .before .before .before .before .eaten-of .result) b in
+    let few = apples-few w (s .pre .0) (a .all) (a .n) (c .before .before .before .before .before .before .before .before .before .before .before .before .before .before .eaten-of .result) b in
+    let food = keep (λ x. not (eatenBy (a .n) (cells (a .all)) (eating (a .all)) x)) (foodAt w) in
+    let m = sizes-small (a .all) (s .pre .1 .1 .0) (a .n) in
+    let foods : c .before .before .before .before .before .before .before .before .before .count-left .result ≡ length food = c .before .before .before .before .before .before .before .before .before .count-left .ensures ∙ ap length left-is in
+    let due = 0 if a .terminal else countBelow (a .n) (eating (a .all)) in
+    let long = image-long w (a .all) (s .pre .1 .0) (a .n) (a .g) due food in
+    let words = imageOf (nextIn w (a .all) (a .n) (a .g) (a .terminal)) in
+    let t : State = nextOf w (a .all) (a .n) (a .g) (c .before .before .before .before .before .before .due-of .result) (left (take (c .before .before .before .before .before .before .before .before .before .before .before .before .before .before .eaten-of .result .count - 0) (c .before .before .before .before .before .before .before .before .before .before .before .before .before .before .eaten-of .result .cells)) (take (length w - (length w - getD w 4 0)) (drop (length w - getD w 4 0) w))) in
+    let d : c .before .before .before .before .before .before .due-of .result ≡ due = c .before .before .before .before .before .before .due-of .ensures ∙ ap (λ (k : ℕ). 0 if a .terminal else k) (b .count) in
+    has-room (now (a .out)) words (5 + 4 * a .n + a .cells + c .before .before .before .before .before .before .before .before .before .count-left .result) (omega (arith, f .2)) (c .before .before .write-state .last .0) (c .before .before .before .before .before .before .before .before .if1 .left)
+    (c .before .before .write-state .ensures ∙ (λ k. writeAt (now (a .out)) 0 (imageOf (nextOf w (a .all) (a .n) (a .g) (d k) (left-is k)))))
 
 pub write-next-spec : {M : Type 1} → statement M
 write-next-spec =
