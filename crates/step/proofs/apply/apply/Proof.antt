@@ -1,38 +1,45 @@
 use borrow.Author.Needs.{needs}
 use Rattle.step.proofs.apply.apply.Statement.{statement}
+use mathlib.Core.Path.{refl, subst}
+use denote.Ref.{now}
+use Rattle.rules.specs.Step.{Outcome}
+use Rattle.step.proofs.Link.{outcome-is, parts-kept, short-kept}
+use Rattle.step.specs.Applied.{Applied}
 use Rattle.step.proofs.apply.apply.Tie as tie
 use Rattle.step.proofs.apply.apply.Reads as reads
 use Rattle.step.proofs.apply.apply.Lts as lts
 use Rattle.step.proofs.after.settle_all.Reads as settle-all-reads
 use Rattle.step.proofs.apply.conclude.Reads as conclude-reads
 
--- src/apply.rt:44:13
 shared-slice-read-n : tie.Need-shared-slice-read-n
 shared-slice-read-n c = search needs
 
--- src/apply.rt:44:13
 cast-n : tie.Need-cast-n
 cast-n c = search needs
 
--- src/apply.rt:45:51
 shared-slice-read-settle-all : tie.Need-shared-slice-read-settle-all
 shared-slice-read-settle-all c = search needs
 
--- src/apply.rt:45:9
 settle-all-requires : tie.Need-settle-all-requires
 settle-all-requires c κs = search needs
 
--- src/apply.rt:46:5
 conclude-requires : tie.Need-conclude-requires
-conclude-requires c κs = ?
+conclude-requires c κs =
+    let s = c .before .before .before .before .before .before in
+    let w = now (s .args .image) in
+    let all = c .before .settle-all .result in
+    (s .pre .0, (parts-kept w (s .args .judged) (s .pre .1) all (c .before .settle-all .ensures) (s .pre .0), (short-kept w (s .args .judged) (s .pre .1) all (c .before .settle-all .ensures), refl)))
 
--- src/apply.rt:39:1
 same-length : tie.Need-same-length
 same-length c = search needs
 
--- src/apply.rt:39:1
 returns : tie.Need-returns
-returns c = ?
+returns c =
+    let s = c .before .before .before .before .before .before .before .before .before in
+    let a = s .args in
+    let w = now (a .image) in
+    let e = outcome-is w (a .judged) (s .pre .1) (c .before .before .before .before .settle-all .result) (c .before .before .before .before .settle-all .ensures) (a .setting) in
+    subst (λ (o : Outcome). Applied o (now (a .out)) (c .before .before .conclude .last .1 .1 .1 .1 .0) (c .before .before .conclude .result)) e (c .before .before .conclude .ensures)
 
 pub apply-spec : {M : Type 1} → statement M
 apply-spec =
