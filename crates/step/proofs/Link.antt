@@ -116,7 +116,7 @@ module _ (w : List ℕ) (js : List Judged) (judges : Judges w js) (all : List Af
   view-is : {B : Type 0} (h : After → B) (d : B) → h gone ≡ d → _≡_ {A = ℕ → B} (λ j. h (getD all j gone)) (λ j. getD (eachBelow n (λ i. h (r i))) j d)
   view-is h d e =
       let at : (j : ℕ) → h (getD all j gone) ≡ getD (eachBelow n (λ i. h (r i))) j d =
-          λ j. ap (λ (l : List After). h (getD l j gone)) pall ∙ ap h (filled-is r n 8 gone j) ∙ each-map h n r gone j ∙ ap (getD (eachBelow n (λ i. h (r i))) j) e in
+      λ j. ap (λ (l : List After). h (getD l j gone)) pall ∙ ap h (filled-is r n 8 gone j) ∙ each-map h n r gone j ∙ ap (getD (eachBelow n (λ i. h (r i))) j) e in
       λ k j. at j k
 
   abbrev c : ℕ → Cause

@@ -116,5 +116,9 @@ pub fn count_all(all: [After; 8], n: usize) -> Counts
         cells += size_of(a);
         i += 1;
     }
-    Counts { alive, deaths, cells }
+    Counts {
+        alive,
+        deaths,
+        cells,
+    }
 }

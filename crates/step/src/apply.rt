@@ -27,12 +27,28 @@ fn conclude(setting: Setting, image: &[u16], all: [After; 8], n: usize, out: &mu
     let last = setting.last;
     let lead = setting.lead;
     let terminal = crate::leads::is_terminal(all, n, alive, last, lead);
-    let answer = crate::next::write_next(out, image, all, n, image[1] as usize, counts.cells, terminal);
+    let answer = crate::next::write_next(
+        out,
+        image,
+        all,
+        n,
+        image[1] as usize,
+        counts.cells,
+        terminal,
+    );
     let Answer::Done(_) = answer else {
-        return Stepped { answer, terminal: false, events: crate::events::blanks() };
+        return Stepped {
+            answer,
+            terminal: false,
+            events: crate::events::blanks(),
+        };
     };
     let to = crate::killers::killers(image, all, n);
-    Stepped { answer, terminal, events: crate::events::events(all, to, n, counts, lead) }
+    Stepped {
+        answer,
+        terminal,
+        events: crate::events::events(all, to, n, counts, lead),
+    }
 }
 
 // What follows from the moves and their causes, judged on one world.

@@ -11,7 +11,14 @@ ghost use Rattle.lists.specs.Below.{filled};
 ghost use Rattle.rules.specs.Events.{blank};
 ghost use Rattle.step.specs.After.{eventAt};
 
-fn event_of(all: [After; 8], to: [usize; 8], n: usize, counts: Counts, lead: Limit, i: usize) -> Event
+fn event_of(
+    all: [After; 8],
+    to: [usize; 8],
+    n: usize,
+    counts: Counts,
+    lead: Limit,
+    i: usize,
+) -> Event
     requires { ⌜ (n ≤ 8) × (i < 8) ⌝ }
     ensures { λ r. ⌜ r ≡ eventAt all to n (counts .alive) (counts .deaths) lead i ⌝ }
 {

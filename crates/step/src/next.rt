@@ -22,7 +22,17 @@ fn due_of(terminal: bool, eaten: usize) -> usize
 }
 
 // The words of a state with this food due, the cells eaten, and how many apples are left.
-fn write_state(out: &mut [u16], image: &[u16], all: [After; 8], n: usize, g: usize, due: usize, food: &[u16], eaten: &[u16], foods: usize)
+fn write_state(
+    out: &mut [u16],
+    image: &[u16],
+    all: [After; 8],
+    n: usize,
+    g: usize,
+    due: usize,
+    food: &[u16],
+    eaten: &[u16],
+    foods: usize,
+)
     requires { ⌜ Parts (now image) all ⌝ }
     requires { ⌜ Short all ⌝ }
     requires { ⌜ Fits all n g due (left (now eaten) (now food)) foods (length (now out)) ⌝ }
@@ -35,7 +45,15 @@ fn write_state(out: &mut [u16], image: &[u16], all: [After; 8], n: usize, g: usi
 }
 
 // The next image, or 29.
-pub fn write_next(out: &mut [u16], image: &[u16], all: [After; 8], n: usize, g: usize, cells: usize, terminal: bool) -> Answer
+pub fn write_next(
+    out: &mut [u16],
+    image: &[u16],
+    all: [After; 8],
+    n: usize,
+    g: usize,
+    cells: usize,
+    terminal: bool,
+) -> Answer
     requires { ⌜ Sound (now image) ⌝ }
     requires { ⌜ Parts (now image) all ⌝ }
     requires { ⌜ Short all ⌝ }
@@ -51,6 +69,16 @@ pub fn write_next(out: &mut [u16], image: &[u16], all: [After; 8], n: usize, g: 
     if out.len() < room {
         return Answer::Refused(29);
     }
-    write_state(out, image, all, n, g, due_of(terminal, count), &image[from..], &eaten[0..count], foods);
+    write_state(
+        out,
+        image,
+        all,
+        n,
+        g,
+        due_of(terminal, count),
+        &image[from..],
+        &eaten[0..count],
+        foods,
+    );
     Answer::Done(room)
 }

@@ -1,3 +1,4 @@
+-- The invariant: each count and the sum, of the first i snakes.
 use Rattle.step.proofs.after.count_all.Statement.{statement}
 use borrow.Author.Needs.{needs}
 use native.Mathlib.Omega.{arith}
@@ -10,11 +11,6 @@ use Rattle.lists.specs.Choice.{bit}
 use Rattle.step.proofs.Laws.{size-le}
 use Rattle.rules.specs.Events.{dies}
 use Rattle.step.proofs.after.count_all.Tie as tie
-use Rattle.step.proofs.after.count_all.Reads as reads
-use Rattle.step.proofs.after.count_all.Lts as lts
-use Rattle.step.proofs.after.is_death.Reads as is-death-reads
-use Rattle.step.proofs.after.more_if.Reads as more-if-reads
-use Rattle.step.proofs.after.size_of.Reads as size-of-reads
 
 abbrev Inv-loop : tie.InvT-loop
 Inv-loop n all alive₀ deaths₀ cells₀ i₀ alive deaths cells i = (i ≤ n) × (alive ≡ countBelow i (living all)) × (deaths ≡ countBelow i (λ i. dies (causes all i))) × (cells ≡ sumBelow i (sizes all))
@@ -61,11 +57,12 @@ loop-again : tie.Need-loop-again Inv-loop μ-loop
 loop-again c =
     let a = c .before .before .before .before .before .before .before .args .t1 in
     let l = c .before .before .before .before .before .before .loop in
-    let d = c .before .before .is-death .ensures in
-    (omega arith,
-    c .before .before .before .more-if .ensures ∙ ap (λ (x : ℕ). x + bit (living a (l .i))) (l .inv .1) ∙ sym (count-next (living a) (l .i)),
-    c .before .more-if2 .ensures ∙ (λ k. l .inv .2 k + bit (d k)) ∙ sym (count-next (λ i. dies (causes a i)) (l .i)),
-    (λ k. l .inv .3 k + c .size-of .ensures k) ∙ sym (sum-next (sizes a) (l .i)))
+    let d = c .before .before .is-death .ensures in (
+      omega arith,
+      c .before .before .before .more-if .ensures ∙ ap (λ (x : ℕ). x + bit (living a (l .i))) (l .inv .1) ∙ sym (count-next (living a) (l .i)),
+      c .before .more-if2 .ensures ∙ (λ k. l .inv .2 k + bit (d k)) ∙ sym (count-next (λ i. dies (causes a i)) (l .i)),
+      (λ k. l .inv .3 k + c .size-of .ensures k) ∙ sym (sum-next (sizes a) (l .i)),
+    )
 
 returns : tie.Need-returns Inv-loop μ-loop
 returns c =

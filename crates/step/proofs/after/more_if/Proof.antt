@@ -6,8 +6,6 @@ use Prim.Native.Nat.{ℕ, _+_}
 use mathlib.Core.Path.{ap}
 use Rattle.lists.proofs.Tests.{bit-le}
 use Rattle.step.proofs.after.more_if.Tie as tie
-use Rattle.step.proofs.after.more_if.Reads as reads
-use Rattle.step.proofs.after.more_if.Lts as lts
 
 cast-result : tie.Need-cast-result
 cast-result c = search needs

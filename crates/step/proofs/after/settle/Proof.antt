@@ -1,10 +1,6 @@
 use borrow.Author.Needs.{needs}
 use Rattle.step.proofs.after.settle.Statement.{statement}
 use Rattle.step.proofs.after.settle.Tie as tie
-use Rattle.step.proofs.after.settle.Reads as reads
-use Rattle.step.proofs.after.settle.Lts as lts
-use Rattle.places.proofs.cell_of.Reads as cell-of-reads
-use Rattle.step.proofs.after.is_death.Reads as is-death-reads
 
 is-death-requires : tie.Need-is-death-requires
 is-death-requires c κs = search needs

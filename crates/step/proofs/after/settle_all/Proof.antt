@@ -1,3 +1,4 @@
+-- The invariant: the first i places are filled.
 use Rattle.step.proofs.after.settle_all.Statement.{statement}
 use native.Mathlib.Omega.{arith}
 use Prim.Native.Nat.{ℕ, _-_, _≤_}
@@ -10,9 +11,6 @@ use Rattle.lists.proofs.Below.{filled-none, filled-more}
 use Rattle.step.specs.declared.after.After.{After}
 use Rattle.step.specs.World.{untouched}
 use Rattle.step.proofs.after.settle_all.Tie as tie
-use Rattle.step.proofs.after.settle_all.Reads as reads
-use Rattle.step.proofs.after.settle_all.Lts as lts
-use Rattle.step.proofs.after.settle.Reads as settle-reads
 
 abbrev Inv-loop : tie.InvT-loop
 Inv-loop n g judged all₀ i₀ all i = (i ≤ n) × (all ≡ filled (λ i. settled g (getD judged i untouched)) i 8 gone)

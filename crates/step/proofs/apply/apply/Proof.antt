@@ -1,3 +1,4 @@
+-- The settled snakes are those of the definition, so what they lead to is its outcome.
 use borrow.Author.Needs.{needs}
 use Rattle.step.proofs.apply.apply.Statement.{statement}
 use mathlib.Core.Path.{refl, subst}
@@ -6,10 +7,6 @@ use Rattle.rules.specs.Step.{Outcome}
 use Rattle.step.proofs.Link.{outcome-is, parts-kept, short-kept}
 use Rattle.step.specs.Applied.{Applied}
 use Rattle.step.proofs.apply.apply.Tie as tie
-use Rattle.step.proofs.apply.apply.Reads as reads
-use Rattle.step.proofs.apply.apply.Lts as lts
-use Rattle.step.proofs.after.settle_all.Reads as settle-all-reads
-use Rattle.step.proofs.apply.conclude.Reads as conclude-reads
 
 shared-slice-read-n : tie.Need-shared-slice-read-n
 shared-slice-read-n c = search needs

@@ -1,3 +1,4 @@
+-- The answer tells whether there was room; the rest is linked to the definition by the counts.
 use borrow.Author.Needs.{needs}
 use Rattle.step.proofs.apply.conclude.Statement.{statement}
 use mathlib.Core.Path.{_≡_, refl, _∙_}
@@ -9,14 +10,6 @@ use Rattle.rules.specs.Image.{imageOf, sideIn}
 use Rattle.step.proofs.Link.{terminal-is, events-are}
 use Rattle.step.proofs.Follows.{follows-refused, follows-done}
 use Rattle.step.proofs.apply.conclude.Tie as tie
-use Rattle.step.proofs.apply.conclude.Reads as reads
-use Rattle.step.proofs.apply.conclude.Lts as lts
-use Rattle.step.proofs.after.count_all.Reads as count-all-reads
-use Rattle.step.proofs.events.blanks.Reads as blanks-reads
-use Rattle.step.proofs.events.events.Reads as events-reads
-use Rattle.step.proofs.killers.killers.Reads as killers-reads
-use Rattle.step.proofs.leads.is_terminal.Reads as is-terminal-reads
-use Rattle.step.proofs.next.write_next.Reads as write-next-reads
 
 count-all-requires : tie.Need-count-all-requires
 count-all-requires c κs = search needs

@@ -1,3 +1,4 @@
+-- The invariant: the first i bodies are written, and `at` is the index after them.
 use Rattle.step.proofs.bodies.write_bodies.Statement.{statement}
 use Prim.Native.Nat.{_-_, _≤_, ℕ, _+_}
 use mathlib.Core.Path.{_≡_, refl, _∙_, subst}
@@ -8,9 +9,6 @@ use native.Mathlib.Omega.{arith}
 use denote.Ref.{now}
 use Rattle.step.proofs.Words.{written-long, run-start, run-next, run-room}
 use Rattle.step.proofs.bodies.write_bodies.Tie as tie
-use Rattle.step.proofs.bodies.write_bodies.Reads as reads
-use Rattle.step.proofs.bodies.write_bodies.Lts as lts
-use Rattle.step.proofs.bodies.write_body.Reads as write-body-reads
 
 abbrev Inv-loop : tie.InvT-loop
 Inv-loop out₀ from image n all at₀ i₀ out at i = (i ≤ n) × (length out ≡ length out₀) × Written out₀ from (concatBelow i (bodyIn image all)) out at

@@ -1,3 +1,4 @@
+-- A body is its head, where it lives, and the part of the image: two writes, one after the other.
 use borrow.Author.Needs.{needs}
 use Rattle.step.proofs.bodies.write_body.Statement.{statement}
 use native.Mathlib.Omega.{arith}
@@ -12,10 +13,6 @@ use Rattle.lists.specs.Lists.{writeAt, keep}
 use Rattle.step.proofs.Words.{body-is, part-size, then-write, written-long}
 use Rattle.step.specs.Next.{headOf}
 use Rattle.step.proofs.bodies.write_body.Tie as tie
-use Rattle.step.proofs.bodies.write_body.Reads as reads
-use Rattle.step.proofs.bodies.write_body.Lts as lts
-use Rattle.lists.proofs.write_at.Reads as write-at-reads
-use Rattle.step.proofs.bodies.write_head.Reads as write-head-reads
 
 write-head-requires : tie.Need-write-head-requires
 write-head-requires c κs =

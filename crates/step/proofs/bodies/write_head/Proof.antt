@@ -5,8 +5,6 @@ use denote.Ref.{now}
 use Rattle.step.specs.Left.{left}
 use Rattle.step.proofs.Words.{head-written, head-left}
 use Rattle.step.proofs.bodies.write_head.Tie as tie
-use Rattle.step.proofs.bodies.write_head.Reads as reads
-use Rattle.step.proofs.bodies.write_head.Lts as lts
 
 mul-out : tie.Need-mul-out
 mul-out c = search needs

@@ -1,3 +1,4 @@
+-- The invariant: the first i records are written, and `start` is past the first i bodies.
 use Rattle.step.proofs.bodies.write_records.Statement.{statement}
 use Prim.Native.Nat.{_+_, _-_, _≤_, ℕ, _*_}
 use mathlib.Core.Path.{_≡_, refl, ap, _∙_}
@@ -17,10 +18,6 @@ use Rattle.lists.proofs.Writes.{length-write, turn-start, turn-next}
 use Rattle.step.proofs.Words.{records-long, sizes-small}
 use Rattle.rules.specs.Headings.{numberOf}
 use Rattle.step.proofs.bodies.write_records.Tie as tie
-use Rattle.step.proofs.bodies.write_records.Reads as reads
-use Rattle.step.proofs.bodies.write_records.Lts as lts
-use Rattle.image.proofs.write_record.Reads as write-record-reads
-use Rattle.step.proofs.after.size_of.Reads as size-of-reads
 
 abbrev Inv-loop : tie.InvT-loop
 Inv-loop out₀ n all start₀ i₀ out start i = (i ≤ n) × (length out ≡ length out₀) × (start ≡ front n + sumBelow i (sizes all)) × (out ≡ writeAt out₀ 5 (concatBelow i (recordIn n all)))
@@ -90,12 +87,13 @@ loop-again c =
     let e : 5 + 4 * l .i ≡ 5 + length (concatBelow (l .i) f) = omega (arith, records-long (a .n) (l .i) (a .t2)) in
     let z = c .before .before .before .before .size-of .ensures in
     let w : o ≡ writeAt (l .out) (5 + 4 * l .i) (f (l .i)) =
-        c .before .before .write-record .ensures
-        ∙ (λ k. writeAt (l .out) (5 + 4 * l .i) (l .inv .2 k ∷ z k ∷ numberOf (getD (a .t2) (l .i) gone .heading) ∷ bit (getD (a .t2) (l .i) gone .lives) ∷ [])) in
-    (omega arith,
-    ap length w ∙ length-write (l .out) (5 + 4 * l .i) (f (l .i)) (omega arith) ∙ l .inv .1,
-    omega (arith, sum-next (sizes (a .t2)) (l .i), z, l .inv .2),
-    w ∙ turn-next d 5 f (l .i) (5 + 4 * l .i) (l .out) e (omega arith) (l .inv .3))
+    c .before .before .write-record .ensures
+    ∙ (λ k. writeAt (l .out) (5 + 4 * l .i) (l .inv .2 k ∷ z k ∷ numberOf (getD (a .t2) (l .i) gone .heading) ∷ bit (getD (a .t2) (l .i) gone .lives) ∷ [])) in (
+      omega arith,
+      ap length w ∙ length-write (l .out) (5 + 4 * l .i) (f (l .i)) (omega arith) ∙ l .inv .1,
+      omega (arith, sum-next (sizes (a .t2)) (l .i), z, l .inv .2),
+      w ∙ turn-next d 5 f (l .i) (5 + 4 * l .i) (l .out) e (omega arith) (l .inv .3),
+    )
 
 same-length : tie.Need-same-length Inv-loop μ-loop
 same-length c = c .before .loop .inv .1

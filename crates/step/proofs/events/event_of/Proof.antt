@@ -1,12 +1,6 @@
 use borrow.Author.Needs.{needs}
 use Rattle.step.proofs.events.event_of.Statement.{statement}
 use Rattle.step.proofs.events.event_of.Tie as tie
-use Rattle.step.proofs.events.event_of.Reads as reads
-use Rattle.step.proofs.events.event_of.Lts as lts
-use Rattle.step.proofs.after.is_death.Reads as is-death-reads
-use Rattle.step.proofs.killers.is_killer.Reads as is-killer-reads
-use Rattle.step.proofs.leads.is_ahead.Reads as is-ahead-reads
-use Rattle.step.proofs.leads.is_behind.Reads as is-behind-reads
 
 mul-a : tie.Need-mul-a
 mul-a c = search needs

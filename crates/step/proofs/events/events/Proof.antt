@@ -1,3 +1,4 @@
+-- The invariant: the first i places are filled.
 use Rattle.step.proofs.events.events.Statement.{statement}
 use native.Mathlib.Omega.{arith}
 use Prim.Native.Nat.{_-_, _≤_, ℕ}
@@ -10,10 +11,6 @@ use lib.ListN.{set}
 use Rattle.lists.proofs.Below.{filled-none, filled-more}
 use Rattle.rules.specs.declared.Event.{Event}
 use Rattle.step.proofs.events.events.Tie as tie
-use Rattle.step.proofs.events.events.Reads as reads
-use Rattle.step.proofs.events.events.Lts as lts
-use Rattle.step.proofs.events.blanks.Reads as blanks-reads
-use Rattle.step.proofs.events.event_of.Reads as event-of-reads
 
 abbrev Inv-loop : tie.InvT-loop
 Inv-loop all to n counts lead told₀ i₀ told i = (i ≤ n) × (told ≡ filled (eventAt all to n (counts .alive) (counts .deaths) lead) i 8 blank)

@@ -1,3 +1,4 @@
+-- The invariant: how many of the first j apples are left.
 use Rattle.step.proofs.food.count_left.Statement.{statement}
 use Prim.Native.Nat.{_-_, _≤_, _+_}
 use mathlib.Core.Path.{_≡_, sym, ap, _∙_}
@@ -12,9 +13,6 @@ use Rattle.lists.proofs.Tests.{bit-le}
 use Rattle.step.proofs.Left.{left-all, left-none, left-end, left-small, left-more}
 use lib.Seq.{length-take-le}
 use Rattle.step.proofs.food.count_left.Tie as tie
-use Rattle.step.proofs.food.count_left.Reads as reads
-use Rattle.step.proofs.food.count_left.Lts as lts
-use Rattle.lists.proofs.holds.Reads as holds-reads
 
 abbrev Inv-loop : tie.InvT-loop
 Inv-loop food eaten k₀ j₀ k j = (j ≤ length food) × (k ≡ length (left eaten (take j food)))

@@ -1,3 +1,4 @@
+-- The invariant: the cells so far are those that the first i snakes ate.
 use Rattle.step.proofs.food.eaten_of.Statement.{statement}
 use Prim.Native.Nat.{_-_, _≤_, ℕ, _+_}
 use mathlib.Core.Path.{_≡_, refl, sym, ap, _∙_}
@@ -14,8 +15,6 @@ use Rattle.step.specs.Left.{left}
 use lib.Seq.{take-suc-set}
 use native.Mathlib.Numerals.{add-one}
 use Rattle.step.proofs.food.eaten_of.Tie as tie
-use Rattle.step.proofs.food.eaten_of.Reads as reads
-use Rattle.step.proofs.food.eaten_of.Lts as lts
 
 abbrev Inv-loop : tie.InvT-loop
 Inv-loop n all cells₀ count₀ i₀ cells count i = (i ≤ n) × (count ≤ i) × (length cells ≡ 8) × (take count cells ≡ concatBelow i (bite all)) × (count ≡ countBelow i (eating all))

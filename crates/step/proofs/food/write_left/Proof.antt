@@ -1,3 +1,4 @@
+-- The invariant: those left of the first j apples are written, and `at` is the index after them.
 use Rattle.step.proofs.food.write_left.Statement.{statement}
 use Prim.Native.Nat.{_+_, _-_, _≤_, ℕ, _<_}
 use mathlib.Core.Path.{_≡_, refl, sym, ap, _∙_}
@@ -11,10 +12,6 @@ use denote.Ref.{now}
 use Rattle.step.proofs.Left.{left-all, left-none, left-end, left-held, left-part, left-free, write-one}
 use Rattle.lists.proofs.Writes.{write-none}
 use Rattle.step.proofs.food.write_left.Tie as tie
-use Rattle.step.proofs.food.write_left.Reads as reads
-use Rattle.step.proofs.food.write_left.Lts as lts
-use Rattle.lists.proofs.holds.Reads as holds-reads
-use Rattle.lists.proofs.write_at.Reads as write-at-reads
 
 abbrev Inv-loop : tie.InvT-loop
 Inv-loop out₀ from food eaten at₀ j₀ out at j = (j ≤ length food) × (length out ≡ length out₀) × (at ≡ from + length (left eaten (take j food))) × (out ≡ writeAt out₀ from (left eaten (take j food)))
@@ -109,11 +106,12 @@ loop-again-2 c =
     let s = left e (take (l .j) f) in
     let x = getD f (l .j) 0 in
     let y = length-append s (x ∷ []) in
-    let room : a .from + length s < length (now (a .out)) = omega (arith, ap length z, y, left-part e f (l .j + 1)) in
-    (omega arith,
-    simp length-set (l .inv .1),
-    omega (arith, ap length z, y, l .inv .2),
-    write-one (now (a .out)) (l .out) s (a .from) (l .at) x room (l .inv .1) (l .inv .2) (l .inv .3) ∙ ap (λ (t : List ℕ). writeAt (now (a .out)) (a .from) t) (sym z))
+    let room : a .from + length s < length (now (a .out)) = omega (arith, ap length z, y, left-part e f (l .j + 1)) in (
+      omega arith,
+      simp length-set (l .inv .1),
+      omega (arith, ap length z, y, l .inv .2),
+      write-one (now (a .out)) (l .out) s (a .from) (l .at) x room (l .inv .1) (l .inv .2) (l .inv .3) ∙ ap (λ (t : List ℕ). writeAt (now (a .out)) (a .from) t) (sym z),
+    )
 
 same-length-2 : tie.Need-same-length-2 Inv-loop μ-loop
 same-length-2 c = c .before .loop .inv .1

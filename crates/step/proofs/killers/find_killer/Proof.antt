@@ -1,3 +1,4 @@
+-- The invariant: the lowest of all is the lowest of those from j on.
 use Rattle.step.proofs.killers.find_killer.Statement.{statement}
 use native.Mathlib.Omega.{arith}
 use Prim.Native.Nat.{_-_, _≤_}
@@ -9,9 +10,6 @@ use native.Mathlib.Nat.{sub-zero}
 use denote.Ref.{now}
 use Rattle.lists.proofs.Below.{lowest-here, lowest-next, lowest-end}
 use Rattle.step.proofs.killers.find_killer.Tie as tie
-use Rattle.step.proofs.killers.find_killer.Reads as reads
-use Rattle.step.proofs.killers.find_killer.Lts as lts
-use Rattle.step.proofs.killers.has_cell.Reads as has-cell-reads
 
 abbrev Inv-loop : tie.InvT-loop
 Inv-loop image n cell all j₀ j = (j ≤ n) × (lowestFrom (λ j. holdsAt image (getD all j gone) cell) 0 n ≡ lowestFrom (λ j. holdsAt image (getD all j gone) cell) j (n - j))

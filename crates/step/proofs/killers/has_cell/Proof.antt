@@ -10,9 +10,6 @@ use borrow.Author.Tests.{not-true, not-false}
 use Rattle.lists.proofs.Lists.{part-is}
 use Rattle.lists.specs.Lists.{member}
 use Rattle.step.proofs.killers.has_cell.Tie as tie
-use Rattle.step.proofs.killers.has_cell.Reads as reads
-use Rattle.step.proofs.killers.has_cell.Lts as lts
-use Rattle.lists.proofs.holds.Reads as holds-reads
 
 returns : tie.Need-returns
 returns c = let a = c .before .before .before .args in body-gone (a .a .lives) (a .cell) (a .a .cell) (part (now (a .image)) (a .a)) (not-true _ (c .if1 .taken))

@@ -1,3 +1,4 @@
+-- The invariant: whether one of the first i deaths is credited to j.
 use Rattle.step.proofs.killers.is_killer.Statement.{statement}
 use native.Mathlib.Omega.{arith}
 use Prim.Native.Nat.{ℕ, _-_, _≤_}
@@ -7,8 +8,6 @@ use Rattle.step.specs.After.{creditedTo}
 use Rattle.lists.specs.Below.{someBelow}
 use Rattle.lists.proofs.Below.{some-none, some-next}
 use Rattle.step.proofs.killers.is_killer.Tie as tie
-use Rattle.step.proofs.killers.is_killer.Reads as reads
-use Rattle.step.proofs.killers.is_killer.Lts as lts
 
 abbrev Inv-loop : tie.InvT-loop
 Inv-loop n j to found₀ i₀ found i = (i ≤ n) × (found ≡ someBelow i (creditedTo to j))

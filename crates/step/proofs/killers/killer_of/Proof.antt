@@ -2,10 +2,6 @@ use borrow.Author.Needs.{needs}
 use Rattle.step.proofs.killers.killer_of.Statement.{statement}
 use mathlib.Core.Path.{sym, _∙_}
 use Rattle.step.proofs.killers.killer_of.Tie as tie
-use Rattle.step.proofs.killers.killer_of.Reads as reads
-use Rattle.step.proofs.killers.killer_of.Lts as lts
-use Rattle.step.proofs.killers.find_killer.Reads as find-killer-reads
-use Rattle.step.proofs.killers.is_by_body.Reads as is-by-body-reads
 
 mul-a : tie.Need-mul-a
 mul-a c = search needs

@@ -1,3 +1,4 @@
+-- The invariant: the first i places are filled.
 use Rattle.step.proofs.killers.killers.Statement.{statement}
 use native.Mathlib.Omega.{arith}
 use Prim.Native.Nat.{ℕ, _-_, _≤_}
@@ -10,9 +11,6 @@ use Rattle.lists.specs.Below.{filled}
 use Rattle.lists.proofs.Below.{filled-none, filled-more}
 use Rattle.rules.specs.Step.{killerOf}
 use Rattle.step.proofs.killers.killers.Tie as tie
-use Rattle.step.proofs.killers.killers.Reads as reads
-use Rattle.step.proofs.killers.killers.Lts as lts
-use Rattle.step.proofs.killers.killer_of.Reads as killer-of-reads
 
 abbrev Inv-loop : tie.InvT-loop
 Inv-loop image all n to₀ i₀ to i = (i ≤ n) × (to ≡ filled (killerOf n (cells all) (causes all) (snakes image all)) i 8 0)

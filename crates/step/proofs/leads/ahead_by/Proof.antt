@@ -1,3 +1,4 @@
+-- The invariant: whether i leads one of the first j.
 use Rattle.step.proofs.leads.ahead_by.Statement.{statement}
 use native.Mathlib.Omega.{arith}
 use Prim.Native.Nat.{ℕ, _-_, _≤_}
@@ -7,9 +8,6 @@ use Rattle.step.specs.After.{leadsBy}
 use Rattle.lists.specs.Below.{someBelow}
 use Rattle.lists.proofs.Below.{some-none, some-next}
 use Rattle.step.proofs.leads.ahead_by.Tie as tie
-use Rattle.step.proofs.leads.ahead_by.Reads as reads
-use Rattle.step.proofs.leads.ahead_by.Lts as lts
-use Rattle.step.proofs.leads.leads_by.Reads as leads-by-reads
 
 abbrev Inv-loop : tie.InvT-loop
 Inv-loop all n alive k i found₀ j₀ found j = (j ≤ n) × (found ≡ someBelow j (leadsBy all alive k i))

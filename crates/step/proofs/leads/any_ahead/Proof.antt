@@ -1,3 +1,4 @@
+-- The invariant: whether one of the first i leads.
 use Rattle.step.proofs.leads.any_ahead.Statement.{statement}
 use native.Mathlib.Omega.{arith}
 use Prim.Native.Nat.{ℕ, _-_, _≤_}
@@ -7,9 +8,6 @@ use Rattle.step.specs.After.{leadsIn}
 use Rattle.lists.specs.Below.{someBelow}
 use Rattle.lists.proofs.Below.{some-none, some-next}
 use Rattle.step.proofs.leads.any_ahead.Tie as tie
-use Rattle.step.proofs.leads.any_ahead.Reads as reads
-use Rattle.step.proofs.leads.any_ahead.Lts as lts
-use Rattle.step.proofs.leads.is_ahead.Reads as is-ahead-reads
 
 abbrev Inv-loop : tie.InvT-loop
 Inv-loop all n alive lead found₀ i₀ found i = (i ≤ n) × (found ≡ someBelow i (λ i. someBelow n (leadsIn all alive lead i)))

@@ -1,3 +1,4 @@
+-- Without a lead no snake leads; with one, the loop tells.
 use borrow.Author.Needs.{needs}
 use Rattle.step.proofs.leads.is_ahead.Statement.{statement}
 use mathlib.Core.Path.{refl, sym, ap, _∙_}
@@ -6,9 +7,6 @@ use Rattle.lists.specs.Below.{someBelow}
 use Rattle.lists.proofs.Below.{some-false}
 use Rattle.rules.specs.declared.Limit.{Limit}
 use Rattle.step.proofs.leads.is_ahead.Tie as tie
-use Rattle.step.proofs.leads.is_ahead.Reads as reads
-use Rattle.step.proofs.leads.is_ahead.Lts as lts
-use Rattle.step.proofs.leads.ahead_by.Reads as ahead-by-reads
 
 enum-told : tie.Need-enum-told
 enum-told c = search needs

@@ -5,9 +5,6 @@ use mathlib.Core.Path.{sym, ap, ap₂}
 use mathlib.Core.Bool.{Bool, _||_}
 use lib.Dec.{leb}
 use Rattle.step.proofs.leads.is_terminal.Tie as tie
-use Rattle.step.proofs.leads.is_terminal.Reads as reads
-use Rattle.step.proofs.leads.is_terminal.Lts as lts
-use Rattle.step.proofs.leads.any_ahead.Reads as any-ahead-reads
 
 any-ahead-requires : tie.Need-any-ahead-requires
 any-ahead-requires c κs = search needs

@@ -1,3 +1,4 @@
+-- The test that a branch has made is the fourth of the five.
 use borrow.Author.Needs.{needs}
 use Rattle.step.proofs.leads.leads_by.Statement.{statement}
 use Prim.Native.Nat.{_-_}
@@ -7,8 +8,6 @@ use Rattle.step.specs.After.{gone}
 use Rattle.step.proofs.Laws.{and-none, and-all}
 use borrow.Author.Tests.{le-ltb, lt-ltb}
 use Rattle.step.proofs.leads.leads_by.Tie as tie
-use Rattle.step.proofs.leads.leads_by.Reads as reads
-use Rattle.step.proofs.leads.leads_by.Lts as lts
 
 mul-me : tie.Need-mul-me
 mul-me c = search needs

@@ -1,3 +1,4 @@
+-- The room is the length of the image that the definition gives.
 use borrow.Author.Needs.{needs}
 use Rattle.step.proofs.next.write_next.Statement.{statement}
 use native.Mathlib.Omega.{arith}
@@ -18,12 +19,6 @@ use Rattle.step.proofs.Room.{no-room, has-room, apples-left, apples-few
 use Rattle.rules.specs.State.{State}
 use Rattle.lists.specs.Choice.{_if_else_}
 use Rattle.step.proofs.next.write_next.Tie as tie
-use Rattle.step.proofs.next.write_next.Reads as reads
-use Rattle.step.proofs.next.write_next.Lts as lts
-use Rattle.step.proofs.food.count_left.Reads as count-left-reads
-use Rattle.step.proofs.food.eaten_of.Reads as eaten-of-reads
-use Rattle.step.proofs.next.due_of.Reads as due-of-reads
-use Rattle.step.proofs.next.write_state.Reads as write-state-reads
 
 shared-slice-read-from : tie.Need-shared-slice-read-from
 shared-slice-read-from c = search needs
@@ -140,15 +135,20 @@ write-state-requires c κs =
     let food = keep (λ x. not (eatenBy (a .n) (cells (a .all)) (eating (a .all)) x)) (foodAt w) in
     let m = sizes-small (a .all) (s .pre .1 .1 .0) (a .n) in
     let foods : c .before .before .before .before .before .before .count-left .result ≡ length food = c .before .before .before .before .before .before .count-left .ensures ∙ ap length left-is in
-    let fits : front (a .n) + sumBelow (a .n) (sizes (a .all)) + c .before .before .before .before .before .before .count-left .result ≤ length (now (a .out)) = omega (arith, f .2, c .before .before .before .before .before .if1 .left) in
-    (s .pre .1 .0, (s .pre .1 .1 .0, record {
-      few = omega (arith, f .0, s .pre .0 .snakes-max);
-      narrow = omega (arith, f .1, s .pre .0 .side-max);
-      soon = omega (arith, c .before .before .before .due-of .ensures, due-small (a .terminal) (c .before .before .before .before .before .before .before .before .before .before .before .eaten-of .result .count) 8 (b .few));
-      counted = c .before .before .before .before .before .before .count-left .ensures;
-      short = omega arith;
-      fits = fits;
-    }))
+    let fits : front (a .n) + sumBelow (a .n) (sizes (a .all)) + c .before .before .before .before .before .before .count-left .result ≤ length (now (a .out)) = omega (arith, f .2, c .before .before .before .before .before .if1 .left) in (
+      s .pre .1 .0,
+      (
+        s .pre .1 .1 .0,
+        record {
+          few = omega (arith, f .0, s .pre .0 .snakes-max);
+          narrow = omega (arith, f .1, s .pre .0 .side-max);
+          soon = omega (arith, c .before .before .before .due-of .ensures, due-small (a .terminal) (c .before .before .before .before .before .before .before .before .before .before .before .eaten-of .result .count) 8 (b .few));
+          counted = c .before .before .before .before .before .before .count-left .ensures;
+          short = omega arith;
+          fits = fits;
+        },
+      ),
+    )
 
 same-length : tie.Need-same-length
 same-length c = search needs

@@ -1,3 +1,4 @@
+-- Four writes, one after the other, are the image of the state.
 use borrow.Author.Needs.{needs}
 use Rattle.step.proofs.next.write_state.Statement.{statement}
 use native.Mathlib.Omega.{arith}
@@ -10,12 +11,6 @@ use Rattle.step.proofs.Words.{bodies-long, two-long, three-long, at-is,
 use Rattle.step.specs.Next.{bodyIn}
 use Rattle.rules.specs.Image.{front}
 use Rattle.step.proofs.next.write_state.Tie as tie
-use Rattle.step.proofs.next.write_state.Reads as reads
-use Rattle.step.proofs.next.write_state.Lts as lts
-use Rattle.image.proofs.write_contents.Reads as write-contents-reads
-use Rattle.step.proofs.bodies.write_bodies.Reads as write-bodies-reads
-use Rattle.step.proofs.bodies.write_records.Reads as write-records-reads
-use Rattle.step.proofs.food.write_left.Reads as write-left-reads
 
 write-contents-requires : tie.Need-write-contents-requires
 write-contents-requires c κs = search needs
