@@ -19,17 +19,16 @@ use Rattle.rules.specs.declared.Limit.the-variants.{Unset, Is}
 use Rattle.rules.specs.declared.Event.{Event}
 use Rattle.rules.specs.declared.Setting.{Setting}
 use Rattle.rules.specs.Events.{dies, blank, eight}
-use Rattle.rules.specs.Facts.{Sound}
 use Rattle.rules.specs.Image.{snakesIn, sideIn, foodAt}
 use Rattle.rules.specs.Places.{cellOf}
 use Rattle.rules.specs.State.{Snake, State, nobody}
 use Rattle.rules.specs.Step.{Moved, causeOf, after, ateNow, killerOf, credited, leads, isTerminal, eventOf, eatenBy, Outcome, outcomeOf}
 use Rattle.step.specs.declared.Judged.{Judged}
 use Rattle.step.specs.declared.after.After.{After}
-use Rattle.step.specs.World.{untouched, causesOf, movesOf}
+use Rattle.step.specs.World.{untouched, causesOf, movesOf, judgedWorld}
 use Rattle.step.specs.After.{settled, gone, part, later, snakes, cells, living, eating, causes, leadsBy, leadsIn, creditedTo, eventAt, Parts, Short}
 use Rattle.step.specs.Next.{nextOf, nextIn, outcomeIn}
-use Rattle.step.specs.Applied.{worldOf, Judges}
+use Rattle.step.specs.Applied.{Ready}
 use Rattle.step.proofs.Words.{part-size}
 
 -- ---- leads, events and the end, by what the snakes keep
@@ -98,7 +97,7 @@ module _ (w : List ℕ) (all : List After) (parts : Parts w all) (n : ℕ) where
 
 -- ---- the settled snakes are the definition's
 
-module _ (w : List ℕ) (js : List Judged) (judges : Judges w js) (all : List After)
+module _ (w : List ℕ) (js : List Judged) (ready : Ready w js) (all : List After)
     (pall : all ≡ filled (λ i. settled (sideIn w) (getD js i untouched)) (snakesIn w) 8 gone) where
   abbrev n : ℕ
   n = snakesIn w
@@ -107,7 +106,7 @@ module _ (w : List ℕ) (js : List Judged) (judges : Judges w js) (all : List Af
   g = sideIn w
 
   abbrev m : ℕ → Moved
-  m = worldOf w js
+  m = judgedWorld w js
 
   abbrev r : ℕ → After
   r i = settled (sideIn w) (getD js i untouched)
@@ -125,11 +124,11 @@ module _ (w : List ℕ) (js : List Judged) (judges : Judges w js) (all : List Af
   c-is : causes all ≡ c
   c-is =
       view-is (λ (a : After). a .cause) NoCause refl
-      ∙ (λ k j. getD (each-ext n (causesOf js) (causeOf g n m) (λ i l. judges .causes i l) k) j NoCause)
+      ∙ (λ k j. getD (each-ext n (causesOf js) (causeOf g n m) (λ i l. ready .causes i l) k) j NoCause)
 
   -- where a cause is asked for, it is the one that the move led to
   cause-at : (i : ℕ) → i < n → causesOf js i ≡ c i
-  cause-at i l = judges .causes i l ∙ sym (each-at n (causeOf g n m) NoCause i l)
+  cause-at i l = ready .causes i l ∙ sym (each-at n (causeOf g n m) NoCause i l)
 
   x-is : cells all ≡ (λ j. getD (eachBelow n (λ i. cellOf g (m i .head))) j 0)
   x-is = view-is (λ (a : After). a .cell) 0 refl
@@ -172,8 +171,8 @@ module _ (w : List ℕ) (js : List Judged) (judges : Judges w js) (all : List Af
         | more l t ↦ rw (e, each-past n r gone j l) none
       ]
 
-  pub parts-kept : Sound w → Parts w all
-  parts-kept s = kept (λ a. a .start + a .keep ≤ length w) (omega arith) (λ i l. omega (arith, judges .parts i l, s .total))
+  pub parts-kept : Parts w all
+  parts-kept = kept (λ a. a .start + a .keep ≤ length w) (omega arith) (ready .parts)
 
   pub short-kept : Short all
-  short-kept = kept (λ a. a .keep ≤ 1024) (omega arith) (judges .short)
+  short-kept = kept (λ a. a .keep ≤ 1024) (omega arith) (ready .short)

@@ -8,20 +8,16 @@ use lib.ListN.{length, replicate}
 use Rattle.lists.specs.Choice.{_if_else_}
 use Rattle.rules.specs.declared.Stepped.{Stepped}
 use Rattle.rules.specs.Events.{blank, eight}
-use Rattle.rules.specs.Image.{snakesIn, sideIn, foodStart, imageOf}
+use Rattle.rules.specs.Image.{snakesIn, sideIn, imageOf}
 use Rattle.rules.specs.Says.{Says, refuses, gives, seen, beside, lent, says}
-use Rattle.rules.specs.Step.{Moved, causeOf, Outcome}
+use Rattle.rules.specs.Step.{causeOf, Outcome}
 use Rattle.step.specs.declared.Judged.{Judged}
-use Rattle.step.specs.World.{shown, movesOf, causesOf}
+use Rattle.step.specs.World.{movesOf, causesOf, judgedWorld}
 
--- the moved world of the judged moves
-abbrev pub worldOf : List ℕ → List Judged → ℕ → Moved
-worldOf w js i = shown w (movesOf js i)
-
--- each cause is that of the moved world; each rest is a part of the bodies' words, no longer than a body
-pub record Judges (w : List ℕ) (js : List Judged) : Type 0 where
-  pub causes : (i : ℕ) → i < snakesIn w → causesOf js i ≡ causeOf (sideIn w) (snakesIn w) (worldOf w js) i
-  pub parts : (i : ℕ) → i < snakesIn w → movesOf js i .start + movesOf js i .keep ≤ foodStart w
+-- a judged array: each cause is that of the world it holds, each rest is a part of the image, no longer than a body
+pub record Ready (w : List ℕ) (js : List Judged) : Type 0 where
+  pub causes : (i : ℕ) → i < snakesIn w → causesOf js i ≡ causeOf (sideIn w) (snakesIn w) (judgedWorld w js) i
+  pub parts : (i : ℕ) → i < snakesIn w → movesOf js i .start + movesOf js i .keep ≤ length w
   pub short : (i : ℕ) → i < snakesIn w → movesOf js i .keep ≤ 1024
 
 -- 29 is the last refusal of a step

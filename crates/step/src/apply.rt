@@ -12,7 +12,8 @@ ghost use Rattle.rules.specs.Image.{snakesIn, sideIn, foodAt};
 ghost use Rattle.rules.specs.Step.{outcomeOf};
 ghost use Rattle.step.specs.After.{Parts, Short};
 ghost use Rattle.step.specs.Next.{outcomeIn};
-ghost use Rattle.step.specs.Applied.{worldOf, Judges, Applied};
+ghost use Rattle.step.specs.World.{judgedWorld};
+ghost use Rattle.step.specs.Applied.{Ready, Applied};
 
 // The snakes as they are settled, put to effect; on 29 the match is not over and every event is blank.
 fn conclude(setting: Setting, image: &[u16], all: [After; 8], n: usize, out: &mut [u16]) -> Stepped
@@ -54,8 +55,8 @@ fn conclude(setting: Setting, image: &[u16], all: [After; 8], n: usize, out: &mu
 // What follows from the moves and their causes, judged on one world.
 pub fn apply(setting: Setting, image: &[u16], judged: [Judged; 8], out: &mut [u16]) -> Stepped
     requires { ⌜ Sound (now image) ⌝ }
-    requires { ⌜ Judges (now image) judged ⌝ }
-    ensures { λ r. ⌜ Applied (outcomeOf setting (sideIn (now (image .entry))) (snakesIn (now (image .entry))) (foodAt (now (image .entry))) (worldOf (now (image .entry)) judged)) (now (out .entry)) (now (out .exit)) r ⌝ }
+    requires { ⌜ Ready (now image) judged ⌝ }
+    ensures { λ r. ⌜ Applied (outcomeOf setting (sideIn (now (image .entry))) (snakesIn (now (image .entry))) (foodAt (now (image .entry))) (judgedWorld (now (image .entry)) judged)) (now (out .entry)) (now (out .exit)) r ⌝ }
 {
     let n = image[0] as usize;
     let all = crate::after::settle_all(judged, n, image[1]);

@@ -25,7 +25,7 @@ conclude-requires c κs =
     let s = c .before .before .before .before .before .before in
     let w = now (s .args .image) in
     let all = c .before .settle-all .result in
-    (s .pre .0, (parts-kept w (s .args .judged) (s .pre .1) all (c .before .settle-all .ensures) (s .pre .0), (short-kept w (s .args .judged) (s .pre .1) all (c .before .settle-all .ensures), refl)))
+    (s .pre .0, (parts-kept w (s .args .judged) (s .pre .1) all (c .before .settle-all .ensures), (short-kept w (s .args .judged) (s .pre .1) all (c .before .settle-all .ensures), refl)))
 
 same-length : tie.Need-same-length
 same-length c = search needs
