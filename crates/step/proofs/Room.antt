@@ -6,18 +6,18 @@ use Prim.Native.Nat.{ℕ, _+_, _-_, _<_, _≤_}
 use native.Mathlib.Nat.{sub-zero}
 use native.Mathlib.Omega.{arith}
 use lib.Dec.{ltb}
-use lib.ListN.{length, take, drop, length-drop}
+use lib.ListN.{length, take, length-drop}
 use borrow.Author.Tests.{lt-ltb, le-ltb}
 use Rattle.lists.specs.Choice.{_if_else_}
 use Rattle.lists.specs.Below.{concatBelow, countBelow}
 use Rattle.lists.specs.Lists.{keep, writeAt, overFront}
 use Rattle.lists.proofs.Below.{count-le}
-use Rattle.lists.proofs.Lists.{rest-is, keep-small}
+use Rattle.lists.proofs.Lists.{keep-small}
 use Rattle.lists.proofs.Writes.{write-front}
 use Rattle.rules.specs.declared.Answer.{Answer}
 use Rattle.rules.specs.declared.Answer.the-variants.{Done, Refused}
 use Rattle.rules.specs.Facts.{Sound}
-use Rattle.rules.specs.Image.{foodStart, foodCountIn, foodAt}
+use Rattle.rules.specs.Image.{foodStart, foodAt}
 use Rattle.rules.specs.Step.{eatenBy}
 use Rattle.step.specs.declared.after.After.{After}
 use Rattle.step.specs.declared.food.Eaten.{Eaten}
@@ -37,13 +37,9 @@ module _ (old words : List ℕ) (room : ℕ) (e : room ≡ length words) where
 
 -- the apples less the cells eaten, as the code takes them
 module _ (w : List ℕ) (s : Sound w) (all : List After) (n : ℕ) (e : Eaten) (a : EatenAre all n e) where
-  pub food-from : length w - foodCountIn w ≡ foodStart w
-  food-from = omega (arith, s .total)
-
-  pub apples-left : left (take (e .count - 0) (e .cells)) (take (length w - (length w - foodCountIn w)) (drop (length w - foodCountIn w) w))
-      ≡ keep (λ a. not (eatenBy n (cells all) (eating all) a)) (foodAt w)
+  pub apples-left : left (take (e .count - 0) (e .cells)) (foodAt w) ≡ keep (λ a. not (eatenBy n (cells all) (eating all) a)) (foodAt w)
   apples-left =
-      ap₂ left (ap (λ (k : ℕ). take k (e .cells)) (sub-zero (e .count)) ∙ a .cells) (rest-is w (length w - foodCountIn w) ∙ ap (λ (k : ℕ). drop k w) food-from)
+      ap (λ (l : List ℕ). left l (foodAt w)) (ap (λ (k : ℕ). take k (e .cells)) (sub-zero (e .count)) ∙ a .cells)
       ∙ left-is all n (foodAt w)
 
   pub apples-few : length (keep (λ a. not (eatenBy n (cells all) (eating all) a)) (foodAt w)) ≤ 1024

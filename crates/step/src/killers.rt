@@ -26,12 +26,10 @@ fn has_cell(image: &[u16], a: After, cell: u16) -> bool
     requires { ⌜ a .start + a .keep ≤ length (now image) ⌝ }
     ensures { λ r. ⌜ r ≡ holdsAt (now (image .entry)) a cell ⌝ }
 {
-    let start = a.start;
-    let keep = a.keep;
     if !a.lives {
         return false;
     }
-    (cell == a.cell) | lists::holds(&image[start..start + keep], cell)
+    (cell == a.cell) | image::holds_in(image, a.start, a.keep, cell)
 }
 
 // The lowest-numbered survivor whose body holds a cell, or n.

@@ -60,11 +60,11 @@ pub fn write_next(
     requires { ⌜ (n ≡ snakesIn (now image)) × (g ≡ sideIn (now image)) × (cells ≡ sumBelow n (sizes all)) ⌝ }
     ensures { λ r. ⌜ (now (out .exit) ≡ written (now (out .entry)) (imageOf (nextIn (now (image .entry)) all n g terminal))) × (r ≡ answered (length (now (out .entry))) (imageOf (nextIn (now (image .entry)) all n g terminal))) ⌝ }
 {
-    let from = image.len() - image[4] as usize;
+    let food = image::food_of(image);
     let bites = crate::food::eaten_of(all, n);
     let count = bites.count;
     let eaten = bites.cells;
-    let foods = crate::food::count_left(&image[from..], &eaten[0..count]);
+    let foods = crate::food::count_left(food, &eaten[0..count]);
     let room = 5 + 4 * n + cells + foods;
     if out.len() < room {
         return Answer::Refused(29);
@@ -76,7 +76,7 @@ pub fn write_next(
         n,
         g,
         due_of(terminal, count),
-        &image[from..],
+        food,
         &eaten[0..count],
         foods,
     );
