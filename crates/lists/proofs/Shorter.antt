@@ -1,6 +1,6 @@
 -- What holds of a list holds of its first part and of what is kept of it. Assumes nothing.
 use mathlib.Core.Path.{_≡_, refl}
-use mathlib.Core.Bool.{Bool, true, false, cond, not, _&&_, _||_}
+use mathlib.Core.Bool.{Bool, true, false, cond}
 use mathlib.Core.List.{List, [], _∷_}
 use Prim.Native.Nat.{ℕ, zero, suc, _≤_}
 use native.Mathlib.Omega.{arith}
@@ -8,7 +8,7 @@ use lib.ListN.{take}
 use Rattle.lists.specs.Lists.{all, keep, member, distinct, ascending}
 use Rattle.lists.proofs.Tests.{and-left, and-right, both}
 use Rattle.lists.proofs.Members.{fails, clash, member-none, member-first, member-more, member-cases, distinct-none, distinct-first, distinct-rest, distinct-more}
-use Rattle.lists.proofs.Order.{ascending-none, ascending-first, ascending-rest, ascending-more, ascending-lower}
+use Rattle.lists.proofs.Order.{ascending-first, ascending-rest, ascending-more, ascending-lower}
 use mathlib.Core.Logic.{⊎-elim}
 
 -- ---- the first k
@@ -51,3 +51,9 @@ pub ascending-keep : (q : ℕ → Bool) (a : ℕ) (l : List ℕ) → ascending a
 unfolding keep
 ascending-keep q a [] u = u
 ascending-keep q a (x ∷ l) u = rising-kept (q x) a x (keep q l) (ascending-first a x l u) (ascending-keep q (suc x) l (ascending-rest a x l u))
+
+-- where all pass, all are kept
+pub keep-all : (p : ℕ → Bool) (l : List ℕ) → ((x : ℕ) → p x ≡ true) → keep p l ≡ l
+unfolding keep
+keep-all p [] h = refl
+keep-all p (x ∷ l) h = rw (keep-all p l h, h x)

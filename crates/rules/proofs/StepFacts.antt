@@ -1,11 +1,11 @@
 -- What a step answers is well-formed again: a survivor's head is on the grid and off its own body, the dying keep a part of
 -- their old body, and different cells of the grid are no more than its area. Assumes nothing.
-use Prim.Native.Nat.{ℕ, _+_, _-_, _*_, _<_, _≤_}
+use Prim.Native.Nat.{ℕ, _-_, _*_, _<_, _≤_}
 use native.Mathlib.Nat.{le-trans}
 use native.Mathlib.Omega.{arith}
 use mathlib.Core.Path.{_≡_, refl, sym, ap, subst, _∙_}
 use mathlib.Core.Bool.{Bool, true, false, not, _&&_, true≢false, false≢true}
-use mathlib.Core.List.{List, [], _∷_}
+use mathlib.Core.List.{List, _∷_}
 use lib.Dec.{ltb}
 use lib.IntN.{pos}
 use lib.ListN.{length, getD, take}
@@ -23,9 +23,9 @@ use Rattle.rules.specs.Headings.{turned, actionOf}
 use Rattle.rules.specs.Places.{ahead, inside, same, cellOf, placeOf}
 use Rattle.rules.specs.State.{Snake, State, nobody, count, snakeOf, area}
 use Rattle.rules.specs.Image.{bodyOf, imageOf, stateOf, wellFormed}
-use Rattle.rules.specs.Facts.{Sound, Holdable}
+use Rattle.rules.specs.Facts.{Holdable}
 use Rattle.rules.specs.Events.{dies}
-use Rattle.rules.specs.Step.{Moved, stays, onFood, goes, move, movedOf, another, onBody, causeOf, after, ateNow, isTerminal, eatenBy, outcomeOf, stepped}
+use Rattle.rules.specs.Step.{Moved, stays, onFood, goes, move, movedOf, another, onBody, causeOf, after, ateNow, isTerminal, outcomeOf, stepped}
 use Rattle.rules.specs.declared.Cause.{Cause}
 use Rattle.rules.specs.declared.Cause.the-variants.{NoCause, Wall, SelfBody, OppBody, HeadOn}
 use Rattle.rules.specs.declared.Setting.{Setting}

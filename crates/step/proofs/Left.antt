@@ -1,37 +1,29 @@
 -- Laws of the apples that are left, and of the cells eaten. Assumes nothing.
-use mathlib.Core.Path.{_≡_, refl, sym, ap, _∙_}
+use mathlib.Core.Path.{_≡_, refl, ap, _∙_}
 use mathlib.Core.Bool.{Bool, true, false, not, cond, _&&_, _||_}
 use mathlib.Core.List.{List, [], _∷_, _++_, append-nil}
-use Prim.Native.Nat.{ℕ, zero, suc, _+_, _-_, _≤_, _<_}
+use Prim.Native.Nat.{ℕ, zero, suc, _+_, _≤_, _<_}
 use native.Mathlib.Nat.{add-zero}
 use native.Mathlib.Omega.{arith}
 use lib.Dec.{eqb}
-use lib.ListN.{length, getD, take, drop, set, length-append}
-use lib.Seq.{take-all, sets}
+use lib.ListN.{length, getD, take, length-append}
+use lib.Seq.{take-all}
 use Rattle.lists.specs.Choice.{_if_else_, bit}
 use Rattle.lists.specs.Below.{someBelow, countBelow, concatBelow}
-use Rattle.lists.specs.Lists.{keep, member, writeAt}
+use Rattle.lists.specs.Lists.{keep, member}
 use Rattle.lists.proofs.Below.{count-next, concat-next}
 use Rattle.lists.proofs.Lists.{keep-taken, keep-part, keep-small, member-append}
-use Rattle.lists.proofs.Writes.{sets-write, write-more}
+use Rattle.lists.proofs.Shorter.{keep-all}
 use Rattle.rules.specs.Step.{eatenBy}
 use Rattle.step.specs.declared.after.After.{After}
 use Rattle.step.specs.After.{cells, eating, bite}
 use Rattle.step.specs.Left.{left}
 
-keep-all : (p : ℕ → Bool) (l : List ℕ) → ((x : ℕ) → p x ≡ true) → keep p l ≡ l
-unfolding keep
-keep-all p [] h = refl
-keep-all p (x ∷ l) h = rw (keep-all p l h, h x)
-
-nothing-left : (e food : List ℕ) → length e ≡ 0 → left e food ≡ food
-unfolding left member
-nothing-left [] food h = keep-all (λ a. not (member a [])) food (λ x. refl)
-nothing-left (x ∷ e) food h = absurd (omega arith)
-
 -- nothing eaten: the food is one copy
 pub left-all : (e food : List ℕ) → length e ≡ 0 → left e food ≡ food
-left-all = nothing-left
+unfolding left member
+left-all [] food h = keep-all (λ a. not (member a [])) food (λ x. refl)
+left-all (x ∷ e) food h = absurd (omega arith)
 
 cond-one : (b : Bool) (x : ℕ) → length (cond (not b) (x ∷ []) []) ≡ bit (not b)
 cond-one true x = refl
@@ -69,15 +61,6 @@ module _ (e food : List ℕ) where
     left-more =
         let x = getD food j 0 in
         ap length left-next ∙ length-append (left e (take j food)) (cond (not (member x e)) (x ∷ []) []) ∙ ap (λ (k : ℕ). length (left e (take j food)) + k) (cond-one (member x e) x)
-
--- one word more, after those that are written
-pub write-one : (d o s : List ℕ) (from at x : ℕ) → from + length s < length d → length o ≡ length d → at ≡ from + length s → o ≡ writeAt d from s → set o at x ≡ writeAt d from (s ++ (x ∷ []))
-write-one d o s from at x h l e q =
-    let w : at + 1 ≤ length o = omega arith in
-    sets-write o at (x ∷ []) w
-    ∙ ap (λ (t : List ℕ). writeAt t at (x ∷ [])) q
-    ∙ ap (λ (k : ℕ). writeAt (writeAt d from s) k (x ∷ [])) e
-    ∙ write-more d from s (x ∷ []) (omega arith)
 
 -- ---- the cells eaten
 

@@ -1,33 +1,32 @@
 -- From the code's array of settled snakes to the definition's outcome. Assumes nothing.
 use mathlib.Core.Path.{_≡_, refl, sym, ap, ap₂, _∙_}
 use mathlib.Core.Bool.{Bool, true, false, not, _&&_, _||_}
-use mathlib.Core.List.{List, [], _∷_, _++_}
-use Prim.Native.Nat.{ℕ, zero, suc, _+_, _-_, _<_, _≤_}
+use mathlib.Core.List.{List, _∷_, _++_}
+use Prim.Native.Nat.{ℕ, suc, _+_, _-_, _<_, _≤_}
 use native.Mathlib.Omega.{arith}
 use lib.Dec.{eqb, ltb, leb}
-use lib.ListN.{length, getD, take, drop, replicate}
-use borrow.Author.Tests.{le-ltb, lt-ltb, ltb-true, ltb-false}
+use lib.ListN.{length, getD, replicate}
+use borrow.Author.Tests.{le-ltb, lt-ltb}
 use Rattle.lists.specs.Choice.{_if_else_}
 use Rattle.lists.specs.Below.{someBelow, countBelow, eachBelow, filled}
 use Rattle.lists.specs.Lists.{keep}
-use Rattle.lists.proofs.Tests.{Order, ordered, less, more}
+use Rattle.lists.proofs.Tests.{ordered, less, more}
 use Rattle.lists.proofs.Below.{some-ext, each-long, each-at, each-past, each-ext, each-map, filled-is, filled-at}
 use Rattle.rules.specs.declared.Cause.{Cause}
 use Rattle.rules.specs.declared.Cause.the-variants.{NoCause}
 use Rattle.rules.specs.declared.Limit.{Limit}
 use Rattle.rules.specs.declared.Limit.the-variants.{Unset, Is}
-use Rattle.rules.specs.declared.Event.{Event}
 use Rattle.rules.specs.declared.Setting.{Setting}
 use Rattle.rules.specs.Events.{dies, blank, eight}
 use Rattle.rules.specs.Image.{snakesIn, sideIn, foodAt}
 use Rattle.rules.specs.Places.{cellOf}
-use Rattle.rules.specs.State.{Snake, State, nobody}
-use Rattle.rules.specs.Step.{Moved, causeOf, after, ateNow, killerOf, credited, leads, isTerminal, eventOf, eatenBy, Outcome, outcomeOf}
+use Rattle.rules.specs.State.{nobody}
+use Rattle.rules.specs.Step.{Moved, causeOf, after, ateNow, killerOf, credited, leads, isTerminal, eventOf, eatenBy, outcomeOf}
 use Rattle.step.specs.declared.Judged.{Judged}
 use Rattle.step.specs.declared.after.After.{After}
-use Rattle.step.specs.World.{untouched, causesOf, movesOf, judgedWorld}
-use Rattle.step.specs.After.{settled, gone, part, later, snakes, cells, living, eating, causes, leadsBy, leadsIn, creditedTo, eventAt, Parts, Short}
-use Rattle.step.specs.Next.{nextOf, nextIn, outcomeIn}
+use Rattle.step.specs.World.{untouched, causesOf, judgedWorld}
+use Rattle.step.specs.After.{settled, gone, part, later, snakes, cells, living, eating, causes, leadsIn, creditedTo, eventAt, Parts, Short}
+use Rattle.step.specs.Next.{outcomeIn}
 use Rattle.step.specs.Applied.{Ready}
 use Rattle.step.proofs.Words.{part-size}
 

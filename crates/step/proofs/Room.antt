@@ -1,27 +1,23 @@
 -- What the room for the next image decides, and the apples that are left of an image's food. Assumes nothing.
-use mathlib.Core.Path.{_≡_, refl, sym, ap, ap₂, _∙_}
+use mathlib.Core.Path.{_≡_, refl, ap, _∙_}
 use mathlib.Core.Bool.{Bool, true, false, not}
 use mathlib.Core.List.{List}
-use Prim.Native.Nat.{ℕ, _+_, _-_, _<_, _≤_}
+use Prim.Native.Nat.{ℕ, _-_, _<_, _≤_}
 use native.Mathlib.Nat.{sub-zero}
 use native.Mathlib.Omega.{arith}
-use lib.Dec.{ltb}
 use lib.ListN.{length, take, length-drop}
 use borrow.Author.Tests.{lt-ltb, le-ltb}
 use Rattle.lists.specs.Choice.{_if_else_}
-use Rattle.lists.specs.Below.{concatBelow, countBelow}
-use Rattle.lists.specs.Lists.{keep, writeAt, overFront}
-use Rattle.lists.proofs.Below.{count-le}
+use Rattle.lists.specs.Lists.{keep, writeAt}
 use Rattle.lists.proofs.Lists.{keep-small}
 use Rattle.lists.proofs.Writes.{write-front}
-use Rattle.rules.specs.declared.Answer.{Answer}
 use Rattle.rules.specs.declared.Answer.the-variants.{Done, Refused}
 use Rattle.rules.specs.Facts.{Sound}
 use Rattle.rules.specs.Image.{foodStart, foodAt}
 use Rattle.rules.specs.Step.{eatenBy}
 use Rattle.step.specs.declared.after.After.{After}
 use Rattle.step.specs.declared.food.Eaten.{Eaten}
-use Rattle.step.specs.After.{cells, eating, bite, EatenAre}
+use Rattle.step.specs.After.{cells, eating, EatenAre}
 use Rattle.step.specs.Left.{left}
 use Rattle.step.specs.Next.{answered, written}
 use Rattle.step.proofs.Left.{left-is}

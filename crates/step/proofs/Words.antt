@@ -1,23 +1,25 @@
 -- The words that are written are the image of the next state. Assumes nothing.
-use mathlib.Core.Path.{_≡_, refl, sym, ap, ap₂, _∙_}
+use Rattle.lists.proofs.Runs.{written-long, four-writes}
+use Rattle.lists.specs.Written.{Written}
+use mathlib.Core.Path.{_≡_, refl, sym, ap, _∙_}
 use mathlib.Core.Bool.{Bool, true, false}
-use mathlib.Core.List.{List, [], _∷_, _++_, append-assoc}
-use Prim.Native.Nat.{ℕ, zero, suc, _+_, _-_, _*_, _<_, _≤_}
+use mathlib.Core.List.{List, [], _∷_, _++_}
+use Prim.Native.Nat.{ℕ, zero, suc, _+_, _*_, _<_, _≤_}
 use native.Mathlib.Nat.{le-trans, le-refl}
 use native.Mathlib.Omega.{arith}
-use lib.ListN.{length, getD, take, drop, set, length-append, length-drop}
+use lib.ListN.{length, getD, drop, set, length-append, length-drop}
 use lib.Seq.{length-take-le}
 use Rattle.lists.specs.Choice.{_if_else_, bit}
-use Rattle.lists.specs.Below.{sumBelow, eachBelow, concatBelow}
+use Rattle.lists.specs.Below.{sumBelow, concatBelow}
 use Rattle.lists.specs.Lists.{writeAt}
-use Rattle.lists.proofs.Below.{sum-ext, sum-le, each-long, each-at, concat-ext, concat-long, concat-mono}
-use Rattle.lists.proofs.Writes.{write-more, write-none, length-write, sets-write, turn-start, turn-start-at, turn-next, turn-next-at}
+use Rattle.lists.proofs.Below.{sum-ext, sum-le, each-long, each-at, concat-ext, concat-long}
+use Rattle.lists.proofs.Writes.{write-none, length-write, sets-write}
 use Rattle.rules.specs.Headings.{numberOf}
 use Rattle.rules.specs.State.{Snake, State, nobody, snakeOf}
 use Rattle.rules.specs.Image.{front, bodyOf, recordOf, imageOf}
 use Rattle.step.specs.declared.after.After.{After}
 use Rattle.step.specs.After.{gone, part, later, snakes, sizeOf, sizes, Parts, Short}
-use Rattle.step.specs.Next.{recordIn, bodyIn, headOf, Written, nextOf}
+use Rattle.step.specs.Next.{recordIn, bodyIn, headOf, nextOf}
 use Rattle.step.proofs.Laws.{size-le}
 
 head-on : (l : Bool) (c : ℕ) (p : List ℕ) → (c ∷ p if l else p) ≡ (c ∷ [] if l else []) ++ p
@@ -83,22 +85,7 @@ module _ (w : List ℕ) (all : List After) (parts : Parts w all) where
         let b = concatBelow n (bodyIn w all) in
         omega (arith, ap length image-is, length-append t (b ++ food), length-append b food, records-long n n all, bodies-long n)
 
--- four writes, one after the other
-pub four-writes : (d h t b f : List ℕ) (i j k : ℕ) → i ≡ length h → j ≡ length h + length t → k ≡ j + length b
-    → writeAt (writeAt (writeAt (writeAt d 0 h) i t) j b) k f ≡ writeAt d 0 (h ++ (t ++ (b ++ f)))
-four-writes d h t b f i j k p q r =
-    let z = length-append h t in
-    let y = length-append (h ++ t) b in
-    let p′ : i ≡ 0 + length h = omega arith in
-    let q′ : j ≡ 0 + length (h ++ t) = omega arith in
-    let r′ : k ≡ 0 + length ((h ++ t) ++ b) = omega arith in
-    let one : writeAt (writeAt d 0 h) i t ≡ writeAt d 0 (h ++ t) = ap (λ (k : ℕ). writeAt (writeAt d 0 h) k t) p′ ∙ write-more d 0 h t (omega arith) in
-    let two : writeAt (writeAt (writeAt d 0 h) i t) j b ≡ writeAt d 0 ((h ++ t) ++ b) = ap₂ (λ (l : List ℕ) (k : ℕ). writeAt l k b) one q′ ∙ write-more d 0 (h ++ t) b (omega arith) in
-    ap₂ (λ (l : List ℕ) (k : ℕ). writeAt l k f) two r′
-    ∙ write-more d 0 ((h ++ t) ++ b) f (omega arith)
-    ∙ ap (writeAt d 0) (append-assoc (h ++ t) b f ∙ append-assoc h t (b ++ f))
-
--- ---- one write, and another after it
+-- ---- the writes
 
 head-by : (l : Bool) (c : ℕ) (b : Bool) → l ≡ b → (c ∷ [] if l else []) ≡ (c ∷ [] if b else [])
 head-by l c b e = ap (λ (b : Bool). c ∷ [] if b else []) e
@@ -119,28 +106,6 @@ module _ (d : List ℕ) (at : ℕ) (a : After) where
         words = sym (ap (writeAt d at) p ∙ write-none d at);
         end = omega (arith, ap length p);
       }
-
-pub then-write : (d : List ℕ) (at : ℕ) (s o : List ℕ) (r : ℕ) (t : List ℕ) → Written d at s o r → at ≤ length d → writeAt o r t ≡ writeAt d at (s ++ t)
-then-write d at s o r t x h =
-    ap₂ (λ (l : List ℕ) (k : ℕ). writeAt l k t) (x .words) (x .end) ∙ write-more d at s t h
-
-pub written-long : (d : List ℕ) (at : ℕ) (s o : List ℕ) (r : ℕ) → Written d at s o r → at + length s ≤ length d → length o ≡ length d
-written-long d at s o r x h = ap length (x .words) ∙ length-write d at s h
-
--- a loop that writes f 0, f 1, .. from `from` on
-module _ (d : List ℕ) (from : ℕ) (f : ℕ → List ℕ) where
-  pub run-start : Written d from (concatBelow 0 f) d from
-  run-start = record { words = turn-start d from f; end = turn-start-at d from f }
-
-  pub run-next : (i at : ℕ) (o p : List ℕ) (r : ℕ) → from ≤ length d → Written d from (concatBelow i f) o at → Written o at (f i) p r → Written d from (concatBelow (i + 1) f) p r
-  run-next i at o p r h x y = record {
-    words = y .words ∙ turn-next d from f i at o (x .end) h (x .words);
-    end = y .end ∙ turn-next-at d from f i at (x .end);
-  }
-
-  -- the next words fit where all of them do
-  pub run-room : (i n at : ℕ) (o : List ℕ) → Written d from (concatBelow i f) o at → i < n → at + length (f i) ≤ from + length (concatBelow n f)
-  run-room i n at o x h = omega (arith, turn-next-at d from f i at (x .end), concat-mono f (i + 1) n (omega arith))
 
 -- the contents, the records, the bodies and the food, one after the other
 module _ (w : List ℕ) (all : List After) (parts : Parts w all) (n g due : ℕ) (food : List ℕ) (foods : ℕ) (d o p q r : List ℕ) (at : ℕ)

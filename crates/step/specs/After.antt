@@ -1,6 +1,6 @@
 -- The code's records of the snakes after the step, as the definition's snakes; the tests as the code makes them. Assumes nothing.
-use Prim.Native.Nat.{ℕ, _+_, _-_, _<_, _≤_}
-use mathlib.Core.Bool.{Bool, true, false, not, _&&_, _||_}
+use Prim.Native.Nat.{ℕ, _+_, _-_, _≤_}
+use mathlib.Core.Bool.{Bool, false, not, _&&_, _||_}
 use mathlib.Core.List.{List, [], _∷_}
 use mathlib.Core.Path.{_≡_}
 use lib.Dec.{eqb, ltb, leb}
@@ -15,16 +15,12 @@ use Rattle.rules.specs.declared.Limit.{Limit}
 use Rattle.rules.specs.declared.Limit.the-variants.{Unset, Is}
 use Rattle.rules.specs.declared.Event.{Event}
 use Rattle.rules.specs.Events.{dies}
-use Rattle.rules.specs.Image.{snakesIn, sideIn}
 use Rattle.rules.specs.Places.{cellOf}
 use Rattle.rules.specs.State.{Snake}
-use Rattle.rules.specs.Step.{Moved, causeOf}
-use Rattle.step.specs.declared.Move.{Move}
 use Rattle.step.specs.declared.Judged.{Judged}
 use Rattle.step.specs.declared.after.After.{After}
 use Rattle.step.specs.declared.after.Counts.{Counts}
 use Rattle.step.specs.declared.food.Eaten.{Eaten}
-use Rattle.step.specs.World.{shown, movesOf, causesOf}
 
 -- a judged move, settled
 abbrev pub settled : ℕ → Judged → After

@@ -1,19 +1,19 @@
 -- The next state as the code's records say it, and its words as they are written one after the other. Assumes nothing.
-use Prim.Native.Nat.{ℕ, _+_, _*_, _<_, _≤_}
-use mathlib.Core.Bool.{Bool, true, false, not}
-use mathlib.Core.List.{List, [], _∷_, _++_}
+use Prim.Native.Nat.{ℕ, _+_, _<_, _≤_}
+use mathlib.Core.Bool.{Bool, false, not}
+use mathlib.Core.List.{List, [], _∷_}
 use mathlib.Core.Path.{_≡_}
 use lib.Dec.{ltb}
 use lib.ListN.{length, getD}
 use Rattle.lists.specs.Choice.{_if_else_, bit}
-use Rattle.lists.specs.Below.{countBelow, sumBelow, eachBelow, concatBelow}
-use Rattle.lists.specs.Lists.{keep, writeAt, overFront}
+use Rattle.lists.specs.Below.{countBelow, sumBelow, eachBelow}
+use Rattle.lists.specs.Lists.{keep, overFront}
 use Rattle.rules.specs.declared.Answer.{Answer}
 use Rattle.rules.specs.declared.Answer.the-variants.{Done, Refused}
 use Rattle.rules.specs.declared.Setting.{Setting}
 use Rattle.rules.specs.Headings.{numberOf}
 use Rattle.rules.specs.State.{State}
-use Rattle.rules.specs.Image.{front, foodAt, imageOf}
+use Rattle.rules.specs.Image.{front, foodAt}
 use Rattle.rules.specs.Step.{isTerminal, eventOf, eatenBy, Outcome}
 use Rattle.step.specs.declared.after.After.{After}
 use Rattle.step.specs.After.{gone, snakes, cells, eating, causes, sizes}
@@ -29,11 +29,6 @@ bodyIn w all i = snakes w all i .body
 -- a body is its head, where it lives, and the part of the image
 abbrev pub headOf : After → List ℕ
 headOf a = a .cell ∷ [] if a .lives else []
-
--- words are written from `at` on, and the index after them is given
-pub record Written (old : List ℕ) (at : ℕ) (s new : List ℕ) (r : ℕ) : Type 0 where
-  pub words : new ≡ writeAt old at s
-  pub end : r ≡ at + length s
 
 -- ---- the state
 

@@ -1,12 +1,17 @@
 // The consequences of a judged move: the next image, the end, and the events.
 use crate::Judged;
 use crate::after::After;
+use crate::after::count_all;
+use crate::after::settle_all;
+use crate::events::all_events;
+use crate::events::blanks;
+use crate::killers::find_killers;
+use crate::leads::is_terminal;
+use crate::next::write_next;
 use rules::Answer;
 use rules::Setting;
 use rules::Stepped;
 ghost use mathlib.Core.Path.{_≡_};
-ghost use Prim.Native.Nat.{_≤_};
-ghost use lib.ListN.{length};
 ghost use Rattle.rules.specs.Facts.{Sound};
 ghost use Rattle.rules.specs.Image.{snakesIn, sideIn, foodAt};
 ghost use Rattle.rules.specs.Step.{outcomeOf};
@@ -23,12 +28,12 @@ fn conclude(setting: Setting, image: &[u16], all: [After; 8], n: usize, out: &mu
     requires { ⌜ n ≡ snakesIn (now image) ⌝ }
     ensures { λ r. ⌜ Applied (outcomeIn setting (now (image .entry)) all n (sideIn (now (image .entry)))) (now (out .entry)) (now (out .exit)) r ⌝ }
 {
-    let counts = crate::after::count_all(all, n);
+    let counts = count_all(all, n);
     let alive = counts.alive;
     let last = setting.last;
     let lead = setting.lead;
-    let terminal = crate::leads::is_terminal(all, n, alive, last, lead);
-    let answer = crate::next::write_next(
+    let terminal = is_terminal(all, n, alive, last, lead);
+    let answer = write_next(
         out,
         image,
         all,
@@ -41,14 +46,14 @@ fn conclude(setting: Setting, image: &[u16], all: [After; 8], n: usize, out: &mu
         return Stepped {
             answer,
             terminal: false,
-            events: crate::events::blanks(),
+            events: blanks(),
         };
     };
-    let to = crate::killers::killers(image, all, n);
+    let to = find_killers(image, all, n);
     Stepped {
         answer,
         terminal,
-        events: crate::events::events(all, to, n, counts, lead),
+        events: all_events(all, to, n, counts, lead),
     }
 }
 
@@ -59,6 +64,6 @@ pub fn apply(setting: Setting, image: &[u16], judged: [Judged; 8], out: &mut [u1
     ensures { λ r. ⌜ Applied (outcomeOf setting (sideIn (now (image .entry))) (snakesIn (now (image .entry))) (foodAt (now (image .entry))) (judgedWorld (now (image .entry)) judged)) (now (out .entry)) (now (out .exit)) r ⌝ }
 {
     let n = image[0] as usize;
-    let all = crate::after::settle_all(judged, n, image[1]);
+    let all = settle_all(judged, n, image[1]);
     conclude(setting, image, all, n, out)
 }

@@ -1,13 +1,15 @@
 // The records and the bodies of the next image.
 use crate::after::After;
+use crate::after::size_of;
 ghost use mathlib.Core.Path.{_≡_};
 ghost use Prim.Native.Nat.{_+_, _*_, _<_, _≤_};
 ghost use lib.ListN.{length};
 ghost use Rattle.lists.specs.Below.{concatBelow};
 ghost use Rattle.lists.specs.Lists.{writeAt};
+ghost use Rattle.lists.specs.Written.{Written};
 ghost use Rattle.rules.specs.Image.{front};
 ghost use Rattle.step.specs.After.{later, Parts, Short};
-ghost use Rattle.step.specs.Next.{headOf, recordIn, bodyIn, Written};
+ghost use Rattle.step.specs.Next.{headOf, recordIn, bodyIn};
 
 // Four words of each snake, from word 5 on.
 pub fn write_records(out: &mut [u16], all: [After; 8], n: usize)
@@ -20,7 +22,7 @@ pub fn write_records(out: &mut [u16], all: [After; 8], n: usize)
     while i < n {
         let a = all[i];
         let heading = a.heading;
-        let len = crate::after::size_of(a);
+        let len = size_of(a);
         image::write_record(out, 5 + 4 * i, start, len, heading, a.lives);
         start += len;
         i += 1;

@@ -1,6 +1,10 @@
 // The event of each snake.
 use crate::after::After;
 use crate::after::Counts;
+use crate::after::is_death;
+use crate::killers::is_killer;
+use crate::leads::is_ahead;
+use crate::leads::is_behind;
 use rules::Cause;
 use rules::Event;
 use rules::Limit;
@@ -26,14 +30,14 @@ fn event_of(
     let c = a.cause;
     let alive = counts.alive;
     let deaths = counts.deaths;
-    let died = crate::after::is_death(c);
+    let died = is_death(c);
     Event {
         ate: a.ate,
         died,
         cause: c,
-        killed: crate::killers::is_killer(to, n, i),
-        won: a.lives & (alive == 1) & (0 < deaths) | crate::leads::is_ahead(all, n, alive, lead, i),
-        lost: died & (0 < alive) | crate::leads::is_behind(all, n, alive, lead, i),
+        killed: is_killer(to, n, i),
+        won: a.lives & (alive == 1) & (0 < deaths) | is_ahead(all, n, alive, lead, i),
+        lost: died & (0 < alive) | is_behind(all, n, alive, lead, i),
         drew: died & (alive == 0) & (1 < deaths),
         survived: false,
     }
@@ -54,7 +58,13 @@ pub fn blanks() -> [Event; 8]
     }; 8]
 }
 
-pub fn events(all: [After; 8], to: [usize; 8], n: usize, counts: Counts, lead: Limit) -> [Event; 8]
+pub fn all_events(
+    all: [After; 8],
+    to: [usize; 8],
+    n: usize,
+    counts: Counts,
+    lead: Limit,
+) -> [Event; 8]
     requires { ⌜ n ≤ 8 ⌝ }
     ensures { λ r. ⌜ r ≡ filled (eventAt all to n (counts .alive) (counts .deaths) lead) n 8 blank ⌝ }
 {

@@ -1,10 +1,9 @@
 // 'Surviving eaters remove their food': the cells eaten, and the apples that are left.
 use crate::after::After;
 ghost use mathlib.Core.Path.{_≡_};
-ghost use mathlib.Core.Bool.{not};
 ghost use Prim.Native.Nat.{_+_, _<_, _≤_};
 ghost use lib.ListN.{length};
-ghost use Rattle.lists.specs.Lists.{keep, member, writeAt};
+ghost use Rattle.lists.specs.Lists.{writeAt};
 ghost use Rattle.step.specs.After.{EatenAre};
 ghost use Rattle.step.specs.Left.{left};
 

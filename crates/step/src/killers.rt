@@ -7,7 +7,7 @@ ghost use lib.ListN.{length, getD};
 ghost use Rattle.lists.specs.Below.{someBelow, lowestFrom, filled};
 ghost use Rattle.rules.specs.Events.{byBody};
 ghost use Rattle.rules.specs.Step.{killerOf};
-ghost use Rattle.step.specs.After.{later, causes, cells, gone, snakes, holdsAt, creditedTo, Parts};
+ghost use Rattle.step.specs.After.{causes, cells, gone, snakes, holdsAt, creditedTo, Parts};
 
 fn is_by_body(c: Cause) -> bool
     ensures { λ r. ⌜ r ≡ byBody c ⌝ }
@@ -63,7 +63,7 @@ fn killer_of(image: &[u16], all: [After; 8], n: usize, i: usize) -> usize
     n
 }
 
-pub fn killers(image: &[u16], all: [After; 8], n: usize) -> [usize; 8]
+pub fn find_killers(image: &[u16], all: [After; 8], n: usize) -> [usize; 8]
     requires { ⌜ n ≤ 8 ⌝ }
     requires { ⌜ Parts (now image) all ⌝ }
     ensures { λ r. ⌜ r ≡ filled (killerOf n (cells all) (causes all) (snakes (now (image .entry)) all)) n 8 0 ⌝ }

@@ -1,16 +1,20 @@
 // The next image. Its length is known before a word is written.
 use crate::after::After;
+use crate::bodies::write_bodies;
+use crate::bodies::write_records;
+use crate::food::count_left;
+use crate::food::eaten_of;
+use crate::food::write_left;
 use rules::Answer;
 ghost use mathlib.Core.Path.{_≡_};
-ghost use mathlib.Core.Bool.{_||_};
-ghost use Prim.Native.Nat.{_+_, _*_, _<_, _≤_};
-ghost use lib.ListN.{length, drop};
+ghost use Prim.Native.Nat.{_+_, _*_, _<_};
+ghost use lib.ListN.{length};
 ghost use Rattle.lists.specs.Choice.{_if_else_};
-ghost use Rattle.lists.specs.Below.{countBelow, sumBelow};
+ghost use Rattle.lists.specs.Below.{sumBelow};
 ghost use Rattle.lists.specs.Lists.{writeAt};
 ghost use Rattle.rules.specs.Facts.{Sound};
-ghost use Rattle.rules.specs.Image.{front, snakesIn, sideIn, imageOf};
-ghost use Rattle.step.specs.After.{sizes, eating, Parts, Short};
+ghost use Rattle.rules.specs.Image.{snakesIn, sideIn, imageOf};
+ghost use Rattle.step.specs.After.{sizes, Parts, Short};
 ghost use Rattle.step.specs.Left.{left};
 ghost use Rattle.step.specs.Next.{nextOf, nextIn, Fits, answered, written};
 
@@ -39,9 +43,9 @@ fn write_state(
     ensures { λ _. ⌜ now (out .exit) ≡ writeAt (now (out .entry)) 0 (imageOf (nextOf (now (image .entry)) all n g due (left (now (eaten .entry)) (now (food .entry))))) ⌝ }
 {
     image::write_contents(out, n, g, due, false, foods);
-    crate::bodies::write_records(out, all, n);
-    let at = crate::bodies::write_bodies(out, 5 + 4 * n, image, all, n);
-    crate::food::write_left(out, at, food, eaten);
+    write_records(out, all, n);
+    let at = write_bodies(out, 5 + 4 * n, image, all, n);
+    write_left(out, at, food, eaten);
 }
 
 // The next image, or 29.
@@ -61,10 +65,10 @@ pub fn write_next(
     ensures { λ r. ⌜ (now (out .exit) ≡ written (now (out .entry)) (imageOf (nextIn (now (image .entry)) all n g terminal))) × (r ≡ answered (length (now (out .entry))) (imageOf (nextIn (now (image .entry)) all n g terminal))) ⌝ }
 {
     let food = image::food_of(image);
-    let bites = crate::food::eaten_of(all, n);
+    let bites = eaten_of(all, n);
     let count = bites.count;
     let eaten = bites.cells;
-    let foods = crate::food::count_left(food, &eaten[0..count]);
+    let foods = count_left(food, &eaten[0..count]);
     let room = 5 + 4 * n + cells + foods;
     if out.len() < room {
         return Answer::Refused(29);

@@ -52,11 +52,11 @@ returns c =
     let pa : c .before .before .before .before .before .write-next .result ≡ answered (length (now (a .out))) (imageOf (o .next)) = y .1 ∙ (λ k. answered (length (now (a .out))) (imageOf (nextIn w (a .all) (a .n) (sideIn w) (t k)))) in
     follows-refused o (now (a .out)) new (c .before .before .before .before .before .write-next .result) pa pw _ (c .before .enum-told2 .given .1) (c .blanks .result) (c .blanks .ensures)
 
-killers-requires : tie.Need-killers-requires
-killers-requires c κs = search needs
+find-killers-requires : tie.Need-find-killers-requires
+find-killers-requires c κs = search needs
 
-events-requires : tie.Need-events-requires
-events-requires c κs = search needs
+all-events-requires : tie.Need-all-events-requires
+all-events-requires c κs = search needs
 
 same-length-2 : tie.Need-same-length-2
 same-length-2 c = search needs
@@ -73,8 +73,8 @@ returns-2 c =
     let new = c .before .before .before .before .before .before .write-next .last .0 in
     let pw : new ≡ written (now (a .out)) (imageOf (o .next)) = y .0 ∙ (λ k. written (now (a .out)) (imageOf (nextIn w (a .all) (a .n) (sideIn w) (t k)))) in
     let pa : c .before .before .before .before .before .before .write-next .result ≡ answered (length (now (a .out))) (imageOf (o .next)) = y .1 ∙ (λ k. answered (length (now (a .out))) (imageOf (nextIn w (a .all) (a .n) (sideIn w) (t k)))) in
-    let e = c .events .ensures ∙ events-are w (a .all) (s .pre .1 .0) (a .n) (a .setting) (c .before .before .before .before .before .before .before .before .before .before .count-all .result .alive) (counts .alive) (c .before .before .before .before .before .before .before .before .before .before .count-all .result .deaths) (counts .deaths) (c .before .killers .result) (c .before .killers .ensures) in
-    follows-done o (now (a .out)) new (c .before .before .before .before .before .before .write-next .result) pa pw _ (c .before .before .enum-told .given .1) (c .before .before .before .before .before .before .before .before .before .is-terminal .result) t (c .events .result) e
+    let e = c .all-events .ensures ∙ events-are w (a .all) (s .pre .1 .0) (a .n) (a .setting) (c .before .before .before .before .before .before .before .before .before .before .count-all .result .alive) (counts .alive) (c .before .before .before .before .before .before .before .before .before .before .count-all .result .deaths) (counts .deaths) (c .before .find-killers .result) (c .before .find-killers .ensures) in
+    follows-done o (now (a .out)) new (c .before .before .before .before .before .before .write-next .result) pa pw _ (c .before .before .enum-told .given .1) (c .before .before .before .before .before .before .before .before .before .is-terminal .result) t (c .all-events .result) e
 
 pub conclude-spec : {M : Type 1} → statement M
 conclude-spec =
@@ -90,7 +90,7 @@ conclude-spec =
     blanks-requires
     same-length
     returns
-    killers-requires
-    events-requires
+    find-killers-requires
+    all-events-requires
     same-length-2
     returns-2)

@@ -1,13 +1,14 @@
 -- The invariant: the first i bodies are written, and `at` is the index after them.
+use Rattle.lists.proofs.Runs.{written-long, run-start, run-next, run-room}
+use Rattle.lists.specs.Written.{Written}
 use Rattle.step.proofs.bodies.write_bodies.Statement.{statement}
 use Prim.Native.Nat.{_-_, _≤_, ℕ, _+_}
 use mathlib.Core.Path.{_≡_, refl, _∙_, subst}
 use lib.ListN.{length}
 use Rattle.lists.specs.Below.{concatBelow}
-use Rattle.step.specs.Next.{bodyIn, Written}
+use Rattle.step.specs.Next.{bodyIn}
 use native.Mathlib.Omega.{arith}
 use denote.Ref.{now}
-use Rattle.step.proofs.Words.{written-long, run-start, run-next, run-room}
 use Rattle.step.proofs.bodies.write_bodies.Tie as tie
 
 abbrev Inv-loop : tie.InvT-loop

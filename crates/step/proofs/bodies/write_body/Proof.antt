@@ -1,4 +1,5 @@
 -- A body is its head, where it lives, and the part of the image: two writes, one after the other.
+use Rattle.lists.proofs.Runs.{then-write, written-long}
 use borrow.Author.Needs.{needs}
 use Rattle.step.proofs.bodies.write_body.Statement.{statement}
 use native.Mathlib.Omega.{arith}
@@ -10,7 +11,7 @@ use denote.Ref.{now}
 use Rattle.step.specs.After.{part}
 use Rattle.lists.proofs.Lists.{part-is}
 use Rattle.lists.specs.Lists.{writeAt, keep}
-use Rattle.step.proofs.Words.{body-is, part-size, then-write, written-long}
+use Rattle.step.proofs.Words.{body-is, part-size}
 use Rattle.step.specs.Next.{headOf}
 use Rattle.step.proofs.bodies.write_body.Tie as tie
 

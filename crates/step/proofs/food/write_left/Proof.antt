@@ -1,4 +1,5 @@
 -- The invariant: those left of the first j apples are written, and `at` is the index after them.
+use Rattle.lists.proofs.Runs.{write-one}
 use Rattle.step.proofs.food.write_left.Statement.{statement}
 use Prim.Native.Nat.{_+_, _-_, _≤_, ℕ, _<_}
 use mathlib.Core.Path.{_≡_, refl, sym, ap, _∙_}
@@ -9,7 +10,7 @@ use borrow.Author.Needs.{needs}
 use native.Mathlib.Omega.{arith}
 use mathlib.Core.List.{List, [], _∷_}
 use denote.Ref.{now}
-use Rattle.step.proofs.Left.{left-all, left-none, left-end, left-held, left-part, left-free, write-one}
+use Rattle.step.proofs.Left.{left-all, left-none, left-end, left-held, left-part, left-free}
 use Rattle.lists.proofs.Writes.{write-none}
 use Rattle.step.proofs.food.write_left.Tie as tie
 

@@ -1,5 +1,5 @@
 -- The invariant: the first i places are filled.
-use Rattle.step.proofs.killers.killers.Statement.{statement}
+use Rattle.step.proofs.killers.find_killers.Statement.{statement}
 use native.Mathlib.Omega.{arith}
 use Prim.Native.Nat.{ℕ, _-_, _≤_}
 use mathlib.Core.Path.{_≡_, ap, ap₂, _∙_}
@@ -10,7 +10,7 @@ use Rattle.step.specs.After.{snakes, cells, causes}
 use Rattle.lists.specs.Below.{filled}
 use Rattle.lists.proofs.Below.{filled-none, filled-more}
 use Rattle.rules.specs.Step.{killerOf}
-use Rattle.step.proofs.killers.killers.Tie as tie
+use Rattle.step.proofs.killers.find_killers.Tie as tie
 
 abbrev Inv-loop : tie.InvT-loop
 Inv-loop image all n to₀ i₀ to i = (i ≤ n) × (to ≡ filled (killerOf n (cells all) (causes all) (snakes image all)) i 8 0)
@@ -48,8 +48,8 @@ returns c =
     let e : c .before .loop .i ≡ a .n = omega arith in
     c .before .loop .inv .1 ∙ ap (λ (k : ℕ). filled (killerOf (a .n) (cells (a .all)) (causes (a .all)) (snakes (now (a .image)) (a .all))) k 8 0) e
 
-pub killers-spec : {M : Type 1} → statement M
-killers-spec =
+pub find-killers-spec : {M : Type 1} → statement M
+find-killers-spec =
     tie.close
     (tie.spec
     Inv-loop

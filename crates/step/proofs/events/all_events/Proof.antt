@@ -1,5 +1,5 @@
 -- The invariant: the first i places are filled.
-use Rattle.step.proofs.events.events.Statement.{statement}
+use Rattle.step.proofs.events.all_events.Statement.{statement}
 use native.Mathlib.Omega.{arith}
 use Prim.Native.Nat.{_-_, _≤_, ℕ}
 use mathlib.Core.Path.{_≡_, ap, ap₂, _∙_}
@@ -10,7 +10,7 @@ use mathlib.Core.List.{List}
 use lib.ListN.{set}
 use Rattle.lists.proofs.Below.{filled-none, filled-more}
 use Rattle.rules.specs.declared.Event.{Event}
-use Rattle.step.proofs.events.events.Tie as tie
+use Rattle.step.proofs.events.all_events.Tie as tie
 
 abbrev Inv-loop : tie.InvT-loop
 Inv-loop all to n counts lead told₀ i₀ told i = (i ≤ n) × (told ≡ filled (eventAt all to n (counts .alive) (counts .deaths) lead) i 8 blank)
@@ -51,8 +51,8 @@ returns c =
     let e : c .before .loop .i ≡ a .n = omega arith in
     c .before .loop .inv .1 ∙ ap (λ (k : ℕ). filled (eventAt (a .all) (a .to) (a .n) (a .counts .alive) (a .counts .deaths) (a .lead)) k 8 blank) e
 
-pub events-spec : {M : Type 1} → statement M
-events-spec =
+pub all-events-spec : {M : Type 1} → statement M
+all-events-spec =
     tie.close
     (tie.spec
     Inv-loop
