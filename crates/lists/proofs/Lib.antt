@@ -3,6 +3,7 @@ pub mod Below
 pub mod Lists
 pub mod Writes
 pub mod Search
+pub mod Signs
 pub mod Blocks
 pub mod Concat
 pub mod Members
@@ -16,3 +17,6 @@ pub mod Squares
 pub mod Parts
 pub mod Insertion
 pub mod Inserts
+pub mod Shorter
+pub mod Pigeonhole
+pub mod Runs

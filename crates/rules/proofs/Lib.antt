@@ -6,6 +6,7 @@ pub mod Answers
 pub mod Step
 pub mod Parts
 pub mod Examples
+pub mod Places
 pub mod Sample
 pub mod FreeCells
 pub mod Digits
@@ -16,3 +17,4 @@ pub mod Births
 pub mod DrawFacts
 pub mod Again
 pub mod View
+pub mod StepFacts
