@@ -1,4 +1,9 @@
 // One step of the arena, from an image that is known to be well-formed: judge all on one world, then apply.
+mod judge;
+mod moves;
+
+pub use judge::judge;
+
 use rules::Cause;
 use rules::Heading;
 use rules::Place;
