@@ -3,3 +3,4 @@ pub mod Below
 pub mod Lists
 pub mod Writes
 pub mod Search
+pub mod Signs

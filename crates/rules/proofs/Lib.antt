@@ -1,2 +1,3 @@
 pub mod Facts
 pub mod Examples
+pub mod Places
