@@ -1,25 +1,32 @@
 -- The move by the image's words is the definition's, and stays within the image. Assumes nothing.
 use Prim.Native.Nat.{ℕ, zero, suc, _+_, _-_, _*_, _<_, _≤_}
 use native.Mathlib.Omega.{arith}
+use native.Mathlib.Nat.{div-le-self, mod-le}
 use mathlib.Core.Path.{_≡_, refl, sym, ap, ap₂, _∙_}
 use mathlib.Core.Bool.{Bool, true, false}
 use mathlib.Core.List.{List}
 use lib.Dec.{eqb}
+use lib.IntN.{pos}
 use lib.ListN.{length, getD, take, drop}
 use lib.Seq.{take-take, getD-take, getD-drop}
 use borrow.Author.Tests.{eqb-true}
 use Rattle.lists.specs.Choice.{_if_else_}
 use Rattle.lists.specs.Below.{eachBelow}
+use Rattle.lists.specs.Lists.{member}
 use Rattle.lists.proofs.Below.{each-at}
 use Rattle.lists.proofs.Lists.{part-long}
 use Rattle.rules.specs.Headings.{headingOf, turned, actionOf}
-use Rattle.rules.specs.Places.{ahead, placeOf}
+use Rattle.rules.specs.Places.{ahead, inside, cellOf, placeOf}
 use Rattle.rules.specs.State.{Snake, nobody, snakeOf}
-use Rattle.rules.specs.Image.{word, snakesIn, sideIn, startAt, lengthAt, headingAt, aliveAt, foodStart, bodyAt, foodAt, snakeAt, stateOf}
+use Rattle.rules.specs.Image.{word, snakesIn, sideIn, foodCountIn, startAt, lengthAt, headingAt, aliveAt, foodStart, bodyAt, foodAt, snakeAt, stateOf}
 use Rattle.rules.specs.Facts.{Sound}
 use Rattle.rules.specs.Step.{Moved, onFood, goes, stays, move, movedOf}
 use Rattle.rules.specs.declared.Heading.{Heading}
 use Rattle.rules.specs.declared.Place.{Place}
+use Rattle.rules.specs.declared.RelativeAction.the-variants.{TurnRight}
+use Rattle.places.specs.Near.{Near}
+use Rattle.image.specs.declared.SnakeRecord.{SnakeRecord}
+use Rattle.image.specs.Records.{recordAt}
 use Rattle.step.specs.declared.Move.{Move}
 use Rattle.step.specs.World.{shown}
 use Rattle.step.specs.Moving.{goesTo, going, staying, moveBy, moveAt}
@@ -87,3 +94,45 @@ module _ (w : List ℕ) (s : Sound w) (i : ℕ) (l : i < snakesIn w) where
 
   pub move-short : (a : ℕ) → moveBy w i a .keep ≤ 1024
   move-short a = omega (arith, keep-le a .1, s .lengths i l, s .area-max)
+
+-- ---- leaves
+
+pub acts-right : (a : ℕ) → (a ≡ 0 → ⊥) → (a ≡ 1 → ⊥) → actionOf a ≡ TurnRight
+acts-right zero p q = absurd (p refl)
+acts-right (suc zero) p q = absurd (q refl)
+acts-right (suc (suc a)) p q = refl
+
+module _ (g : ℕ) (food : List ℕ) (p : Place) where
+  pub food-off : inside (pos g) p ≡ false → false ≡ onFood g food p
+  food-off e = rw e
+
+  pub food-on : inside (pos g) p ≡ true → member (cellOf g p) food ≡ onFood g food p
+  food-on e = rw e
+
+-- the food is the last part of the image
+pub food-from : (w : List ℕ) → Sound w → length w - foodCountIn w ≡ foodStart w
+food-from w s = omega (arith, s .total)
+
+pub near-cell : (g c : ℕ) → c < 65536 → Near (placeOf g c)
+near-cell g c h = record { row = omega (arith, div-le-self c g); col = omega (arith, mod-le c g) }
+
+-- the head goes to p, which is on food or not
+module _ (w : List ℕ) (start len : ℕ) (h : Heading) (p : Place) (q : p ≡ ahead h (placeOf (sideIn w) (word w start))) where
+  pub goes-by : {e : Bool} → onFood (sideIn w) (foodAt w) p ≡ e → goesTo start len h p e ≡ going w start len h
+  goes-by t = let e = sym t ∙ ap (onFood (sideIn w) (foodAt w)) q in λ k. goesTo start len h (q k) (e k)
+
+-- z is snake i's record
+module _ (w : List ℕ) (i : ℕ) (z : SnakeRecord) (q : z ≡ recordAt w i) where
+  pub move-by : {b : Bool} (a : ℕ) → z .alive ≡ b
+      → (going w (z .start) (z .len) (turned (z .heading) (actionOf a)) if b else staying (z .start) (z .len) (z .heading)) ≡ moveBy w i a
+  unfolding moveBy
+  move-by a t =
+      let e = sym t ∙ ap (λ (z : SnakeRecord). z .alive) q in
+      λ k. going w (q k .start) (q k .len) (turned (q k .heading) (actionOf a)) if e k else staying (q k .start) (q k .len) (q k .heading)
+
+  pub body-room : Sound w → i < snakesIn w → z .alive ≡ true → (z .start < length w) × (0 < z .len)
+  body-room s l t =
+      let a = eqb-true (aliveAt w i) 1 (sym (ap (λ (z : SnakeRecord). z .alive) q) ∙ t) in
+      let x : z .start ≡ startAt w i = ap (λ (z : SnakeRecord). z .start) q in
+      let n : z .len ≡ lengthAt w i = ap (λ (z : SnakeRecord). z .len) q in
+      (omega (arith, s .living i l a, s .bodies-in i l, s .total), omega (arith, s .living i l a))

@@ -40,7 +40,6 @@ movedWorld w acts i = getD (eachBelow (snakesIn w) (movedOf (stateOf w) acts)) i
 
 -- r holds, of each snake of the image w, its move and the cause judged on the one world of all moves; after them it is untouched
 pub record Judges (w acts : List ℕ) (r : List Judged) : Type 0 where
-  pub size : length r ≡ 8
   pub moved : (λ (i : ℕ). shown w (movesOf r i)) ≡ movedWorld w acts
   pub causes : causesOf r ≡ (λ (i : ℕ). getD (eachBelow (snakesIn w) (causeOf (sideIn w) (snakesIn w) (movedWorld w acts))) i NoCause)
   pub parts : (i : ℕ) → movesOf r i .start + movesOf r i .keep ≤ foodStart w

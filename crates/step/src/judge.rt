@@ -8,13 +8,22 @@ use rules::Heading;
 use rules::Place;
 ghost use mathlib.Core.Path.{_≡_};
 ghost use Prim.Native.Nat.{_+_, _<_, _≤_};
-ghost use lib.ListN.{length};
+ghost use lib.ListN.{length, take, drop};
 ghost use Rattle.lists.specs.Below.{someBelow};
+ghost use Rattle.lists.specs.Lists.{member};
 ghost use Rattle.rules.specs.Image.{snakesIn};
 ghost use Rattle.rules.specs.Facts.{Sound};
 ghost use Rattle.rules.specs.Step.{causeOf};
 ghost use Rattle.step.specs.World.{world, Judges};
 ghost use Rattle.step.specs.Judging.{Parts, meetsAt, underAt};
+
+// Whether a part of the image holds the cell.
+pub fn part_holds(image: &[u16], start: usize, keep: usize, cell: u16) -> bool
+    requires { ⌜ start + keep ≤ length (now image) ⌝ }
+    ensures { λ r. ⌜ r ≡ member cell (take keep (drop start (now (image .entry)))) ⌝ }
+{
+    lists::holds(&image[start..start + keep], cell)
+}
 
 // Whether snake j is another than i that moved to the place of i.
 fn meets(all: [Move; 8], i: usize, j: usize) -> bool
@@ -46,15 +55,13 @@ fn under(image: &[u16], all: [Move; 8], i: usize, j: usize, cell: u16) -> bool
     ensures { λ r. ⌜ r ≡ underAt (now (image .entry)) all i cell j ⌝ }
 {
     let you = all[j];
-    let start = you.start;
-    let keep = you.keep;
     if i == j {
         return false;
     }
     if !you.moves {
         return false;
     }
-    lists::holds(&image[start..start + keep], cell)
+    part_holds(image, you.start, you.keep, cell)
 }
 
 // Their heads are not asked: a head there is head-on.
@@ -80,8 +87,6 @@ fn cause_of(image: &[u16], all: [Move; 8], n: usize, g: u16, i: usize) -> Cause
 {
     let me = all[i];
     let head = me.head;
-    let start = me.start;
-    let keep = me.keep;
     if !me.moves {
         return Cause::NoCause;
     }
@@ -92,7 +97,7 @@ fn cause_of(image: &[u16], all: [Move; 8], n: usize, g: u16, i: usize) -> Cause
         return Cause::Wall;
     }
     let cell = places::cell_of(g, head);
-    if lists::holds(&image[start..start + keep], cell) {
+    if part_holds(image, me.start, me.keep, cell) {
         return Cause::SelfBody;
     }
     if opposed(image, all, n, i, cell) {

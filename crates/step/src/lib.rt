@@ -2,8 +2,6 @@
 mod judge;
 mod moves;
 
-pub use judge::judge;
-
 use rules::Cause;
 use rules::Heading;
 use rules::Place;

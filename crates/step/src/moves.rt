@@ -7,13 +7,37 @@ ghost use Prim.Native.Nat.{_<_, _≤_};
 ghost use lib.IntN.{pos};
 ghost use lib.ListN.{length};
 ghost use Rattle.lists.specs.Below.{filled};
-ghost use Rattle.rules.specs.Headings.{turned, actionOf};
+ghost use Rattle.rules.specs.Headings.{clockwise, counterclockwise, turned, actionOf};
 ghost use Rattle.rules.specs.Places.{inside};
 ghost use Rattle.rules.specs.Image.{front, snakesIn, sideIn, foodAt};
 ghost use Rattle.rules.specs.Facts.{Sound};
 ghost use Rattle.rules.specs.Step.{onFood};
 ghost use Rattle.step.specs.World.{still};
 ghost use Rattle.step.specs.Moving.{going, moveBy, moveAt};
+
+// cw of the Rust.
+fn clockwise(heading: Heading) -> Heading
+    ensures { λ r. ⌜ r ≡ clockwise heading ⌝ }
+{
+    match heading {
+        Heading::Up => Heading::Right,
+        Heading::Right => Heading::Down,
+        Heading::Down => Heading::Left,
+        Heading::Left => Heading::Up,
+    }
+}
+
+// ccw of the Rust.
+fn counterclockwise(heading: Heading) -> Heading
+    ensures { λ r. ⌜ r ≡ counterclockwise heading ⌝ }
+{
+    match heading {
+        Heading::Up => Heading::Left,
+        Heading::Left => Heading::Down,
+        Heading::Down => Heading::Right,
+        Heading::Right => Heading::Up,
+    }
+}
 
 // relative_to_absolute of the Rust, by the action's number.
 fn turned_by(heading: Heading, action: u64) -> Heading
@@ -23,19 +47,9 @@ fn turned_by(heading: Heading, action: u64) -> Heading
         return heading;
     }
     if action == 1 {
-        return match heading {
-            Heading::Up => Heading::Left,
-            Heading::Right => Heading::Up,
-            Heading::Down => Heading::Right,
-            Heading::Left => Heading::Down,
-        };
+        return counterclockwise(heading);
     }
-    match heading {
-        Heading::Up => Heading::Right,
-        Heading::Right => Heading::Down,
-        Heading::Down => Heading::Left,
-        Heading::Left => Heading::Up,
-    }
+    clockwise(heading)
 }
 
 pub fn on_grid(g: u16, p: Place) -> bool

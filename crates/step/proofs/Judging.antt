@@ -1,0 +1,106 @@
+-- A cause by its five tests, the tests on an array of moves, and what the judged array says. Assumes nothing.
+use Prim.Native.Nat.{ℕ, zero, suc, _+_, _-_, _*_, _<_, _≤_}
+use native.Mathlib.Omega.{arith}
+use mathlib.Core.Path.{_≡_, refl, sym, ap, ap₂, _∙_}
+use mathlib.Core.Bool.{Bool, true, false, not, _&&_, _||_}
+use mathlib.Core.List.{List}
+use lib.Dec.{eqb}
+use lib.IntN.{pos}
+use lib.ListN.{length, getD, length-append, length-replicate}
+use Rattle.lists.specs.Choice.{_if_else_}
+use Rattle.lists.specs.Below.{someBelow, eachBelow, filled}
+use Rattle.lists.specs.Lists.{member}
+use Rattle.lists.proofs.Tests.{ordered, less, more}
+use Rattle.lists.proofs.Below.{some-ext, some-never, each-long, each-at, each-past, each-ext, each-map, filled-is}
+use Rattle.rules.specs.Places.{same, inside, cellOf}
+use Rattle.rules.specs.State.{nobody}
+use Rattle.rules.specs.Image.{snakesIn, sideIn, foodStart, foodAt, snakeAt, stateOf}
+use Rattle.rules.specs.Facts.{Sound}
+use Rattle.rules.specs.Step.{Moved, Outcome, stays, movedOf, another, onBody, causeOf, outcomeOf, stepped}
+use Rattle.rules.specs.declared.Cause.{Cause}
+use Rattle.rules.specs.declared.Cause.the-variants.{NoCause, Wall, SelfBody, OppBody, HeadOn}
+use Rattle.rules.specs.declared.Setting.{Setting}
+use Rattle.step.specs.declared.Move.{Move}
+use Rattle.step.specs.declared.Judged.{Judged}
+use Rattle.step.specs.World.{still, shown, world, untouched, movesOf, causesOf, movedWorld, Judges}
+use Rattle.step.specs.Moving.{moveAt}
+use Rattle.step.specs.Judging.{Parts, judgedAt}
+use Rattle.step.proofs.Moving.{shown-move, move-part, move-short}
+
+-- ---- one cause
+
+only-rest : (x a b : Bool) → (x && a) ≡ false → (x && b) ≡ (x && (a || b))
+only-rest true a b e = rw e
+only-rest false a b e = refl
+
+module _ (g n : ℕ) (m : ℕ → Moved) (i : ℕ) where
+  pub cause-by : {a b c d e : Bool} → m i .moves ≡ a → another g n m i (λ j. same (m i .head) (m j .head)) ≡ b → inside (pos g) (m i .head) ≡ c
+      → member (cellOf g (m i .head)) (m i .rest) ≡ d → another g n m i (onBody g n m (m i .head)) ≡ e
+      → (NoCause if not a else HeadOn if b else Wall if not c else SelfBody if d else OppBody if e else NoCause) ≡ causeOf g n m i
+  unfolding causeOf
+  cause-by p q r s t = sym (λ k. NoCause if not (p k) else HeadOn if q k else Wall if not (r k) else SelfBody if s k else OppBody if t k else NoCause)
+
+  -- where no two heads meet, a head on another's cell is on its rest
+  pub heads-apart : another g n m i (λ j. same (m i .head) (m j .head)) ≡ false
+      → another g n m i (onBody g n m (m i .head)) ≡ another g n m i (λ j. member (cellOf g (m i .head)) (m j .rest))
+  heads-apart e =
+      let p : ℕ → Bool = λ j. not (eqb i j) && m j .moves in
+      let s : ℕ → Bool = λ j. same (m i .head) (m j .head) in
+      let r : ℕ → Bool = λ j. member (cellOf g (m i .head)) (m j .rest) in
+      sym (some-ext n (λ j. p j && r j) (λ j. p j && (s j || r j)) (λ j l. only-rest (p j) (s j) (r j) (some-never (λ j. p j && s j) n j l e)))
+
+-- ---- the array of moves
+
+module _ (w acts : List ℕ) (s : Sound w) (all : List Move) (q : all ≡ filled (moveAt w acts) (snakesIn w) 8 still) where
+  all-at : (j : ℕ) → getD all j still ≡ getD (eachBelow (snakesIn w) (moveAt w acts)) j still
+  all-at j = ap (λ (l : List Move). getD l j still) q ∙ filled-is (moveAt w acts) (snakesIn w) 8 still j
+
+  inside-at : (P : Move → Type 0) → P still → ((i : ℕ) → i < snakesIn w → P (moveAt w acts i)) → (j : ℕ) → P (getD all j still)
+  inside-at P p f j = elim (ordered j (snakesIn w)) [
+    | less l t ↦ rw (all-at j, each-at (snakesIn w) (moveAt w acts) still j l) (f j l)
+    | more l t ↦ rw (all-at j, each-past (snakesIn w) (moveAt w acts) still j l) p
+  ]
+
+  pub part-at : (j : ℕ) → getD all j still .start + getD all j still .keep ≤ foodStart w
+  part-at = inside-at (λ m. m .start + m .keep ≤ foodStart w) (omega arith) (λ i l. move-part w s i l (getD acts i 0))
+
+  pub short-at : (j : ℕ) → getD all j still .keep ≤ 1024
+  short-at = inside-at (λ m. m .keep ≤ 1024) (omega arith) (λ i l. move-short w s i l (getD acts i 0))
+
+  pub all-parts : Parts w all
+  all-parts = record { fits = λ j. omega (arith, part-at j, s .total) }
+
+  past-still : (j : ℕ) → snakesIn w ≤ j → getD all j still ≡ still
+  past-still j l = all-at j ∙ each-past (snakesIn w) (moveAt w acts) still j l
+
+  world-at : (j : ℕ) → world w all j ≡ movedWorld w acts j
+  world-at j =
+      ap (shown w) (all-at j)
+      ∙ each-map (shown w) (snakesIn w) (moveAt w acts) still j
+      ∙ ap (λ (l : List Moved). getD l j (stays nobody)) (each-ext (snakesIn w) (λ i. shown w (moveAt w acts i)) (movedOf (stateOf w) acts) (λ i l. shown-move w s i l acts))
+
+  world-is : world w all ≡ movedWorld w acts
+  world-is = λ k j. world-at j k
+
+  -- ---- the judged array
+
+  module _ (r : List Judged) (e : r ≡ filled (judgedAt w all (sideIn w) (snakesIn w)) (snakesIn w) 8 untouched) where
+    judged-at : (j : ℕ) → getD r j untouched ≡ getD (eachBelow (snakesIn w) (judgedAt w all (sideIn w) (snakesIn w))) j untouched
+    judged-at j = ap (λ (l : List Judged). getD l j untouched) e ∙ filled-is (judgedAt w all (sideIn w) (snakesIn w)) (snakesIn w) 8 untouched j
+
+    moves-at : (j : ℕ) → movesOf r j ≡ getD all j still
+    moves-at j = ap (λ (z : Judged). z .moved) (judged-at j) ∙ elim (ordered j (snakesIn w)) [
+      | less l t ↦ ap (λ (z : Judged). z .moved) (each-at (snakesIn w) (judgedAt w all (sideIn w) (snakesIn w)) untouched j l)
+      | more l t ↦ ap (λ (z : Judged). z .moved) (each-past (snakesIn w) (judgedAt w all (sideIn w) (snakesIn w)) untouched j l) ∙ sym (past-still j l)
+    ]
+
+    causes-at : (j : ℕ) → causesOf r j ≡ getD (eachBelow (snakesIn w) (causeOf (sideIn w) (snakesIn w) (world w all))) j NoCause
+    causes-at j = ap (λ (z : Judged). z .cause) (judged-at j) ∙ each-map (λ (z : Judged). z .cause) (snakesIn w) (judgedAt w all (sideIn w) (snakesIn w)) untouched j
+
+    pub judges : Judges w acts r
+    judges = record {
+      moved = λ k j. (ap (shown w) (moves-at j) ∙ world-at j) k;
+      causes = λ k j. (causes-at j ∙ ap (λ (m : ℕ → Moved). getD (eachBelow (snakesIn w) (causeOf (sideIn w) (snakesIn w) m)) j NoCause) world-is) k;
+      parts = λ j. rw (moves-at j) (part-at j);
+      short = λ j. rw (moves-at j) (short-at j);
+    }
