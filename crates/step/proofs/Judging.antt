@@ -24,7 +24,7 @@ use Rattle.step.specs.declared.Move.{Move}
 use Rattle.step.specs.declared.Judged.{Judged}
 use Rattle.step.specs.World.{still, shown, world, untouched, movesOf, causesOf, movedWorld, Judges}
 use Rattle.step.specs.Moving.{moveAt}
-use Rattle.step.specs.Judging.{Parts, judgedAt}
+use Rattle.step.specs.Judging.{Parts, underAt, judgedAt}
 use Rattle.step.proofs.Moving.{shown-move, move-part, move-short}
 
 -- ---- one cause
@@ -50,6 +50,10 @@ module _ (g n : ℕ) (m : ℕ → Moved) (i : ℕ) where
       sym (some-ext n (λ j. p j && r j) (λ j. p j && (s j || r j)) (λ j l. only-rest (p j) (s j) (r j) (some-never (λ j. p j && s j) n j l e)))
 
 -- ---- the array of moves
+
+pub under-by : (w : List ℕ) (all : List Move) (i cell j : ℕ) {a b : Bool} → eqb i j ≡ a → getD all j still .moves ≡ b
+    → (not a && b && member cell (world w all j .rest)) ≡ underAt w all i cell j
+under-by w all i cell j p q = sym (λ k. not (p k) && q k && member cell (world w all j .rest))
 
 module _ (w acts : List ℕ) (s : Sound w) (all : List Move) (q : all ≡ filled (moveAt w acts) (snakesIn w) 8 still) where
   all-at : (j : ℕ) → getD all j still ≡ getD (eachBelow (snakesIn w) (moveAt w acts)) j still

@@ -27,7 +27,7 @@ same-requires c κs = search needs
 
 -- src/judge.rt:20:1
 returns : tie.Need-returns
-returns c = ?
+returns c = rw (c .same .ensures)
 
 pub meets-spec : {M : Type 1} → statement M
 meets-spec =

@@ -1,3 +1,7 @@
+use Rattle.lists.proofs.Lists.{part-is}
+use Rattle.lists.specs.Lists.{member}
+use mathlib.Core.Path.{ap, _∙_}
+use denote.Ref.{now}
 use borrow.Author.Needs.{needs}
 use Rattle.step.proofs.judge.part_holds.Statement.{statement}
 use Rattle.step.proofs.judge.part_holds.Tie as tie
@@ -31,7 +35,9 @@ holds-requires c κs = search needs
 
 -- src/judge.rt:21:1
 returns : tie.Need-returns
-returns c = ?
+returns c =
+    let a = c .before .before .before .args in
+    c .holds .ensures ∙ ap (member (a .cell)) (part-is (now (a .image)) (a .start) (a .keep))
 
 pub part-holds-spec : {M : Type 1} → statement M
 part-holds-spec =
