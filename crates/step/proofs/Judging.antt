@@ -6,7 +6,7 @@ use mathlib.Core.Bool.{Bool, true, false, not, _&&_, _||_}
 use mathlib.Core.List.{List}
 use lib.Dec.{eqb}
 use lib.IntN.{pos}
-use lib.ListN.{length, getD, length-append, length-replicate}
+use lib.ListN.{length, getD}
 use Rattle.lists.specs.Choice.{_if_else_}
 use Rattle.lists.specs.Below.{someBelow, eachBelow, filled}
 use Rattle.lists.specs.Lists.{member}
@@ -16,15 +16,15 @@ use Rattle.rules.specs.Places.{same, inside, cellOf}
 use Rattle.rules.specs.State.{nobody}
 use Rattle.rules.specs.Image.{snakesIn, sideIn, foodStart, foodAt, snakeAt, stateOf}
 use Rattle.rules.specs.Facts.{Sound}
-use Rattle.rules.specs.Step.{Moved, Outcome, stays, movedOf, another, onBody, causeOf, outcomeOf, stepped}
+use Rattle.rules.specs.Step.{Moved, stays, movedOf, another, onBody, causeOf, outcomeOf, stepped}
 use Rattle.rules.specs.declared.Cause.{Cause}
 use Rattle.rules.specs.declared.Cause.the-variants.{NoCause, Wall, SelfBody, OppBody, HeadOn}
 use Rattle.rules.specs.declared.Setting.{Setting}
 use Rattle.step.specs.declared.Move.{Move}
 use Rattle.step.specs.declared.Judged.{Judged}
-use Rattle.step.specs.World.{still, shown, world, untouched, movesOf, causesOf, movedWorld, Judges}
+use Rattle.step.specs.World.{still, shown, world, untouched, movesOf, causesOf, judgedWorld, movedWorld, Judges}
 use Rattle.step.specs.Moving.{moveAt}
-use Rattle.step.specs.Judging.{Parts, underAt, judgedAt}
+use Rattle.step.specs.Judging.{Rests, underAt, judgedAt}
 use Rattle.step.proofs.Moving.{shown-move, move-part, move-short}
 
 -- ---- one cause
@@ -71,8 +71,8 @@ module _ (w acts : List ℕ) (s : Sound w) (all : List Move) (q : all ≡ filled
   pub short-at : (j : ℕ) → getD all j still .keep ≤ 1024
   short-at = inside-at (λ m. m .keep ≤ 1024) (omega arith) (λ i l. move-short w s i l (getD acts i 0))
 
-  pub all-parts : Parts w all
-  all-parts = record { fits = λ j. omega (arith, part-at j, s .total) }
+  pub all-rests : Rests w all
+  all-rests = record { fits = λ j. omega (arith, part-at j, s .total) }
 
   past-still : (j : ℕ) → snakesIn w ≤ j → getD all j still ≡ still
   past-still j l = all-at j ∙ each-past (snakesIn w) (moveAt w acts) still j l
@@ -101,10 +101,23 @@ module _ (w acts : List ℕ) (s : Sound w) (all : List Move) (q : all ≡ filled
     causes-at : (j : ℕ) → causesOf r j ≡ getD (eachBelow (snakesIn w) (causeOf (sideIn w) (snakesIn w) (world w all))) j NoCause
     causes-at j = ap (λ (z : Judged). z .cause) (judged-at j) ∙ each-map (λ (z : Judged). z .cause) (snakesIn w) (judgedAt w all (sideIn w) (snakesIn w)) untouched j
 
+    world-judged : judgedWorld w r ≡ world w all
+    world-judged = λ k j. shown w (moves-at j k)
+
     pub judges : Judges w acts r
     judges = record {
-      moved = λ k j. (ap (shown w) (moves-at j) ∙ world-at j) k;
-      causes = λ k j. (causes-at j ∙ ap (λ (m : ℕ → Moved). getD (eachBelow (snakesIn w) (causeOf (sideIn w) (snakesIn w) m)) j NoCause) world-is) k;
-      parts = λ j. rw (moves-at j) (part-at j);
+      moved = world-judged ∙ world-is;
+      causes = λ k j. (causes-at j ∙ ap (λ (m : ℕ → Moved). getD (eachBelow (snakesIn w) (causeOf (sideIn w) (snakesIn w) m)) j NoCause) (sym world-judged)) k;
+      parts = λ j. rw (moves-at j) (all-rests .fits j);
       short = λ j. rw (moves-at j) (short-at j);
     }
+
+-- ---- what the definition makes of a judged array
+
+pub stepped-by : (w acts : List ℕ) (r : List Judged) (s : Setting) → Judges w acts r
+    → stepped s (stateOf w) acts ≡ outcomeOf s (sideIn w) (snakesIn w) (foodAt w) (judgedWorld w r)
+unfolding stepped stateOf
+stepped-by w acts r s j =
+    let e = each-long (snakesIn w) (snakeAt w) in
+    (λ k. outcomeOf s (sideIn w) (e k) (foodAt w) (λ i. getD (eachBelow (e k) (movedOf (stateOf w) acts)) i (stays nobody)))
+    ∙ ap (outcomeOf s (sideIn w) (snakesIn w) (foodAt w)) (sym (j .moved))

@@ -12,7 +12,7 @@ use Rattle.step.specs.declared.Judged.{Judged}
 use Rattle.step.specs.World.{still, world}
 
 -- each rest is a part of the image
-pub record Parts (w : List ℕ) (all : List Move) : Type 0 where
+pub record Rests (w : List ℕ) (all : List Move) : Type 0 where
   pub fits : (j : ℕ) → getD all j still .start + getD all j still .keep ≤ length w
 
 -- snake j is another than i that moved: to the place of i; or it has the cell in the rest of its body

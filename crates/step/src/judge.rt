@@ -15,7 +15,7 @@ ghost use Rattle.rules.specs.Image.{snakesIn};
 ghost use Rattle.rules.specs.Facts.{Sound};
 ghost use Rattle.rules.specs.Step.{causeOf};
 ghost use Rattle.step.specs.World.{world, Judges};
-ghost use Rattle.step.specs.Judging.{Parts, meetsAt, underAt};
+ghost use Rattle.step.specs.Judging.{Rests, meetsAt, underAt};
 
 // Whether a part of the image holds the cell.
 pub fn part_holds(image: &[u16], start: usize, keep: usize, cell: u16) -> bool
@@ -51,7 +51,7 @@ fn head_on(all: [Move; 8], n: usize, i: usize) -> bool
 // Whether snake j is another than i that moved and has the cell in the rest of its body.
 fn under(image: &[u16], all: [Move; 8], i: usize, j: usize, cell: u16) -> bool
     requires { ⌜ (i < 8) × (j < 8) ⌝ }
-    requires { ⌜ Parts (now image) all ⌝ }
+    requires { ⌜ Rests (now image) all ⌝ }
     ensures { λ r. ⌜ r ≡ underAt (now (image .entry)) all i cell j ⌝ }
 {
     let you = all[j];
@@ -67,7 +67,7 @@ fn under(image: &[u16], all: [Move; 8], i: usize, j: usize, cell: u16) -> bool
 // Their heads are not asked: a head there is head-on.
 fn opposed(image: &[u16], all: [Move; 8], n: usize, i: usize, cell: u16) -> bool
     requires { ⌜ (n ≤ 8) × (i < 8) ⌝ }
-    requires { ⌜ Parts (now image) all ⌝ }
+    requires { ⌜ Rests (now image) all ⌝ }
     ensures { λ r. ⌜ r ≡ someBelow n (underAt (now (image .entry)) all i cell) ⌝ }
 {
     let mut j = 0;
@@ -82,7 +82,7 @@ fn opposed(image: &[u16], all: [Move; 8], n: usize, i: usize, cell: u16) -> bool
 
 fn cause_of(image: &[u16], all: [Move; 8], n: usize, g: u16, i: usize) -> Cause
     requires { ⌜ (n ≤ 8) × (i < 8) × (g ≤ 32) ⌝ }
-    requires { ⌜ Parts (now image) all ⌝ }
+    requires { ⌜ Rests (now image) all ⌝ }
     ensures { λ r. ⌜ r ≡ causeOf g n (world (now (image .entry)) all) i ⌝ }
 {
     let me = all[i];

@@ -1,32 +1,22 @@
-use Rattle.step.proofs.Judging.{cause-by, heads-apart}
-use Rattle.step.specs.Judging.{underAt}
-use Rattle.step.specs.World.{world}
-use Rattle.lists.specs.Lists.{member}
-use Rattle.lists.specs.Below.{someBelow}
-use borrow.Author.Tests.{not-true, not-false}
-use mathlib.Core.Path.{_≡_, refl, sym, ap, _∙_}
+use mathlib.Core.Path.{refl, sym, ap, _∙_}
 use Prim.Native.Nat.{ℕ}
+use borrow.Author.Tests.{not-true, not-false}
 use denote.Ref.{now}
 use borrow.Author.Needs.{needs}
+use Rattle.lists.specs.Lists.{member}
+use Rattle.lists.specs.Below.{someBelow}
+use Rattle.step.specs.Judging.{underAt}
+use Rattle.step.specs.World.{world}
+use Rattle.step.proofs.Judging.{cause-by, heads-apart}
 use Rattle.step.proofs.judge.cause_of.Statement.{statement}
 use Rattle.step.proofs.judge.cause_of.Tie as tie
-use Rattle.step.proofs.judge.cause_of.Reads as reads
-use Rattle.step.proofs.judge.cause_of.Lts as lts
-use Rattle.places.proofs.cell_of.Reads as cell-of-reads
-use Rattle.step.proofs.judge.head_on.Reads as head-on-reads
-use Rattle.step.proofs.judge.opposed.Reads as opposed-reads
-use Rattle.step.proofs.judge.part_holds.Reads as part-holds-reads
-use Rattle.step.proofs.moves.on_grid.Reads as on-grid-reads
 
--- src/judge.rt:88:14
 mul-me : tie.Need-mul-me
 mul-me c = search needs
 
--- src/judge.rt:88:14
 array-copy-out-me : tie.Need-array-copy-out-me
 array-copy-out-me c = search needs
 
--- src/judge.rt:91:9
 returns : tie.Need-returns
 returns c =
     let e1 = c in
@@ -34,11 +24,9 @@ returns c =
     let m = world (now (a .image)) (a .t2) in
     cause-by (a .g) (a .n) m (a .i) (not-true _ (c .if1 .taken)) refl refl refl refl
 
--- src/judge.rt:93:8
 head-on-requires : tie.Need-head-on-requires
 head-on-requires c κs = search needs
 
--- src/judge.rt:94:9
 returns-2 : tie.Need-returns-2
 returns-2 c =
     let e1 = c .before .before in
@@ -46,11 +34,9 @@ returns-2 c =
     let m = world (now (a .image)) (a .t2) in
     cause-by (a .g) (a .n) m (a .i) (not-false _ (e1 .if1 .left)) (sym (c .before .head-on .ensures) ∙ c .if2 .taken) refl refl refl
 
--- src/judge.rt:96:9
 on-grid-requires : tie.Need-on-grid-requires
 on-grid-requires c κs = search needs
 
--- src/judge.rt:97:9
 returns-3 : tie.Need-returns-3
 returns-3 c =
     let e2 = c .before .before in
@@ -59,15 +45,12 @@ returns-3 c =
     let m = world (now (a .image)) (a .t2) in
     cause-by (a .g) (a .n) m (a .i) (not-false _ (e1 .if1 .left)) (sym (e2 .before .head-on .ensures) ∙ e2 .if2 .left) (sym (c .before .on-grid .ensures) ∙ not-true _ (c .if3 .taken)) refl refl
 
--- src/judge.rt:99:9
 cell-of-requires : tie.Need-cell-of-requires
 cell-of-requires c κs = search needs
 
--- src/judge.rt:100:8
 part-holds-requires : tie.Need-part-holds-requires
 part-holds-requires c κs = let s = c .before .before .before .before .before .before .before .before .before .before in s .pre .1 .fits (s .args .i)
 
--- src/judge.rt:101:9
 returns-4 : tie.Need-returns-4
 returns-4 c =
     let k = c .before .before in
@@ -79,11 +62,9 @@ returns-4 c =
     cause-by (a .g) (a .n) m (a .i) (not-false _ (e1 .if1 .left)) (sym (e2 .before .head-on .ensures) ∙ e2 .if2 .left) (sym (e3 .before .on-grid .ensures) ∙ not-false _ (e3 .if3 .left))
     (ap (λ (x : ℕ). member x (m (a .i) .rest)) (sym (k .cell-of .ensures)) ∙ sym (c .before .part-holds .ensures) ∙ c .if4 .taken) refl
 
--- src/judge.rt:103:8
 opposed-requires : tie.Need-opposed-requires
 opposed-requires c κs = search needs
 
--- src/judge.rt:104:9
 returns-5 : tie.Need-returns-5
 returns-5 c =
     let e4 = c .before .before in
@@ -98,7 +79,6 @@ returns-5 c =
     (ap (λ (x : ℕ). member x (m (a .i) .rest)) (sym (k .cell-of .ensures)) ∙ sym (e4 .before .part-holds .ensures) ∙ e4 .if4 .left)
     (heads-apart (a .g) (a .n) m (a .i) h ∙ ap (λ (x : ℕ). someBelow (a .n) (underAt (now (a .image)) (a .t2) (a .i) x)) (sym (k .cell-of .ensures)) ∙ sym (c .before .opposed .ensures) ∙ c .if5 .taken)
 
--- src/judge.rt:83:1
 returns-6 : tie.Need-returns-6
 returns-6 c =
     let e4 = c .before .before in

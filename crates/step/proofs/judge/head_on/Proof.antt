@@ -1,15 +1,12 @@
-use Rattle.step.specs.Judging.{meetsAt}
-use Rattle.lists.proofs.Below.{some-none, some-next}
-use Rattle.lists.specs.Below.{someBelow}
 use mathlib.Core.Bool.{_||_}
 use mathlib.Core.Path.{_≡_, sym, ap, ap₂, _∙_}
 use Prim.Native.Nat.{ℕ, _-_, _≤_}
 use native.Mathlib.Omega.{arith}
+use Rattle.lists.proofs.Below.{some-none, some-next}
+use Rattle.lists.specs.Below.{someBelow}
+use Rattle.step.specs.Judging.{meetsAt}
 use Rattle.step.proofs.judge.head_on.Statement.{statement}
 use Rattle.step.proofs.judge.head_on.Tie as tie
-use Rattle.step.proofs.judge.head_on.Reads as reads
-use Rattle.step.proofs.judge.head_on.Lts as lts
-use Rattle.step.proofs.judge.meets.Reads as meets-reads
 
 abbrev Inv-loop : tie.InvT-loop
 Inv-loop all n i found₀ j₀ found j = (j ≤ n) × (found ≡ someBelow j (meetsAt all i))
@@ -17,30 +14,24 @@ Inv-loop all n i found₀ j₀ found j = (j ≤ n) × (found ≡ someBelow j (me
 abbrev μ-loop : tie.MeasureT-loop
 μ-loop all n i found₀ j₀ found j = n - j
 
--- src/judge.rt:35:5
 loop-holds : tie.Need-loop-holds Inv-loop μ-loop
 loop-holds c = (omega arith, sym (some-none (meetsAt (c .args .all) (c .args .i))))
 
--- src/judge.rt:36:25
 meets-requires : tie.Need-meets-requires Inv-loop μ-loop
 meets-requires c κs = omega arith
 
--- src/judge.rt:37:9
 add-j : tie.Need-add-j Inv-loop μ-loop
 add-j c = omega arith
 
--- src/judge.rt:35:5
 loop-less : tie.Need-loop-less Inv-loop μ-loop
 loop-less c = omega arith
 
--- src/judge.rt:35:5
 loop-again : tie.Need-loop-again Inv-loop μ-loop
 loop-again c =
     let a = c .before .before .before .args in
     let l = c .before .before .loop in
     (omega arith, ap₂ _||_ (l .inv .1) (c .meets .ensures) ∙ sym (some-next (meetsAt (a .all) (a .i)) (l .j)))
 
--- src/judge.rt:29:1
 returns : tie.Need-returns Inv-loop μ-loop
 returns c =
     let a = c .before .before .args in

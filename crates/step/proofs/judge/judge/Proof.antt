@@ -1,23 +1,19 @@
-use Rattle.step.proofs.Judging.{all-parts, judges}
-use Rattle.step.specs.Judging.{judgedAt}
-use Rattle.step.specs.World.{still, untouched}
-use Rattle.step.specs.declared.Judged.{Judged}
+use mathlib.Core.List.{List}
+use mathlib.Core.Path.{_≡_, ap₂, _∙_}
+use Prim.Native.Nat.{ℕ, _-_, _≤_}
+use native.Mathlib.Omega.{arith}
+use lib.ListN.{length, getD, set}
+use denote.Ref.{now}
 use Rattle.rules.specs.declared.Cause.{Cause}
 use Rattle.rules.specs.Image.{snakesIn, sideIn}
 use Rattle.lists.proofs.Below.{filled-none, filled-more}
 use Rattle.lists.specs.Below.{filled}
-use lib.ListN.{length, getD, set}
-use mathlib.Core.List.{List}
-use mathlib.Core.Path.{_≡_, ap₂, _∙_}
-use Prim.Native.Nat.{ℕ, _-_, _≤_}
-use denote.Ref.{now}
-use native.Mathlib.Omega.{arith}
+use Rattle.step.specs.Judging.{judgedAt}
+use Rattle.step.specs.World.{still, untouched}
+use Rattle.step.specs.declared.Judged.{Judged}
+use Rattle.step.proofs.Judging.{all-rests, judges}
 use Rattle.step.proofs.judge.judge.Statement.{statement}
 use Rattle.step.proofs.judge.judge.Tie as tie
-use Rattle.step.proofs.judge.judge.Reads as reads
-use Rattle.step.proofs.judge.judge.Lts as lts
-use Rattle.step.proofs.judge.cause_of.Reads as cause-of-reads
-use Rattle.step.proofs.moves.move_all.Reads as move-all-reads
 
 abbrev Inv-loop : tie.InvT-loop
 Inv-loop image actions moves g n all₀ i₀ all i = (i ≤ n) × (all ≡ filled (judgedAt image moves g n) i 8 untouched)
@@ -25,53 +21,42 @@ Inv-loop image actions moves g n all₀ i₀ all i = (i ≤ n) × (all ≡ fille
 abbrev μ-loop : tie.MeasureT-loop
 μ-loop image actions moves g n all₀ i₀ all i = n - i
 
--- src/judge.rt:110:17
 move-all-requires : tie.Need-move-all-requires Inv-loop μ-loop
 move-all-requires c κs = c .before .before .pre
 
--- src/judge.rt:111:13
 shared-slice-read-g : tie.Need-shared-slice-read-g Inv-loop μ-loop
 shared-slice-read-g c = omega (arith, c .before .before .before .before .pre .0 .five)
 
--- src/judge.rt:125:5
 loop-holds : tie.Need-loop-holds Inv-loop μ-loop
 loop-holds c =
     let a = c .before .before .before .before .args in
     let w = now (a .image) in
     (omega arith, filled-none (judgedAt w (c .before .move-all .result) (sideIn w) (length (now (a .actions)))) 8 untouched)
 
--- src/judge.rt:126:21
 mul-moved : tie.Need-mul-moved Inv-loop μ-loop
 mul-moved c = omega (arith, c .before .before .before .before .before .before .pre .0 .snakes-max, c .before .before .before .before .before .before .pre .1)
 
--- src/judge.rt:126:21
 array-copy-out-moved : tie.Need-array-copy-out-moved Inv-loop μ-loop
 array-copy-out-moved c = omega (arith, c .before .before .before .before .before .before .pre .0 .snakes-max, c .before .before .before .before .before .before .pre .1)
 
--- src/judge.rt:129:20
 cause-of-requires : tie.Need-cause-of-requires Inv-loop μ-loop
 cause-of-requires c κs =
     let v = c .before .before .before .before in
     let s = v .before .before .before in
-    ((omega (arith, s .pre .0 .snakes-max, s .pre .1), omega (arith, s .pre .0 .snakes-max, s .pre .1), s .pre .0 .side-max), all-parts (now (s .args .image)) (now (s .args .actions)) (s .pre .0) (v .move-all .result) (v .move-all .ensures))
+    ((omega (arith, s .pre .0 .snakes-max, s .pre .1), omega (arith, s .pre .0 .snakes-max, s .pre .1), s .pre .0 .side-max), all-rests (now (s .args .image)) (now (s .args .actions)) (s .pre .0) (v .move-all .result) (v .move-all .ensures))
 
--- src/judge.rt:127:9
 mul-all : tie.Need-mul-all Inv-loop μ-loop
 mul-all c = omega (arith, c .before .before .before .before .before .before .before .before .pre .0 .snakes-max, c .before .before .before .before .before .before .before .before .pre .1)
 
--- src/judge.rt:127:9
 array-set-from-all : tie.Need-array-set-from-all Inv-loop μ-loop
 array-set-from-all c = omega (arith, c .before .before .before .before .before .before .before .before .pre .0 .snakes-max, c .before .before .before .before .before .before .before .before .pre .1)
 
--- src/judge.rt:131:9
 add-i : tie.Need-add-i Inv-loop μ-loop
 add-i c = omega arith
 
--- src/judge.rt:125:5
 loop-less : tie.Need-loop-less Inv-loop μ-loop
 loop-less c = omega arith
 
--- src/judge.rt:125:5
 loop-again : tie.Need-loop-again Inv-loop μ-loop
 loop-again c =
     let v = c .before .before .before .before .before in
@@ -81,7 +66,6 @@ loop-again c =
     let f = judgedAt w (v .move-all .result) (sideIn w) (length (now (s .args .actions))) in
     (omega arith, ap₂ (λ (xs : List Judged) (x : Cause). set xs (l .i) (record { moved = getD (v .move-all .result) (l .i) still; cause = x })) (l .inv .1) (c .cause-of .ensures) ∙ filled-more f (l .i) 8 untouched (omega (arith, s .pre .0 .snakes-max, s .pre .1)))
 
--- src/judge.rt:105:1
 returns : tie.Need-returns Inv-loop μ-loop
 returns c =
     let v = c .before .before .before in

@@ -1,16 +1,13 @@
-use Rattle.step.specs.Judging.{underAt}
-use Rattle.lists.proofs.Below.{some-none, some-next, some-found}
-use Rattle.lists.specs.Below.{someBelow}
 use mathlib.Core.Bool.{false, _||_}
 use mathlib.Core.Path.{_≡_, sym, ap, ap₂, _∙_}
 use Prim.Native.Nat.{ℕ, _-_, _≤_}
-use denote.Ref.{now}
 use native.Mathlib.Omega.{arith}
+use denote.Ref.{now}
+use Rattle.lists.proofs.Below.{some-none, some-next, some-found}
+use Rattle.lists.specs.Below.{someBelow}
+use Rattle.step.specs.Judging.{underAt}
 use Rattle.step.proofs.judge.opposed.Statement.{statement}
 use Rattle.step.proofs.judge.opposed.Tie as tie
-use Rattle.step.proofs.judge.opposed.Reads as reads
-use Rattle.step.proofs.judge.opposed.Lts as lts
-use Rattle.step.proofs.judge.under.Reads as under-reads
 
 abbrev Inv-loop : tie.InvT-loop
 Inv-loop image all n i cell j₀ j = (j ≤ n) × (someBelow j (underAt image all i cell) ≡ false)
@@ -18,37 +15,30 @@ Inv-loop image all n i cell j₀ j = (j ≤ n) × (someBelow j (underAt image al
 abbrev μ-loop : tie.MeasureT-loop
 μ-loop image all n i cell j₀ j = n - j
 
--- src/judge.rt:67:5
 loop-holds : tie.Need-loop-holds Inv-loop μ-loop
 loop-holds c = let a = c .before .args in (omega arith, some-none (underAt (now (a .image)) (a .all) (a .i) (a .cell)))
 
--- src/judge.rt:68:12
 under-requires : tie.Need-under-requires Inv-loop μ-loop
 under-requires c κs = (omega arith, c .before .before .before .pre .1)
 
--- src/judge.rt:69:13
 returns : tie.Need-returns Inv-loop μ-loop
 returns c =
     let l = c .before .before .before in
     let a = l .before .before .args in
     sym (some-found (underAt (now (a .image)) (a .all) (a .i) (a .cell)) (a .n) (l .loop .j) (c .before .before .loop-test .taken) (sym (c .before .under .ensures) ∙ c .if1 .taken))
 
--- src/judge.rt:71:9
 add-j : tie.Need-add-j Inv-loop μ-loop
 add-j c = omega arith
 
--- src/judge.rt:67:5
 loop-less : tie.Need-loop-less Inv-loop μ-loop
 loop-less c = omega arith
 
--- src/judge.rt:67:5
 loop-again : tie.Need-loop-again Inv-loop μ-loop
 loop-again c =
     let l = c .before .before .before in
     let a = l .before .before .args in
     (omega arith, some-next (underAt (now (a .image)) (a .all) (a .i) (a .cell)) (l .loop .j) ∙ ap₂ _||_ (l .loop .inv .1) (sym (c .before .under .ensures) ∙ c .if1 .left))
 
--- src/judge.rt:61:1
 returns-2 : tie.Need-returns-2 Inv-loop μ-loop
 returns-2 c =
     let a = c .before .before .before .args in

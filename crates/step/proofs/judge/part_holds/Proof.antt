@@ -1,39 +1,29 @@
-use Rattle.lists.proofs.Lists.{part-is}
-use Rattle.lists.specs.Lists.{member}
 use mathlib.Core.Path.{ap, _∙_}
 use denote.Ref.{now}
 use borrow.Author.Needs.{needs}
+use Rattle.lists.proofs.Lists.{part-is}
+use Rattle.lists.specs.Lists.{member}
 use Rattle.step.proofs.judge.part_holds.Statement.{statement}
 use Rattle.step.proofs.judge.part_holds.Tie as tie
-use Rattle.step.proofs.judge.part_holds.Reads as reads
-use Rattle.step.proofs.judge.part_holds.Lts as lts
-use Rattle.lists.proofs.holds.Reads as holds-reads
 
--- src/judge.rt:25:32
 add-holds : tie.Need-add-holds
 add-holds c = search needs
 
--- src/judge.rt:25:18
 mul-holds : tie.Need-mul-holds
 mul-holds c = search needs
 
--- src/judge.rt:25:18
 sub-holds : tie.Need-sub-holds
 sub-holds c = search needs
 
--- src/judge.rt:25:18
 part-holds-start : tie.Need-part-holds-start
 part-holds-start c = search needs
 
--- src/judge.rt:25:18
 part-holds-end : tie.Need-part-holds-end
 part-holds-end c = search needs
 
--- src/judge.rt:25:5
 holds-requires : tie.Need-holds-requires
 holds-requires c κs = search needs
 
--- src/judge.rt:21:1
 returns : tie.Need-returns
 returns c =
     let a = c .before .before .before .args in

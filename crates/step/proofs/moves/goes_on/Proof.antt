@@ -1,46 +1,34 @@
 use native.Mathlib.Omega.{arith}
-use Rattle.step.proofs.Moving.{near-cell, goes-by}
+use mathlib.Core.Path.{sym, ap, _∙_}
+use denote.Ref.{now}
+use borrow.Author.Needs.{needs}
 use Rattle.rules.specs.Image.{word, sideIn}
 use Rattle.rules.specs.Places.{ahead}
-use denote.Ref.{now}
-use mathlib.Core.Path.{sym, ap, _∙_}
-use borrow.Author.Needs.{needs}
+use Rattle.step.proofs.Moving.{near-cell, goes-by}
 use Rattle.step.proofs.moves.goes_on.Statement.{statement}
 use Rattle.step.proofs.moves.goes_on.Tie as tie
-use Rattle.step.proofs.moves.goes_on.Reads as reads
-use Rattle.step.proofs.moves.goes_on.Lts as lts
-use Rattle.places.proofs.ahead.Reads as ahead-reads
-use Rattle.places.proofs.place_of.Reads as place-of-reads
-use Rattle.step.proofs.moves.on_food.Reads as on-food-reads
 
--- src/moves.rt:67:56
 shared-slice-read-place-of : tie.Need-shared-slice-read-place-of
 shared-slice-read-place-of c = search needs
 
--- src/moves.rt:67:66
 mul-place-of : tie.Need-mul-place-of
 mul-place-of c = search needs
 
--- src/moves.rt:67:66
 shared-slice-read-place-of-2 : tie.Need-shared-slice-read-place-of-2
 shared-slice-read-place-of-2 c = search needs
 
--- src/moves.rt:67:39
 place-of-requires : tie.Need-place-of-requires
 place-of-requires c κs = search needs
 
--- src/moves.rt:67:9
 ahead-requires : tie.Need-ahead-requires
 ahead-requires c κs =
     let a = c .before .before .before .before .args in
     let w = now (a .image) in
     rw (c .place-of .ensures) (near-cell (sideIn w) (word w (a .start)) (omega (arith, c .before .shared-slice-known3 .given (a .start))))
 
--- src/moves.rt:68:8
 on-food-requires : tie.Need-on-food-requires
 on-food-requires c κs = search needs
 
--- src/moves.rt:69:9
 returns : tie.Need-returns
 returns c =
     let p = c .before .before in
@@ -48,11 +36,9 @@ returns c =
     let w = now (a .image) in
     goes-by w (a .start) (a .len) (a .heading) (p .ahead .result) (p .ahead .ensures ∙ ap (ahead (a .heading)) (p .before .place-of .ensures)) (sym (c .before .on-food .ensures) ∙ c .if1 .taken)
 
--- src/moves.rt:83:15
 sub-t9 : tie.Need-sub-t9
 sub-t9 c = search needs
 
--- src/moves.rt:62:1
 returns-2 : tie.Need-returns-2
 returns-2 c =
     let p = c .before .before in

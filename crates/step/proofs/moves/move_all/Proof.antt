@@ -1,20 +1,17 @@
-use Rattle.step.specs.Moving.{moveAt}
-use Rattle.step.specs.World.{still}
-use Rattle.step.specs.declared.Move.{Move}
-use Rattle.rules.specs.Image.{snakesIn}
-use Rattle.lists.proofs.Below.{filled-none, filled-more}
-use Rattle.lists.specs.Below.{filled}
-use lib.ListN.{length, set}
 use mathlib.Core.List.{List}
 use mathlib.Core.Path.{_≡_, ap, ap₂, _∙_}
 use Prim.Native.Nat.{ℕ, _-_, _≤_}
-use denote.Ref.{now}
 use native.Mathlib.Omega.{arith}
+use lib.ListN.{length, set}
+use denote.Ref.{now}
+use Rattle.rules.specs.Image.{snakesIn}
+use Rattle.lists.proofs.Below.{filled-none, filled-more}
+use Rattle.lists.specs.Below.{filled}
+use Rattle.step.specs.Moving.{moveAt}
+use Rattle.step.specs.World.{still}
+use Rattle.step.specs.declared.Move.{Move}
 use Rattle.step.proofs.moves.move_all.Statement.{statement}
 use Rattle.step.proofs.moves.move_all.Tie as tie
-use Rattle.step.proofs.moves.move_all.Reads as reads
-use Rattle.step.proofs.moves.move_all.Lts as lts
-use Rattle.step.proofs.moves.moved.Reads as moved-reads
 
 abbrev Inv-loop : tie.InvT-loop
 Inv-loop image actions all₀ i₀ all i = (i ≤ length actions) × (all ≡ filled (moveAt image actions) i 8 still)
@@ -22,39 +19,30 @@ Inv-loop image actions all₀ i₀ all i = (i ≤ length actions) × (all ≡ fi
 abbrev μ-loop : tie.MeasureT-loop
 μ-loop image actions all₀ i₀ all i = length actions - i
 
--- src/moves.rt:123:5
 loop-holds : tie.Need-loop-holds Inv-loop μ-loop
 loop-holds c = let a = c .before .before .args in (omega arith, filled-none (moveAt (now (a .image)) (now (a .actions))) 8 still)
 
--- src/moves.rt:124:34
 mul-moved : tie.Need-mul-moved Inv-loop μ-loop
 mul-moved c = omega (arith, c .before .before .before .before .pre .0 .snakes-max, c .before .before .before .before .pre .1)
 
--- src/moves.rt:124:34
 shared-slice-read-moved : tie.Need-shared-slice-read-moved Inv-loop μ-loop
 shared-slice-read-moved c = omega arith
 
--- src/moves.rt:124:18
 moved-requires : tie.Need-moved-requires Inv-loop μ-loop
 moved-requires c κs = let s = c .before .before .before .before .before in (s .pre .0, omega (arith, s .pre .1))
 
--- src/moves.rt:124:9
 mul-all : tie.Need-mul-all Inv-loop μ-loop
 mul-all c = omega (arith, c .before .before .before .before .before .before .pre .0 .snakes-max, c .before .before .before .before .before .before .pre .1)
 
--- src/moves.rt:124:9
 array-set-from-all : tie.Need-array-set-from-all Inv-loop μ-loop
 array-set-from-all c = omega (arith, c .before .before .before .before .before .before .pre .0 .snakes-max, c .before .before .before .before .before .before .pre .1)
 
--- src/moves.rt:125:9
 add-i : tie.Need-add-i Inv-loop μ-loop
 add-i c = omega arith
 
--- src/moves.rt:123:5
 loop-less : tie.Need-loop-less Inv-loop μ-loop
 loop-less c = omega arith
 
--- src/moves.rt:123:5
 loop-again : tie.Need-loop-again Inv-loop μ-loop
 loop-again c =
     let s = c .before .before .before .before .before .before in
@@ -62,7 +50,6 @@ loop-again c =
     let f = moveAt (now (s .args .image)) (now (s .args .actions)) in
     (omega arith, ap₂ (λ (xs : List Move) (x : Move). set xs (l .i) x) (l .inv .1) (c .moved .ensures) ∙ filled-more f (l .i) 8 still (omega (arith, s .pre .0 .snakes-max, s .pre .1)))
 
--- src/moves.rt:109:1
 returns : tie.Need-returns Inv-loop μ-loop
 returns c =
     let s = c .before .before .before .before in

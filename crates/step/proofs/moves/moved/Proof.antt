@@ -1,32 +1,23 @@
-use Rattle.step.proofs.Moving.{body-room, move-by}
-use Rattle.step.specs.Moving.{going}
-use denote.Ref.{now}
 use mathlib.Core.Path.{ap, _∙_}
+use denote.Ref.{now}
 use borrow.Author.Needs.{needs}
+use Rattle.step.specs.Moving.{going}
+use Rattle.step.proofs.Moving.{body-room, move-by}
 use Rattle.step.proofs.moves.moved.Statement.{statement}
 use Rattle.step.proofs.moves.moved.Tie as tie
-use Rattle.step.proofs.moves.moved.Reads as reads
-use Rattle.step.proofs.moves.moved.Lts as lts
-use Rattle.image.proofs.record_at.Reads as record-at-reads
-use Rattle.step.proofs.moves.goes_on.Reads as goes-on-reads
-use Rattle.step.proofs.moves.turned_by.Reads as turned-by-reads
 
--- src/moves.rt:94:9
 record-at-requires : tie.Need-record-at-requires
 record-at-requires c κs = search needs
 
--- src/moves.rt:97:55
 turned-by-requires : tie.Need-turned-by-requires
 turned-by-requires c κs = search needs
 
--- src/moves.rt:97:9
 goes-on-requires : tie.Need-goes-on-requires
 goes-on-requires c κs =
     let z = c .before .before in
     let s = z .before .before in
     (s .pre .0, body-room (now (s .args .image)) (s .args .i) (z .record-at .result) (z .record-at .ensures) (s .pre .0) (s .pre .1) (c .before .if1 .taken))
 
--- src/moves.rt:97:9
 returns : tie.Need-returns
 returns c =
     let z = c .before .before .before in
@@ -37,7 +28,6 @@ returns c =
     ∙ ap (going w (r .start) (r .len)) (c .before .turned-by .ensures)
     ∙ move-by w (a .i) r (z .record-at .ensures) (a .action) (c .before .before .if1 .taken)
 
--- src/moves.rt:89:1
 returns-2 : tie.Need-returns-2
 returns-2 c =
     let z = c .before in

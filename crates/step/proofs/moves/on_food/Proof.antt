@@ -1,73 +1,55 @@
-use Rattle.step.proofs.Moving.{food-off, food-on, food-from}
-use Rattle.rules.specs.Image.{sideIn, foodCountIn, foodAt}
-use Rattle.lists.proofs.Lists.{rest-is}
-use Rattle.lists.specs.Lists.{member}
+use Prim.Native.Nat.{ℕ, _-_}
+use mathlib.Core.Path.{sym, ap, ap₂, _∙_}
 use borrow.Author.Tests.{not-true, not-false}
 use lib.ListN.{length, drop}
 use denote.Ref.{now}
-use Prim.Native.Nat.{ℕ, _-_}
-use mathlib.Core.Path.{sym, ap, ap₂, _∙_}
 use borrow.Author.Needs.{needs}
+use Rattle.rules.specs.Image.{sideIn, foodCountIn, foodAt}
+use Rattle.lists.proofs.Lists.{rest-is}
+use Rattle.lists.specs.Lists.{member}
+use Rattle.step.proofs.Moving.{food-off, food-on, food-from}
 use Rattle.step.proofs.moves.on_food.Statement.{statement}
 use Rattle.step.proofs.moves.on_food.Tie as tie
-use Rattle.step.proofs.moves.on_food.Reads as reads
-use Rattle.step.proofs.moves.on_food.Lts as lts
-use Rattle.lists.proofs.holds.Reads as holds-reads
-use Rattle.places.proofs.cell_of.Reads as cell-of-reads
-use Rattle.step.proofs.moves.on_grid.Reads as on-grid-reads
 
--- src/moves.rt:52:13
 shared-slice-read-g : tie.Need-shared-slice-read-g
 shared-slice-read-g c = search needs
 
--- src/moves.rt:53:9
 on-grid-requires : tie.Need-on-grid-requires
 on-grid-requires c κs = search needs
 
--- src/moves.rt:54:9
 returns : tie.Need-returns
 returns c =
     let a = c .before .before .before .before .args in
     let w = now (a .image) in
     food-off (sideIn w) (foodAt w) (a .p) (sym (c .before .on-grid .ensures) ∙ not-true _ (c .if1 .taken))
 
--- src/moves.rt:56:9
 cell-of-requires : tie.Need-cell-of-requires
 cell-of-requires c κs = search needs
 
--- src/moves.rt:57:30
 shared-slice-read-from : tie.Need-shared-slice-read-from
 shared-slice-read-from c = search needs
 
--- src/moves.rt:57:30
 cast-from : tie.Need-cast-from
 cast-from c = search needs
 
--- src/moves.rt:57:16
 sub-from : tie.Need-sub-from
 sub-from c = search needs
 
--- src/moves.rt:58:18
 mul-holds : tie.Need-mul-holds
 mul-holds c = search needs
 
--- src/moves.rt:58:18
 sub-holds : tie.Need-sub-holds
 sub-holds c = search needs
 
--- src/moves.rt:58:18
 part-holds-start : tie.Need-part-holds-start
 part-holds-start c = search needs
 
--- src/moves.rt:58:18
 part-holds-end : tie.Need-part-holds-end
 part-holds-end c = search needs
 
--- src/moves.rt:58:5
 holds-requires : tie.Need-holds-requires
 holds-requires c κs = search needs
 
--- src/moves.rt:48:1
 returns-2 : tie.Need-returns-2
 returns-2 c =
     let e = c .before .before .before .before in

@@ -1,31 +1,22 @@
-use Rattle.step.proofs.Moving.{acts-right}
-use Rattle.rules.specs.Headings.{turned}
 use mathlib.Core.Path.{sym, ap, _∙_}
 use borrow.Author.Needs.{needs}
+use Rattle.rules.specs.Headings.{turned}
+use Rattle.step.proofs.Moving.{acts-right}
 use Rattle.step.proofs.moves.turned_by.Statement.{statement}
 use Rattle.step.proofs.moves.turned_by.Tie as tie
-use Rattle.step.proofs.moves.turned_by.Reads as reads
-use Rattle.step.proofs.moves.turned_by.Lts as lts
-use Rattle.step.proofs.moves.clockwise.Reads as clockwise-reads
-use Rattle.step.proofs.moves.counterclockwise.Reads as counterclockwise-reads
 
--- src/moves.rt:47:9
 returns : tie.Need-returns
 returns c = search needs
 
--- src/moves.rt:50:9
 counterclockwise-requires : tie.Need-counterclockwise-requires
 counterclockwise-requires c κs = search needs
 
--- src/moves.rt:50:9
 returns-2 : tie.Need-returns-2
 returns-2 c = search needs
 
--- src/moves.rt:52:5
 clockwise-requires : tie.Need-clockwise-requires
 clockwise-requires c κs = search needs
 
--- src/moves.rt:43:1
 returns-3 : tie.Need-returns-3
 returns-3 c =
     let a = c .before .before .before .args in
