@@ -4,3 +4,4 @@ pub mod Lists
 pub mod Writes
 pub mod Search
 pub mod Signs
+pub mod Missing

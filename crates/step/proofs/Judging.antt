@@ -2,19 +2,20 @@
 use Prim.Native.Nat.{ℕ, zero, suc, _+_, _-_, _*_, _<_, _≤_}
 use native.Mathlib.Omega.{arith}
 use mathlib.Core.Path.{_≡_, refl, sym, ap, ap₂, _∙_}
-use mathlib.Core.Bool.{Bool, true, false, not, _&&_, _||_}
+use mathlib.Core.Bool.{Bool, true, false, not, _&&_, _||_, and-false}
 use mathlib.Core.List.{List}
 use lib.Dec.{eqb}
 use lib.IntN.{pos}
-use lib.ListN.{length, getD}
+use lib.ListN.{length, getD, drop}
 use Rattle.lists.specs.Choice.{_if_else_}
 use Rattle.lists.specs.Below.{someBelow, eachBelow, filled}
 use Rattle.lists.specs.Lists.{member}
+use Rattle.lists.proofs.Missing.{missing-part}
 use Rattle.lists.proofs.Tests.{ordered, less, more}
-use Rattle.lists.proofs.Below.{some-ext, some-never, each-long, each-at, each-past, each-ext, each-map, filled-is}
+use Rattle.lists.proofs.Below.{some-ext, some-never, some-false, each-long, each-at, each-past, each-ext, each-map, filled-is}
 use Rattle.rules.specs.Places.{same, inside, cellOf}
 use Rattle.rules.specs.State.{nobody}
-use Rattle.rules.specs.Image.{snakesIn, sideIn, foodStart, foodAt, snakeAt, stateOf}
+use Rattle.rules.specs.Image.{front, snakesIn, sideIn, foodStart, foodAt, snakeAt, stateOf}
 use Rattle.rules.specs.Facts.{Sound}
 use Rattle.rules.specs.Step.{Moved, stays, movedOf, another, onBody, causeOf, outcomeOf, stepped}
 use Rattle.rules.specs.declared.Cause.{Cause}
@@ -24,8 +25,8 @@ use Rattle.step.specs.declared.Move.{Move}
 use Rattle.step.specs.declared.Judged.{Judged}
 use Rattle.step.specs.World.{still, shown, world, untouched, movesOf, causesOf, judgedWorld, movedWorld, Judges}
 use Rattle.step.specs.Moving.{moveAt}
-use Rattle.step.specs.Judging.{Rests, underAt, judgedAt}
-use Rattle.step.proofs.Moving.{shown-move, move-part, move-short}
+use Rattle.step.specs.Judging.{Rests, underBy, underAt, bodyCause, judgedAt}
+use Rattle.step.proofs.Moving.{shown-move, move-part, move-start, move-short}
 
 -- ---- one cause
 
@@ -51,9 +52,18 @@ module _ (g n : ℕ) (m : ℕ → Moved) (i : ℕ) where
 
 -- ---- the array of moves
 
-pub under-by : (w : List ℕ) (all : List Move) (i cell j : ℕ) {a b : Bool} → eqb i j ≡ a → getD all j still .moves ≡ b
-    → (not a && b && member cell (world w all j .rest)) ≡ underAt w all i cell j
-under-by w all i cell j p q = sym (λ k. not (p k) && q k && member cell (world w all j .rest))
+pub under-by : (w : List ℕ) (i j : ℕ) (m : Move) (cell : ℕ) {a b : Bool} → eqb i j ≡ a → m .moves ≡ b → (not a && b && member cell (shown w m .rest)) ≡ underBy w i j m cell
+under-by w i j m cell p q = sym (λ k. not (p k) && q k && member cell (shown w m .rest))
+
+module _ (w : List ℕ) (all : List Move) (i cell : ℕ) where
+  pub body-by : (n : ℕ) {d e : Bool} → member cell (world w all i .rest) ≡ d → someBelow n (underAt w all i cell) ≡ e
+      → (SelfBody if d else OppBody if e else NoCause) ≡ bodyCause w all n i cell
+  body-by n p q = sym (λ k. SelfBody if p k else OppBody if q k else NoCause)
+
+  -- the cell is on no body at all
+  pub body-none : Rests w all → (n : ℕ) → member cell (drop (front (snakesIn w)) w) ≡ false → NoCause ≡ bodyCause w all n i cell
+  body-none r n e = body-by n (r .clear i cell e)
+      (some-false (underAt w all i cell) n (λ j l. ap (λ (b : Bool). not (eqb i j) && getD all j still .moves && b) (r .clear j cell e) ∙ and-false (not (eqb i j) && getD all j still .moves)))
 
 module _ (w acts : List ℕ) (s : Sound w) (all : List Move) (q : all ≡ filled (moveAt w acts) (snakesIn w) 8 still) where
   all-at : (j : ℕ) → getD all j still ≡ getD (eachBelow (snakesIn w) (moveAt w acts)) j still
@@ -71,8 +81,12 @@ module _ (w acts : List ℕ) (s : Sound w) (all : List Move) (q : all ≡ filled
   pub short-at : (j : ℕ) → getD all j still .keep ≤ 1024
   short-at = inside-at (λ m. m .keep ≤ 1024) (omega arith) (λ i l. move-short w s i l (getD acts i 0))
 
+  clear-at : (x : ℕ) → member x (drop (front (snakesIn w)) w) ≡ false → (j : ℕ) → member x (shown w (getD all j still) .rest) ≡ false
+  unfolding member
+  clear-at x e = inside-at (λ m. member x (shown w m .rest) ≡ false) refl (λ i l. missing-part x w (front (snakesIn w)) (moveAt w acts i .start) (moveAt w acts i .keep) (move-start w s i l (getD acts i 0)) e)
+
   pub all-rests : Rests w all
-  all-rests = record { fits = λ j. omega (arith, part-at j, s .total) }
+  all-rests = record { fits = λ j. omega (arith, part-at j, s .total); clear = λ j x e. clear-at x e j }
 
   past-still : (j : ℕ) → snakesIn w ≤ j → getD all j still ≡ still
   past-still j l = all-at j ∙ each-past (snakesIn w) (moveAt w acts) still j l
@@ -88,18 +102,18 @@ module _ (w acts : List ℕ) (s : Sound w) (all : List Move) (q : all ≡ filled
 
   -- ---- the judged array
 
-  module _ (r : List Judged) (e : r ≡ filled (judgedAt w all (sideIn w) (snakesIn w)) (snakesIn w) 8 untouched) where
-    judged-at : (j : ℕ) → getD r j untouched ≡ getD (eachBelow (snakesIn w) (judgedAt w all (sideIn w) (snakesIn w))) j untouched
-    judged-at j = ap (λ (l : List Judged). getD l j untouched) e ∙ filled-is (judgedAt w all (sideIn w) (snakesIn w)) (snakesIn w) 8 untouched j
+  module _ (r : List Judged) (e : r ≡ filled (judgedAt w all (snakesIn w)) (snakesIn w) 8 untouched) where
+    judged-at : (j : ℕ) → getD r j untouched ≡ getD (eachBelow (snakesIn w) (judgedAt w all (snakesIn w))) j untouched
+    judged-at j = ap (λ (l : List Judged). getD l j untouched) e ∙ filled-is (judgedAt w all (snakesIn w)) (snakesIn w) 8 untouched j
 
     moves-at : (j : ℕ) → movesOf r j ≡ getD all j still
     moves-at j = ap (λ (z : Judged). z .moved) (judged-at j) ∙ elim (ordered j (snakesIn w)) [
-      | less l t ↦ ap (λ (z : Judged). z .moved) (each-at (snakesIn w) (judgedAt w all (sideIn w) (snakesIn w)) untouched j l)
-      | more l t ↦ ap (λ (z : Judged). z .moved) (each-past (snakesIn w) (judgedAt w all (sideIn w) (snakesIn w)) untouched j l) ∙ sym (past-still j l)
+      | less l t ↦ ap (λ (z : Judged). z .moved) (each-at (snakesIn w) (judgedAt w all (snakesIn w)) untouched j l)
+      | more l t ↦ ap (λ (z : Judged). z .moved) (each-past (snakesIn w) (judgedAt w all (snakesIn w)) untouched j l) ∙ sym (past-still j l)
     ]
 
     causes-at : (j : ℕ) → causesOf r j ≡ getD (eachBelow (snakesIn w) (causeOf (sideIn w) (snakesIn w) (world w all))) j NoCause
-    causes-at j = ap (λ (z : Judged). z .cause) (judged-at j) ∙ each-map (λ (z : Judged). z .cause) (snakesIn w) (judgedAt w all (sideIn w) (snakesIn w)) untouched j
+    causes-at j = ap (λ (z : Judged). z .cause) (judged-at j) ∙ each-map (λ (z : Judged). z .cause) (snakesIn w) (judgedAt w all (snakesIn w)) untouched j
 
     world-judged : judgedWorld w r ≡ world w all
     world-judged = λ k j. shown w (moves-at j k)

@@ -18,7 +18,7 @@ use Rattle.lists.proofs.Lists.{part-long}
 use Rattle.rules.specs.Headings.{headingOf, turned, actionOf}
 use Rattle.rules.specs.Places.{ahead, inside, cellOf, placeOf}
 use Rattle.rules.specs.State.{Snake, nobody, snakeOf}
-use Rattle.rules.specs.Image.{word, snakesIn, sideIn, foodCountIn, startAt, lengthAt, headingAt, aliveAt, foodStart, bodyAt, foodAt, snakeAt, stateOf}
+use Rattle.rules.specs.Image.{word, front, snakesIn, sideIn, foodCountIn, startAt, lengthAt, headingAt, aliveAt, startDue, foodStart, bodyAt, foodAt, snakeAt, stateOf}
 use Rattle.rules.specs.Facts.{Sound}
 use Rattle.rules.specs.Step.{Moved, onFood, goes, stays, move, movedOf}
 use Rattle.rules.specs.declared.Heading.{Heading}
@@ -91,6 +91,10 @@ module _ (w : List ℕ) (s : Sound w) (i : ℕ) (l : i < snakesIn w) where
 
   pub move-part : (a : ℕ) → moveBy w i a .start + moveBy w i a .keep ≤ foodStart w
   move-part a = omega (arith, keep-le a .0, keep-le a .1, s .bodies-in i l)
+
+  -- after the records
+  pub move-start : (a : ℕ) → front (snakesIn w) ≤ moveBy w i a .start
+  move-start a = omega (arith, keep-le a .0, s .starts i l)
 
   pub move-short : (a : ℕ) → moveBy w i a .keep ≤ 1024
   move-short a = omega (arith, keep-le a .1, s .lengths i l, s .area-max)

@@ -11,11 +11,11 @@ ghost use Prim.Native.Nat.{_+_, _<_, _≤_};
 ghost use lib.ListN.{length, take, drop};
 ghost use Rattle.lists.specs.Below.{someBelow};
 ghost use Rattle.lists.specs.Lists.{member};
-ghost use Rattle.rules.specs.Image.{snakesIn};
+ghost use Rattle.rules.specs.Image.{snakesIn, sideIn};
 ghost use Rattle.rules.specs.Facts.{Sound};
 ghost use Rattle.rules.specs.Step.{causeOf};
 ghost use Rattle.step.specs.World.{world, Judges};
-ghost use Rattle.step.specs.Judging.{Rests, meetsAt, underAt};
+ghost use Rattle.step.specs.Judging.{Rests, meetsAt, underBy, underAt, bodyCause};
 
 // Whether a part of the image holds the cell.
 pub fn part_holds(image: &[u16], start: usize, keep: usize, cell: u16) -> bool
@@ -25,36 +25,26 @@ pub fn part_holds(image: &[u16], start: usize, keep: usize, cell: u16) -> bool
     lists::holds(&image[start..start + keep], cell)
 }
 
-// Whether snake j is another than i that moved to the place of i.
-fn meets(all: [Move; 8], i: usize, j: usize) -> bool
-    requires { ⌜ (i < 8) × (j < 8) ⌝ }
-    ensures { λ r. ⌜ r ≡ meetsAt all i j ⌝ }
-{
-    let me = all[i];
-    let you = all[j];
-    (i != j) & you.moves & places::same(me.head, you.head)
-}
-
-fn head_on(all: [Move; 8], n: usize, i: usize) -> bool
-    requires { ⌜ (n ≤ 8) × (i < 8) ⌝ }
-    ensures { λ r. ⌜ r ≡ someBelow n (meetsAt all i) ⌝ }
+// Whether another snake than i moved to the same place.
+fn head_on(all: [Move; 8], n: usize, i: usize, head: Place) -> bool
+    requires { ⌜ n ≤ 8 ⌝ }
+    ensures { λ r. ⌜ r ≡ someBelow n (meetsAt all i head) ⌝ }
 {
     let mut found = false;
     let mut j = 0;
     while j < n {
-        found = found | meets(all, i, j);
+        let you = all[j];
+        found = found | (i != j) & you.moves & places::same(head, you.head);
         j += 1;
     }
     found
 }
 
 // Whether snake j is another than i that moved and has the cell in the rest of its body.
-fn under(image: &[u16], all: [Move; 8], i: usize, j: usize, cell: u16) -> bool
-    requires { ⌜ (i < 8) × (j < 8) ⌝ }
-    requires { ⌜ Rests (now image) all ⌝ }
-    ensures { λ r. ⌜ r ≡ underAt (now (image .entry)) all i cell j ⌝ }
+fn under(image: &[u16], i: usize, j: usize, you: Move, cell: u16) -> bool
+    requires { ⌜ you .start + you .keep ≤ length (now image) ⌝ }
+    ensures { λ r. ⌜ r ≡ underBy (now (image .entry)) i j you cell ⌝ }
 {
-    let you = all[j];
     if i == j {
         return false;
     }
@@ -66,13 +56,14 @@ fn under(image: &[u16], all: [Move; 8], i: usize, j: usize, cell: u16) -> bool
 
 // Their heads are not asked: a head there is head-on.
 fn opposed(image: &[u16], all: [Move; 8], n: usize, i: usize, cell: u16) -> bool
-    requires { ⌜ (n ≤ 8) × (i < 8) ⌝ }
+    requires { ⌜ n ≤ 8 ⌝ }
     requires { ⌜ Rests (now image) all ⌝ }
     ensures { λ r. ⌜ r ≡ someBelow n (underAt (now (image .entry)) all i cell) ⌝ }
 {
     let mut j = 0;
     while j < n {
-        if under(image, all, i, j, cell) {
+        let you = all[j];
+        if under(image, i, j, you, cell) {
             return true;
         }
         j += 1;
@@ -80,23 +71,17 @@ fn opposed(image: &[u16], all: [Move; 8], n: usize, i: usize, cell: u16) -> bool
     false
 }
 
-fn cause_of(image: &[u16], all: [Move; 8], n: usize, g: u16, i: usize) -> Cause
-    requires { ⌜ (n ≤ 8) × (i < 8) × (g ≤ 32) ⌝ }
+// Most heads are on no body: one search over all bodies tells that, before any is searched by itself.
+fn body_cause(image: &[u16], all: [Move; 8], n: usize, i: usize, cell: u16) -> Cause
+    requires { ⌜ Sound (now image) ⌝ }
     requires { ⌜ Rests (now image) all ⌝ }
-    ensures { λ r. ⌜ r ≡ causeOf g n (world (now (image .entry)) all) i ⌝ }
+    requires { ⌜ (n ≡ snakesIn (now image)) × (i < n) ⌝ }
+    ensures { λ r. ⌜ r ≡ bodyCause (now (image .entry)) all n i cell ⌝ }
 {
-    let me = all[i];
-    let head = me.head;
-    if !me.moves {
+    if !lists::holds(&image[5 + 4 * n..], cell) {
         return Cause::NoCause;
     }
-    if head_on(all, n, i) {
-        return Cause::HeadOn;
-    }
-    if !on_grid(g, head) {
-        return Cause::Wall;
-    }
-    let cell = places::cell_of(g, head);
+    let me = all[i];
     if part_holds(image, me.start, me.keep, cell) {
         return Cause::SelfBody;
     }
@@ -106,6 +91,27 @@ fn cause_of(image: &[u16], all: [Move; 8], n: usize, g: u16, i: usize) -> Cause
     Cause::NoCause
 }
 
+fn cause_of(image: &[u16], all: [Move; 8], n: usize, i: usize) -> Cause
+    requires { ⌜ Sound (now image) ⌝ }
+    requires { ⌜ Rests (now image) all ⌝ }
+    requires { ⌜ (n ≡ snakesIn (now image)) × (i < n) ⌝ }
+    ensures { λ r. ⌜ r ≡ causeOf (sideIn (now (image .entry))) n (world (now (image .entry)) all) i ⌝ }
+{
+    let me = all[i];
+    let head = me.head;
+    if !me.moves {
+        return Cause::NoCause;
+    }
+    if head_on(all, n, i, head) {
+        return Cause::HeadOn;
+    }
+    let g = image[1];
+    if !on_grid(g, head) {
+        return Cause::Wall;
+    }
+    body_cause(image, all, n, i, places::cell_of(g, head))
+}
+
 // Every snake's move and cause.
 pub fn judge(image: &[u16], actions: &[u64]) -> [Judged; 8]
     requires { ⌜ Sound (now image) ⌝ }
@@ -113,7 +119,6 @@ pub fn judge(image: &[u16], actions: &[u64]) -> [Judged; 8]
     ensures { λ r. ⌜ Judges (now (image .entry)) (now (actions .entry)) r ⌝ }
 {
     let moves = move_all(image, actions);
-    let g = image[1];
     let n = actions.len();
     let mut all = [Judged {
         moved: Move {
@@ -131,7 +136,7 @@ pub fn judge(image: &[u16], actions: &[u64]) -> [Judged; 8]
         let moved = moves[i];
         all[i] = Judged {
             moved,
-            cause: cause_of(image, moves, n, g, i),
+            cause: cause_of(image, moves, n, i),
         };
         i += 1;
     }

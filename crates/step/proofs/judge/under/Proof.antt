@@ -6,30 +6,23 @@ use Rattle.step.proofs.Judging.{under-by}
 use Rattle.step.proofs.judge.under.Statement.{statement}
 use Rattle.step.proofs.judge.under.Tie as tie
 
-mul-you : tie.Need-mul-you
-mul-you c = search needs
-
-array-copy-out-you : tie.Need-array-copy-out-you
-array-copy-out-you c = search needs
-
 returns : tie.Need-returns
 returns c =
-    let a = c .before .before .before .args in
-    under-by (now (a .image)) (a .t2) (a .i) (a .cell) (a .j) (eq-eqb _ _ (c .if1 .taken)) refl
+    let a = c .before .before .args in
+    under-by (now (a .image)) (a .i) (a .j) (a .you) (a .cell) (eq-eqb _ _ (c .if1 .taken)) refl
 
 returns-2 : tie.Need-returns-2
 returns-2 c =
-    let a = c .before .before .before .before .before .args in
-    under-by (now (a .image)) (a .t2) (a .i) (a .cell) (a .j) (ne-eqb _ _ (c .before .before .if1 .left)) (not-true _ (c .if2 .taken))
+    let a = c .before .before .before .before .args in
+    under-by (now (a .image)) (a .i) (a .j) (a .you) (a .cell) (ne-eqb _ _ (c .before .before .if1 .left)) (not-true _ (c .if2 .taken))
 
 part-holds-requires : tie.Need-part-holds-requires
-part-holds-requires c κs = let s = c .before .before .before .before .before in s .pre .1 .fits (s .args .j)
+part-holds-requires c κs = search needs
 
 returns-3 : tie.Need-returns-3
 returns-3 c =
-    let a = c .before .before .before .before .before .before .args in
-    c .part-holds .ensures ∙ under-by (now (a .image)) (a .t2) (a .i) (a .cell) (a .j) (ne-eqb _ _ (c .before .before .before .if1 .left)) (not-false _ (c .before .if2 .left))
+    let a = c .before .before .before .before .before .args in
+    c .part-holds .ensures ∙ under-by (now (a .image)) (a .i) (a .j) (a .you) (a .cell) (ne-eqb _ _ (c .before .before .before .if1 .left)) (not-false _ (c .before .if2 .left))
 
 pub under-spec : {M : Type 1} → statement M
-under-spec =
-    tie.close (tie.spec mul-you array-copy-out-you returns returns-2 part-holds-requires returns-3)
+under-spec = tie.close (tie.spec returns returns-2 part-holds-requires returns-3)
