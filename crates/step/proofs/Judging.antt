@@ -25,7 +25,7 @@ use Rattle.step.specs.declared.Move.{Move}
 use Rattle.step.specs.declared.Judged.{Judged}
 use Rattle.step.specs.World.{still, shown, world, untouched, movesOf, causesOf, judgedWorld, movedWorld, Judges}
 use Rattle.step.specs.Moving.{moveAt}
-use Rattle.step.specs.Judging.{Rests, underBy, underAt, bodyCause, judgedAt}
+use Rattle.step.specs.Judging.{Rests, stopsBy, stopsAt, bodyCause, judgedAt}
 use Rattle.step.proofs.Moving.{shown-move, move-part, move-start, move-short}
 
 -- ---- one cause
@@ -52,18 +52,18 @@ module _ (g n : ℕ) (m : ℕ → Moved) (i : ℕ) where
 
 -- ---- the array of moves
 
-pub under-by : (w : List ℕ) (i j : ℕ) (m : Move) (cell : ℕ) {a b : Bool} → eqb i j ≡ a → m .moves ≡ b → (not a && b && member cell (shown w m .rest)) ≡ underBy w i j m cell
-under-by w i j m cell p q = sym (λ k. not (p k) && q k && member cell (shown w m .rest))
+pub stops-by : (w : List ℕ) (i j : ℕ) (m : Move) (cell : ℕ) {a b : Bool} → eqb i j ≡ a → m .moves ≡ b → (not a && b && member cell (shown w m .rest)) ≡ stopsBy w i j m cell
+stops-by w i j m cell p q = sym (λ k. not (p k) && q k && member cell (shown w m .rest))
 
 module _ (w : List ℕ) (all : List Move) (i cell : ℕ) where
-  pub body-by : (n : ℕ) {d e : Bool} → member cell (world w all i .rest) ≡ d → someBelow n (underAt w all i cell) ≡ e
+  pub body-by : (n : ℕ) {d e : Bool} → member cell (world w all i .rest) ≡ d → someBelow n (stopsAt w all i cell) ≡ e
       → (SelfBody if d else OppBody if e else NoCause) ≡ bodyCause w all n i cell
   body-by n p q = sym (λ k. SelfBody if p k else OppBody if q k else NoCause)
 
   -- the cell is on no body at all
   pub body-none : Rests w all → (n : ℕ) → member cell (drop (front (snakesIn w)) w) ≡ false → NoCause ≡ bodyCause w all n i cell
   body-none r n e = body-by n (r .clear i cell e)
-      (some-false (underAt w all i cell) n (λ j l. ap (λ (b : Bool). not (eqb i j) && getD all j still .moves && b) (r .clear j cell e) ∙ and-false (not (eqb i j) && getD all j still .moves)))
+      (some-false (stopsAt w all i cell) n (λ j l. ap (λ (b : Bool). not (eqb i j) && getD all j still .moves && b) (r .clear j cell e) ∙ and-false (not (eqb i j) && getD all j still .moves)))
 
 module _ (w acts : List ℕ) (s : Sound w) (all : List Move) (q : all ≡ filled (moveAt w acts) (snakesIn w) 8 still) where
   all-at : (j : ℕ) → getD all j still ≡ getD (eachBelow (snakesIn w) (moveAt w acts)) j still

@@ -28,15 +28,15 @@ abbrev pub meetsAt : List Move → ℕ → Place → ℕ → Bool
 meetsAt all i p j = not (eqb i j) && getD all j still .moves && same p (getD all j still .head)
 
 -- snake j, moved so, is another than i that has the cell in the rest of its body
-abbrev pub underBy : List ℕ → ℕ → ℕ → Move → ℕ → Bool
-underBy w i j m cell = not (eqb i j) && m .moves && member cell (shown w m .rest)
+abbrev pub stopsBy : List ℕ → ℕ → ℕ → Move → ℕ → Bool
+stopsBy w i j m cell = not (eqb i j) && m .moves && member cell (shown w m .rest)
 
-abbrev pub underAt : List ℕ → List Move → ℕ → ℕ → ℕ → Bool
-underAt w all i cell j = underBy w i j (getD all j still) cell
+abbrev pub stopsAt : List ℕ → List Move → ℕ → ℕ → ℕ → Bool
+stopsAt w all i cell j = stopsBy w i j (getD all j still) cell
 
 -- the cause of a head on the grid, at this cell, that meets no head
 abbrev pub bodyCause : List ℕ → List Move → ℕ → ℕ → ℕ → Cause
-bodyCause w all n i cell = SelfBody if member cell (world w all i .rest) else OppBody if someBelow n (underAt w all i cell) else NoCause
+bodyCause w all n i cell = SelfBody if member cell (world w all i .rest) else OppBody if someBelow n (stopsAt w all i cell) else NoCause
 
 -- snake i's move, and the cause judged among n snakes on the world of all moves
 abbrev pub judgedAt : List ℕ → List Move → ℕ → ℕ → Judged

@@ -15,7 +15,7 @@ ghost use Rattle.rules.specs.Image.{snakesIn, sideIn};
 ghost use Rattle.rules.specs.Facts.{Sound};
 ghost use Rattle.rules.specs.Step.{causeOf};
 ghost use Rattle.step.specs.World.{world, Judges};
-ghost use Rattle.step.specs.Judging.{Rests, meetsAt, underBy, underAt, bodyCause};
+ghost use Rattle.step.specs.Judging.{Rests, meetsAt, stopsBy, stopsAt, bodyCause};
 
 // Whether a part of the image holds the cell.
 pub fn part_holds(image: &[u16], start: usize, keep: usize, cell: u16) -> bool
@@ -41,9 +41,9 @@ fn head_on(all: [Move; 8], n: usize, i: usize, head: Place) -> bool
 }
 
 // Whether snake j is another than i that moved and has the cell in the rest of its body.
-fn under(image: &[u16], i: usize, j: usize, you: Move, cell: u16) -> bool
+fn stops(image: &[u16], i: usize, j: usize, you: Move, cell: u16) -> bool
     requires { ⌜ you .start + you .keep ≤ length (now image) ⌝ }
-    ensures { λ r. ⌜ r ≡ underBy (now (image .entry)) i j you cell ⌝ }
+    ensures { λ r. ⌜ r ≡ stopsBy (now (image .entry)) i j you cell ⌝ }
 {
     if i == j {
         return false;
@@ -55,15 +55,15 @@ fn under(image: &[u16], i: usize, j: usize, you: Move, cell: u16) -> bool
 }
 
 // Their heads are not asked: a head there is head-on.
-fn opposed(image: &[u16], all: [Move; 8], n: usize, i: usize, cell: u16) -> bool
+fn stopped(image: &[u16], all: [Move; 8], n: usize, i: usize, cell: u16) -> bool
     requires { ⌜ n ≤ 8 ⌝ }
     requires { ⌜ Rests (now image) all ⌝ }
-    ensures { λ r. ⌜ r ≡ someBelow n (underAt (now (image .entry)) all i cell) ⌝ }
+    ensures { λ r. ⌜ r ≡ someBelow n (stopsAt (now (image .entry)) all i cell) ⌝ }
 {
     let mut j = 0;
     while j < n {
         let you = all[j];
-        if under(image, i, j, you, cell) {
+        if stops(image, i, j, you, cell) {
             return true;
         }
         j += 1;
@@ -85,7 +85,7 @@ fn body_cause(image: &[u16], all: [Move; 8], n: usize, i: usize, cell: u16) -> C
     if part_holds(image, me.start, me.keep, cell) {
         return Cause::SelfBody;
     }
-    if opposed(image, all, n, i, cell) {
+    if stopped(image, all, n, i, cell) {
         return Cause::OppBody;
     }
     Cause::NoCause
@@ -102,11 +102,12 @@ fn cause_of(image: &[u16], all: [Move; 8], n: usize, i: usize) -> Cause
     if !me.moves {
         return Cause::NoCause;
     }
+    let g = image[1];
+    let inside = on_grid(g, head);
     if head_on(all, n, i, head) {
         return Cause::HeadOn;
     }
-    let g = image[1];
-    if !on_grid(g, head) {
+    if !inside {
         return Cause::Wall;
     }
     body_cause(image, all, n, i, places::cell_of(g, head))

@@ -53,20 +53,20 @@ part-holds-requires c κs = let s = c .before .before .before .before .before in
 returns-2 : tie.Need-returns-2
 returns-2 c = let a = c .before .before .before .before .before .before .before .args in body-by (now (a .image)) (a .t2) (a .i) (a .cell) (a .n) (sym (c .before .part-holds .ensures) ∙ c .if2 .taken) refl
 
-opposed-requires : tie.Need-opposed-requires
-opposed-requires c κs = search needs
+stopped-requires : tie.Need-stopped-requires
+stopped-requires c κs = search needs
 
 returns-3 : tie.Need-returns-3
 returns-3 c =
     let e = c .before .before in
     let a = e .before .before .before .before .before .before .before .args in
-    body-by (now (a .image)) (a .t2) (a .i) (a .cell) (a .n) (sym (e .before .part-holds .ensures) ∙ e .if2 .left) (sym (c .before .opposed .ensures) ∙ c .if3 .taken)
+    body-by (now (a .image)) (a .t2) (a .i) (a .cell) (a .n) (sym (e .before .part-holds .ensures) ∙ e .if2 .left) (sym (c .before .stopped .ensures) ∙ c .if3 .taken)
 
 returns-4 : tie.Need-returns-4
 returns-4 c =
     let e = c .before .before in
     let a = e .before .before .before .before .before .before .before .args in
-    body-by (now (a .image)) (a .t2) (a .i) (a .cell) (a .n) (sym (e .before .part-holds .ensures) ∙ e .if2 .left) (sym (c .before .opposed .ensures) ∙ c .if3 .left)
+    body-by (now (a .image)) (a .t2) (a .i) (a .cell) (a .n) (sym (e .before .part-holds .ensures) ∙ e .if2 .left) (sym (c .before .stopped .ensures) ∙ c .if3 .left)
 
 pub body-cause-spec : {M : Type 1} → statement M
 body-cause-spec =
@@ -84,6 +84,6 @@ body-cause-spec =
     array-copy-out-me
     part-holds-requires
     returns-2
-    opposed-requires
+    stopped-requires
     returns-3
     returns-4)

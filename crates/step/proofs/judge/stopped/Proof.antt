@@ -5,18 +5,18 @@ use native.Mathlib.Omega.{arith}
 use denote.Ref.{now}
 use Rattle.lists.proofs.Below.{some-none, some-next, some-found}
 use Rattle.lists.specs.Below.{someBelow}
-use Rattle.step.specs.Judging.{underAt}
-use Rattle.step.proofs.judge.opposed.Statement.{statement}
-use Rattle.step.proofs.judge.opposed.Tie as tie
+use Rattle.step.specs.Judging.{stopsAt}
+use Rattle.step.proofs.judge.stopped.Statement.{statement}
+use Rattle.step.proofs.judge.stopped.Tie as tie
 
 abbrev Inv-loop : tie.InvT-loop
-Inv-loop image n i cell all j₀ j = (j ≤ n) × (someBelow j (underAt image all i cell) ≡ false)
+Inv-loop image n i cell all j₀ j = (j ≤ n) × (someBelow j (stopsAt image all i cell) ≡ false)
 
 abbrev μ-loop : tie.MeasureT-loop
 μ-loop image n i cell all j₀ j = n - j
 
 loop-holds : tie.Need-loop-holds Inv-loop μ-loop
-loop-holds c = let a = c .before .args in (omega arith, some-none (underAt (now (a .image)) (a .t2) (a .i) (a .cell)))
+loop-holds c = let a = c .before .args in (omega arith, some-none (stopsAt (now (a .image)) (a .t2) (a .i) (a .cell)))
 
 mul-you : tie.Need-mul-you Inv-loop μ-loop
 mul-you c = omega arith
@@ -24,14 +24,14 @@ mul-you c = omega arith
 array-copy-out-you : tie.Need-array-copy-out-you Inv-loop μ-loop
 array-copy-out-you c = omega arith
 
-under-requires : tie.Need-under-requires Inv-loop μ-loop
-under-requires c κs = c .before .before .before .before .pre .1 .fits (c .before .before .loop .j)
+stops-requires : tie.Need-stops-requires Inv-loop μ-loop
+stops-requires c κs = c .before .before .before .before .pre .1 .fits (c .before .before .loop .j)
 
 returns : tie.Need-returns Inv-loop μ-loop
 returns c =
     let l = c .before .before .before .before in
     let a = l .before .before .args in
-    sym (some-found (underAt (now (a .image)) (a .t2) (a .i) (a .cell)) (a .n) (l .loop .j) (c .before .before .before .loop-test .taken) (sym (c .before .under .ensures) ∙ c .if1 .taken))
+    sym (some-found (stopsAt (now (a .image)) (a .t2) (a .i) (a .cell)) (a .n) (l .loop .j) (c .before .before .before .loop-test .taken) (sym (c .before .stops .ensures) ∙ c .if1 .taken))
 
 add-j : tie.Need-add-j Inv-loop μ-loop
 add-j c = omega arith
@@ -43,16 +43,16 @@ loop-again : tie.Need-loop-again Inv-loop μ-loop
 loop-again c =
     let l = c .before .before .before .before in
     let a = l .before .before .args in
-    (omega arith, some-next (underAt (now (a .image)) (a .t2) (a .i) (a .cell)) (l .loop .j) ∙ ap₂ _||_ (l .loop .inv .1) (sym (c .before .under .ensures) ∙ c .if1 .left))
+    (omega arith, some-next (stopsAt (now (a .image)) (a .t2) (a .i) (a .cell)) (l .loop .j) ∙ ap₂ _||_ (l .loop .inv .1) (sym (c .before .stops .ensures) ∙ c .if1 .left))
 
 returns-2 : tie.Need-returns-2 Inv-loop μ-loop
 returns-2 c =
     let a = c .before .before .before .args in
     let e : c .before .loop .j ≡ a .n = omega arith in
-    sym (c .before .loop .inv .1) ∙ ap (λ (k : ℕ). someBelow k (underAt (now (a .image)) (a .t2) (a .i) (a .cell))) e
+    sym (c .before .loop .inv .1) ∙ ap (λ (k : ℕ). someBelow k (stopsAt (now (a .image)) (a .t2) (a .i) (a .cell))) e
 
-pub opposed-spec : {M : Type 1} → statement M
-opposed-spec =
+pub stopped-spec : {M : Type 1} → statement M
+stopped-spec =
     tie.close
     (tie.spec
     Inv-loop
@@ -60,7 +60,7 @@ opposed-spec =
     loop-holds
     mul-you
     array-copy-out-you
-    under-requires
+    stops-requires
     returns
     add-j
     loop-less
