@@ -1,12 +1,12 @@
 -- A cause by its five tests, the tests on an array of moves, and what the judged array says. Assumes nothing.
-use Prim.Native.Nat.{ℕ, zero, suc, _+_, _-_, _*_, _<_, _≤_}
+use Prim.Native.Nat.{ℕ, _+_, _<_, _≤_}
 use native.Mathlib.Omega.{arith}
-use mathlib.Core.Path.{_≡_, refl, sym, ap, ap₂, _∙_}
+use mathlib.Core.Path.{_≡_, refl, sym, ap, _∙_}
 use mathlib.Core.Bool.{Bool, true, false, not, _&&_, _||_, and-false}
 use mathlib.Core.List.{List}
 use lib.Dec.{eqb}
 use lib.IntN.{pos}
-use lib.ListN.{length, getD, drop}
+use lib.ListN.{getD, drop}
 use Rattle.lists.specs.Choice.{_if_else_}
 use Rattle.lists.specs.Below.{someBelow, eachBelow, filled}
 use Rattle.lists.specs.Lists.{member}
@@ -18,7 +18,6 @@ use Rattle.rules.specs.State.{nobody}
 use Rattle.rules.specs.Image.{front, snakesIn, sideIn, foodStart, foodAt, snakeAt, stateOf}
 use Rattle.rules.specs.Facts.{Sound}
 use Rattle.rules.specs.Step.{Moved, stays, movedOf, another, onBody, causeOf, outcomeOf, stepped}
-use Rattle.rules.specs.declared.Cause.{Cause}
 use Rattle.rules.specs.declared.Cause.the-variants.{NoCause, Wall, SelfBody, OppBody, HeadOn}
 use Rattle.rules.specs.declared.Setting.{Setting}
 use Rattle.step.specs.declared.Move.{Move}

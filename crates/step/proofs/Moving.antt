@@ -1,8 +1,8 @@
 -- The move by the image's words is the definition's, and stays within the image. Assumes nothing.
-use Prim.Native.Nat.{ℕ, zero, suc, _+_, _-_, _*_, _<_, _≤_}
+use Prim.Native.Nat.{ℕ, zero, suc, _+_, _-_, _<_, _≤_}
 use native.Mathlib.Omega.{arith}
 use native.Mathlib.Nat.{div-le-self, mod-le}
-use mathlib.Core.Path.{_≡_, refl, sym, ap, ap₂, _∙_}
+use mathlib.Core.Path.{_≡_, refl, sym, ap, _∙_}
 use mathlib.Core.Bool.{Bool, true, false}
 use mathlib.Core.List.{List}
 use lib.Dec.{eqb}
@@ -11,16 +11,15 @@ use lib.ListN.{length, getD, take, drop}
 use lib.Seq.{take-take, getD-take, getD-drop}
 use borrow.Author.Tests.{eqb-true}
 use Rattle.lists.specs.Choice.{_if_else_}
-use Rattle.lists.specs.Below.{eachBelow}
 use Rattle.lists.specs.Lists.{member}
 use Rattle.lists.proofs.Below.{each-at}
 use Rattle.lists.proofs.Lists.{part-long}
 use Rattle.rules.specs.Headings.{headingOf, turned, actionOf}
 use Rattle.rules.specs.Places.{ahead, inside, cellOf, placeOf}
 use Rattle.rules.specs.State.{Snake, nobody, snakeOf}
-use Rattle.rules.specs.Image.{word, front, snakesIn, sideIn, foodCountIn, startAt, lengthAt, headingAt, aliveAt, startDue, foodStart, bodyAt, foodAt, snakeAt, stateOf}
+use Rattle.rules.specs.Image.{word, front, snakesIn, sideIn, foodCountIn, startAt, lengthAt, headingAt, aliveAt, foodStart, bodyAt, foodAt, snakeAt, stateOf}
 use Rattle.rules.specs.Facts.{Sound}
-use Rattle.rules.specs.Step.{Moved, onFood, goes, stays, move, movedOf}
+use Rattle.rules.specs.Step.{onFood, goes, stays, move, movedOf}
 use Rattle.rules.specs.declared.Heading.{Heading}
 use Rattle.rules.specs.declared.Place.{Place}
 use Rattle.rules.specs.declared.RelativeAction.the-variants.{TurnRight}

@@ -18,7 +18,7 @@ ghost use Rattle.step.specs.World.{world, Judges};
 ghost use Rattle.step.specs.Judging.{Rests, meetsAt, stopsBy, stopsAt, bodyCause};
 
 // Whether a part of the image holds the cell.
-pub fn part_holds(image: &[u16], start: usize, keep: usize, cell: u16) -> bool
+fn part_holds(image: &[u16], start: usize, keep: usize, cell: u16) -> bool
     requires { ⌜ start + keep ≤ length (now image) ⌝ }
     ensures { λ r. ⌜ r ≡ member cell (take keep (drop start (now (image .entry)))) ⌝ }
 {
@@ -40,7 +40,7 @@ fn head_on(all: [Move; 8], n: usize, i: usize, head: Place) -> bool
     found
 }
 
-// Whether snake j is another than i that moved and has the cell in the rest of its body.
+// Whether snake j is another than i that moved and has the cell in the rest of its body; a corpse is not searched.
 fn stops(image: &[u16], i: usize, j: usize, you: Move, cell: u16) -> bool
     requires { ⌜ you .start + you .keep ≤ length (now image) ⌝ }
     ensures { λ r. ⌜ r ≡ stopsBy (now (image .entry)) i j you cell ⌝ }
@@ -54,7 +54,7 @@ fn stops(image: &[u16], i: usize, j: usize, you: Move, cell: u16) -> bool
     part_holds(image, you.start, you.keep, cell)
 }
 
-// Their heads are not asked: a head there is head-on.
+// Whether some snake has the cell so. Heads are not asked: a head there was head-on.
 fn stopped(image: &[u16], all: [Move; 8], n: usize, i: usize, cell: u16) -> bool
     requires { ⌜ n ≤ 8 ⌝ }
     requires { ⌜ Rests (now image) all ⌝ }

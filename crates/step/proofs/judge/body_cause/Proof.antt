@@ -1,3 +1,4 @@
+-- What stands nowhere after the records stands in no rest, so both tests fail there.
 use mathlib.Core.Path.{_≡_, refl, sym, ap, _∙_}
 use Prim.Native.Nat.{ℕ, _+_, _*_}
 use native.Mathlib.Omega.{arith}

@@ -1,3 +1,4 @@
+-- Each return is the definition's choice with its tests told; where no heads meet, a head on another's cell is on its rest.
 use mathlib.Core.Path.{refl, sym, ap, _∙_}
 use borrow.Author.Tests.{not-true, not-false}
 use denote.Ref.{now}

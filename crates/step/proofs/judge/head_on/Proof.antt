@@ -1,3 +1,4 @@
+-- The invariant: what was found so far is what the snakes passed say.
 use mathlib.Core.Bool.{Bool, _||_}
 use mathlib.Core.Path.{_≡_, sym, ap, _∙_}
 use Prim.Native.Nat.{ℕ, _-_, _≤_}

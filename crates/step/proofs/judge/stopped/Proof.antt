@@ -1,3 +1,4 @@
+-- The invariant: none of the snakes passed stops the head.
 use mathlib.Core.Bool.{false, _||_}
 use mathlib.Core.Path.{_≡_, sym, ap, ap₂, _∙_}
 use Prim.Native.Nat.{ℕ, _-_, _≤_}

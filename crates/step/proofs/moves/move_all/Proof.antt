@@ -1,3 +1,4 @@
+-- The invariant: the array holds the moves of the snakes passed, and is still after them.
 use mathlib.Core.List.{List}
 use mathlib.Core.Path.{_≡_, ap, ap₂, _∙_}
 use Prim.Native.Nat.{ℕ, _-_, _≤_}
