@@ -5,3 +5,15 @@ pub mod Writes
 pub mod Search
 pub mod Signs
 pub mod Missing
+pub mod Blocks
+pub mod Concat
+pub mod Members
+pub mod Products
+pub mod Order
+pub mod Equal
+pub mod Lowest
+pub mod Boards
+pub mod Flags
+pub mod Squares
+pub mod Parts
+pub mod Insertion

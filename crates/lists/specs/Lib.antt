@@ -3,3 +3,5 @@ pub mod Below
 pub mod Lists
 pub mod Products
 pub mod Search
+pub mod Equal
+pub mod Boards

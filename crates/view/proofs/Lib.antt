@@ -1,0 +1,5 @@
+pub mod Marks
+pub mod Sizes
+pub mod Keys
+pub mod Shown
+pub mod Gates
