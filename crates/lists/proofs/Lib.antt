@@ -4,6 +4,7 @@ pub mod Lists
 pub mod Writes
 pub mod Search
 pub mod Signs
+pub mod Missing
 pub mod Blocks
 pub mod Concat
 pub mod Members

@@ -4,3 +4,5 @@ mod Words
 mod Room
 mod Link
 mod Follows
+pub mod Moving
+pub mod Judging

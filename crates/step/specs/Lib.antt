@@ -3,3 +3,5 @@ pub mod After
 pub mod Left
 pub mod Next
 pub mod Applied
+pub mod Moving
+pub mod Judging

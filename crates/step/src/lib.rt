@@ -1,13 +1,17 @@
-// One step from a checked image: all living snakes move, all causes are judged on that one world, then the consequences.
+// One step of the arena: the refusals in their order, then all living snakes move, all are judged on that one world, and the judgement is applied.
 mod after;
 mod apply;
 mod bodies;
 mod events;
 mod food;
+mod gate;
+mod judge;
 mod killers;
 mod leads;
+mod moves;
 mod next;
 
+pub use gate::step;
 use rules::Cause;
 use rules::Heading;
 use rules::Place;
