@@ -2,7 +2,8 @@
 use Prim.Native.Nat.{ℕ}
 use mathlib.Core.Bool.{Bool, true, false, cond}
 
-infixr 10 _if_else_
+-- below every operator, those of the integers included
+infixr 5 _if_else_
 abbrev pub _if_else_ : {A : Type 0} → A → Bool → A → A
 a if true else b = a
 a if false else b = b

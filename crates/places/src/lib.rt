@@ -90,7 +90,8 @@ fn plain(x: i32) -> u16
     x as u16
 }
 
-fn signed(x: u16) -> i32
+// A number as a coordinate.
+pub fn signed(x: u16) -> i32
     ensures { λ r. ⌜ r ≡ pos x ⌝ }
 {
     x as i32

@@ -5,3 +5,6 @@ pub mod FreeCells
 pub mod Digits
 pub mod Draws
 pub mod Sets
+pub mod SettingParts
+pub mod Placement
+pub mod Taken

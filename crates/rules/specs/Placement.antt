@@ -20,7 +20,7 @@ even i = eqb (i % 2) 0
 
 -- 'Even i: column g/3, heading Right, traced Left, Down, Right, Up. Odd i: column g - g/3, heading Left, traced Right, Up, Left, Down'
 abbrev pub colOf : ℤ → ℕ → ℤ
-colOf g i = quotZ g (pos 3) if even i else g -ℤ quotZ g (pos 3)
+colOf g i = quotZ g (pos 3) if even i else (g -ℤ quotZ g (pos 3))
 
 abbrev pub startHeading : ℕ → Heading
 startHeading i = Right if even i else Left
