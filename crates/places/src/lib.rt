@@ -97,6 +97,13 @@ pub fn signed(x: u16) -> i32
     x as i32
 }
 
+// The same for a side of 16 bits.
+pub fn on_grid(g: u16, p: Place) -> bool
+    ensures { λ r. ⌜ r ≡ inside (pos g) p ⌝ }
+{
+    is_inside(signed(g), p)
+}
+
 // Row-major; 0 off the grid, where no rule asks for it.
 pub fn cell_of(g: u16, p: Place) -> u16
     requires { ⌜ g ≤ 32 ⌝ }

@@ -8,3 +8,4 @@ pub mod Sets
 pub mod SettingParts
 pub mod Placement
 pub mod Taken
+pub mod Starts

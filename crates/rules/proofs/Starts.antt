@@ -1,0 +1,49 @@
+-- Where snakes start on a grid that is not negative, in plain numbers; from side 3 on every start is inside. Assumes nothing.
+use Prim.Native.Nat.{ℕ, zero, suc, _+_, _*_, _-_, _/_, _%_, _<_, _≤_, _^_}
+use native.Mathlib.Nat.{div-le-self, div-lt-iff-lt-mul, mul-comm, mul-lt-mul-of-pos-right}
+use native.Mathlib.Omega.{arith}
+use mathlib.Core.Path.{_≡_, refl, sym, ap, _∙_}
+use mathlib.Core.Bool.{Bool, true, false, cond, true≢false, false≢true}
+use lib.Dec.{T, ltb, eqb}
+use lib.IntN.{ℤ, pos, negsuc, negℤ, subℕ, natAbs, _+ℤ_, _-ℤ_}
+use lib.Signed.{ltZ, nonNeg, quotZ}
+use borrow.Author.Tests.{le-ltb, ltb-false}
+use Rattle.lists.specs.Choice.{_if_else_}
+use Rattle.lists.proofs.Tests.{both, compared, same, other, tell}
+use Rattle.rules.specs.Places.{inside}
+use Rattle.rules.specs.Placement.{rowOf, even, colOf}
+use Rattle.rules.specs.Setting.{sideOf}
+use Rattle.rules.specs.SettingParts.{startPlace}
+use Rattle.rules.proofs.Places.{within-pos}
+
+-- ---- the side
+
+pub side-negative : (g : ℤ) → ltZ g (pos 0) ≡ true → sideOf g ≡ 0
+side-negative (pos g) h = absurd (false≢true (sym (le-ltb g 0 (omega arith)) ∙ h))
+side-negative (negsuc g) h = refl
+
+pub plain-grid : (g : ℤ) → ltZ g (pos 0) ≡ false → T (nonNeg g)
+plain-grid (pos g) h = tt
+plain-grid (negsuc g) h = absurd (true≢false h)
+
+pub side-plain : (g : ℤ) → ltZ g (pos 0) ≡ false → natAbs g ≡ sideOf g
+side-plain (pos g) h = refl
+side-plain (negsuc g) h = absurd (true≢false h)
+
+-- ---- the columns
+
+minus : (a b : ℕ) → b ≤ a → pos (a - b) ≡ pos a -ℤ pos b
+minus a zero h = ap pos (omega arith)
+minus a (suc b) h = rw (le-ltb a (suc b) h)
+
+pub col-even : (g i : ℕ) → even i ≡ true → pos (g / 3) ≡ colOf (pos g) i
+col-even g i e = rw e
+
+pub col-odd : (g i : ℕ) → even i ≡ false → pos (g - g / 3) ≡ colOf (pos g) i
+col-odd g i e = rw e (minus g (g / 3) (div-le-self g 3))
+
+-- ---- a grid of at most 32
+
+pub side-small : (g : ℤ) → ltZ (pos 32) g ≡ false → sideOf g ≤ 32
+side-small (pos g) h = ltb-false 32 g h
+side-small (negsuc g) h = omega arith
