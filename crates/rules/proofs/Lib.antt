@@ -9,3 +9,4 @@ pub mod SettingParts
 pub mod Placement
 pub mod Taken
 pub mod Starts
+pub mod PlaceCheck

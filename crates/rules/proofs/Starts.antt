@@ -1,6 +1,7 @@
 -- Where snakes start on a grid that is not negative, in plain numbers; from side 3 on every start is inside. Assumes nothing.
-use Prim.Native.Nat.{ℕ, zero, suc, _+_, _*_, _-_, _/_, _%_, _<_, _≤_, _^_}
-use native.Mathlib.Nat.{div-le-self, div-lt-iff-lt-mul, mul-comm, mul-lt-mul-of-pos-right}
+use Prim.Native.Nat.{ℕ, zero, suc, _+_, _*_, _-_, _/_, _%_, _<_, _≤_, suc-le-suc}
+use native.Mathlib.Nat.{div-le-self, div-lt-iff-lt-mul, mul-comm, mul-lt-mul-of-pos-right, zero-lt-suc}
+use mathlib.Core.Logic.{inl, inr}
 use native.Mathlib.Omega.{arith}
 use mathlib.Core.Path.{_≡_, refl, sym, ap, _∙_}
 use mathlib.Core.Bool.{Bool, true, false, cond, true≢false, false≢true}
@@ -10,7 +11,7 @@ use lib.Signed.{ltZ, nonNeg, quotZ}
 use borrow.Author.Tests.{le-ltb, ltb-false}
 use Rattle.lists.specs.Choice.{_if_else_}
 use Rattle.lists.proofs.Tests.{both, compared, same, other, tell}
-use Rattle.rules.specs.Places.{inside}
+use Rattle.rules.specs.Places.{within, inside}
 use Rattle.rules.specs.Placement.{rowOf, even, colOf}
 use Rattle.rules.specs.Setting.{sideOf}
 use Rattle.rules.specs.SettingParts.{startPlace}
@@ -47,3 +48,27 @@ col-odd g i e = rw e (minus g (g / 3) (div-le-self g 3))
 pub side-small : (g : ℤ) → ltZ (pos 32) g ≡ false → sideOf g ≤ 32
 side-small (pos g) h = ltb-false 32 g h
 side-small (negsuc g) h = omega arith
+
+-- ---- every start is inside
+
+module _ (g n i : ℕ) (side : 3 ≤ g) (number : i < n) where
+  row-below-side : suc i * g / suc n < g
+  row-below-side =
+      let m : suc i * g < suc n * g = mul-lt-mul-of-pos-right (suc-le-suc number) (omega arith) in
+      let c : suc n * g ≡ g * suc n = mul-comm (suc n) g in
+      div-lt-iff-lt-mul {k = suc n} {x = suc i * g} {y = g} (zero-lt-suc n) .1 (rw c at m)
+
+  row-in-grid : within (pos g) (rowOf (pos g) n i) ≡ true
+  row-in-grid = elim (tell (eqb n 2)) [
+    | inl t ↦ rw t (within-pos g (g / 2) (omega arith))
+    | inr f ↦ rw f (within-pos g (suc i * g / suc n) row-below-side)
+  ]
+
+  col-in-grid : within (pos g) (colOf (pos g) i) ≡ true
+  col-in-grid = elim (tell (even i)) [
+    | inl t ↦ rw (← col-even g i t) (within-pos g (g / 3) (omega arith))
+    | inr f ↦ rw (← col-odd g i f) (within-pos g (g - g / 3) (omega arith))
+  ]
+
+  pub start-inside : inside (pos g) (startPlace (pos g) n i) ≡ true
+  start-inside = both row-in-grid col-in-grid
