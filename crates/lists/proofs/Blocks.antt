@@ -1,16 +1,15 @@
 -- Sums over the numbers below a product, by blocks; a count as a sum; how many of a list pass. Assumes nothing.
-use mathlib.Core.Path.{_≡_, refl, sym, ap, ap₂, _∙_}
+use mathlib.Core.Path.{_≡_, refl, sym, ap, _∙_}
 use mathlib.Core.Bool.{Bool, true, false, cond}
 use mathlib.Core.List.{List, [], _∷_}
-use Prim.Native.Nat.{ℕ, zero, suc, _+_, _*_, _≤_, _<_}
-use native.Mathlib.Nat.{zero-add, add-zero, add-suc, add-assoc, add-comm, suc-mul, zero-mul, add-mul, suc-ne-zero}
+use Prim.Native.Nat.{ℕ, zero, suc, _+_, _*_}
+use native.Mathlib.Nat.{add-zero, add-suc, add-assoc, suc-mul, zero-mul, add-mul}
 use native.Mathlib.Omega.{arith}
 use lib.ListN.{length, getD}
 use Rattle.lists.specs.Choice.{bit}
 use Rattle.lists.specs.Below.{countBelow, sumBelow}
 use Rattle.lists.specs.Lists.{keep, member, without}
-use Rattle.lists.proofs.Tests.{compared, same, other, tell}
-use Rattle.lists.proofs.Below.{sum-ext}
+use Rattle.lists.proofs.Tests.{compared, same, other}
 use Rattle.lists.proofs.Members.{member-none, member-rest, member-first, member-more}
 
 pub count-sum : (n : ℕ) (p : ℕ → Bool) → countBelow n p ≡ sumBelow n (λ i. bit (p i))

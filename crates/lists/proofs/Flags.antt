@@ -8,7 +8,7 @@ use lib.Dec.{leb}
 use lib.ListN.{length, getD, drop, drop-of-length-le}
 use lib.Seq.{drop-cons}
 use Rattle.lists.specs.Lists.{every, all, ascending}
-use Rattle.lists.proofs.Lists.{all-left}
+use Rattle.lists.proofs.Lists.{all-left, all-end}
 
 pub every-four : (a b c d : Bool) → (((a && b) && c) && d) ≡ every (a ∷ b ∷ c ∷ d ∷ [])
 unfolding every
@@ -27,6 +27,9 @@ pub flag-next : {A : Type 0} (p : A → Bool) (l : List A) (i : ℕ) (d : A) (f 
     → ((f && p (getD l i d)) && all p (drop (i + 1) l)) ≡ all p l
 flag-next p l i d f h e = and-assoc f (p (getD l i d)) (all p (drop (i + 1) l)) ∙ ap (λ (b : Bool). f && b) (sym (all-left p l i d h)) ∙ e
 
+pub flag-end : {A : Type 0} (p : A → Bool) (l : List A) (i : ℕ) (d : A) (f : Bool) → length l ≤ i → (f && all p (drop i l)) ≡ all p l → f ≡ all p l
+flag-end p l i d f h e = sym (and-true f) ∙ ap (λ (b : Bool). f && b) (sym (all-end p l i d h)) ∙ e
+
 -- the same for a list that is to ascend
 module _ (low : ℕ) (l : List ℕ) (i : ℕ) where
   pub ascending-end : length l ≤ i → ascending low (drop i l) ≡ true
@@ -42,3 +45,6 @@ module _ (low : ℕ) (l : List ℕ) (i : ℕ) where
   rising-next t f h e =
       rw (add-one (getD l i 0))
       (and-assoc f (leb low (getD l i 0)) (ascending (suc (getD l i 0)) (drop (i + 1) l)) ∙ ap (λ (b : Bool). f && b) (sym (ascending-left h)) ∙ e)
+
+  pub rising-end : (t f : Bool) → length l ≤ i → (f && ascending low (drop i l)) ≡ t → f ≡ t
+  rising-end t f h e = sym (and-true f) ∙ ap (λ (b : Bool). f && b) (sym (ascending-end h)) ∙ e

@@ -4,10 +4,12 @@ pub mod Lists
 pub mod Writes
 pub mod Search
 pub mod Signs
+pub mod Blocks
+pub mod Concat
 pub mod Members
 pub mod Products
-pub mod Blocks
 pub mod Order
 pub mod Equal
+pub mod Lowest
 pub mod Boards
 pub mod Flags

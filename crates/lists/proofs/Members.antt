@@ -1,16 +1,15 @@
 -- Members of a list: of a longer list, of the list less one, by their places; lists with no number twice. Assumes nothing.
 use mathlib.Core.Path.{_≡_, refl, sym, ap, _∙_, subst}
 use mathlib.Core.Logic.{_⊎_, inl, inr, ⊎-elim}
-use mathlib.Core.Bool.{Bool, true, false, not, cond, _&&_, _||_, or-true, true≢false}
+use mathlib.Core.Bool.{Bool, true, false, not, or-true, true≢false}
 use mathlib.Core.List.{List, [], _∷_, _++_}
-use Prim.Native.Nat.{ℕ, zero, suc, _≤_, _<_, suc-le-suc}
+use Prim.Native.Nat.{ℕ, zero, suc, _<_, suc-le-suc}
 use native.Mathlib.Nat.{zero-lt-suc, not-suc-le-zero, le-of-suc-le-suc, suc-inj, suc-ne-zero}
-use native.Mathlib.Omega.{arith}
 use lib.Dec.{eqb}
 use lib.ListN.{length, getD}
 use borrow.Author.Tests.{eq-eqb, ne-eqb, not-true}
 use Rattle.lists.specs.Lists.{all, member, distinct, without, place}
-use Rattle.lists.proofs.Tests.{compared, same, other, tell, and-left, and-right, both}
+use Rattle.lists.proofs.Tests.{compared, same, other, and-left, and-right, both}
 use Rattle.lists.proofs.Lists.{member-at}
 
 -- a test is not both; one that cannot hold fails

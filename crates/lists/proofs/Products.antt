@@ -1,5 +1,5 @@
 -- Products that count orders: the next factor is the last, the first, and a product never shrinks. Assumes nothing.
-use mathlib.Core.Path.{_≡_, refl, sym, _∙_, subst}
+use mathlib.Core.Path.{_≡_, refl, sym}
 use mathlib.Core.Logic.{inl, inr}
 use Prim.Native.Nat.{ℕ, zero, suc, _+_, _-_, _*_, _≤_, _<_}
 use native.Mathlib.Nat.{zero-mul, mul-assoc, mul-comm, suc-sub-suc, zero-lt-suc, not-suc-le-zero, mul-pos, le-of-suc-le-suc, le-refl, le-trans, eq-or-lt-of-le, le-mul-of-pos-right}

@@ -1,7 +1,7 @@
 -- The digits of an index, the last lowest: below the count they are also those taken from the first on. Assumes nothing.
 use mathlib.Core.Path.{_≡_, refl, sym, ap, ap₂, _∙_, subst}
 use mathlib.Core.List.{List, [], _∷_, _++_, append-assoc}
-use Prim.Native.Nat.{ℕ, zero, suc, _+_, _-_, _*_, _/_, _%_, _≤_, _<_}
+use Prim.Native.Nat.{ℕ, zero, suc, _+_, _-_, _*_, _/_, _%_, _<_}
 use native.Mathlib.Nat.{mul-comm, suc-sub-suc, div-div-eq-div-mul, mod-lt, mod-eq-of-lt, div-one, div-lt-iff-lt-mul, not-suc-le-zero, sub-zero}
 use native.Mathlib.Omega.{arith}
 use lib.Arith.{digits-div, digits-mod, mod-mul}

@@ -8,9 +8,13 @@ use Rattle.rules.specs.Setting.{badCell, settingCheck}
 use Rattle.rules.specs.Step.{causeOf, outcomeOf, stepped}
 use Rattle.rules.specs.Chance.{freeFrom, free, outcomes, digits, pick, drawnFrom, drawn, rankIn, rankOf}
 use Rattle.rules.specs.LengthKey.{sorted, folded, lengthKey}
-use Rattle.rules.specs.Examples.{EachHolds, theTwelve}
+use Rattle.rules.specs.Examples.{EachHolds, theTwelve, twoMore}
 
 pub examples-hold : EachHolds theTwelve
 unfolding allBelow someBelow countBelow eachBelow concatBelow lowestFrom any keep member insert without place falling unblocked trail placed badCell settingCheck causeOf outcomeOf stepped freeFrom free outcomes digits pick drawnFrom drawn rankIn rankOf sorted folded lengthKey theTwelve
 examples-hold =
     ((refl, refl), (refl, ((refl, refl), (refl, (refl, (refl, (refl, ((refl, refl, refl, refl), ((refl, refl, refl, refl), (refl, (refl, (refl, (refl, (refl, tt))))))))))))))
+
+pub more-hold : EachHolds twoMore
+unfolding someBelow countBelow eachBelow lowestFrom keep member causeOf outcomeOf stepped twoMore
+more-hold = (refl, (refl, tt))

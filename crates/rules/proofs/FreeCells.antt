@@ -1,9 +1,9 @@
 -- The free cells of a board: they ascend, and are those below the area that are not taken; one cell more taken; a scan of the board.
 -- Assumes nothing.
-use mathlib.Core.Path.{_≡_, refl, sym, ap, _∙_, subst}
+use mathlib.Core.Path.{_≡_, refl, sym, ap, _∙_}
 use mathlib.Core.Logic.{_⊎_, inl, inr, ⊎-elim}
-use mathlib.Core.Bool.{Bool, true, false, cond, _||_}
-use mathlib.Core.List.{List, [], _∷_, _++_}
+use mathlib.Core.Bool.{Bool, true, false, _||_}
+use mathlib.Core.List.{List, _∷_, _++_}
 use Prim.Native.Nat.{ℕ, zero, suc, _+_, _-_, _≤_, _<_, zero-le}
 use native.Mathlib.Nat.{zero-add, suc-add, add-zero, le-refl, lt-irrefl, eq-or-lt-of-le, le-dest}
 use native.Mathlib.Omega.{arith}
@@ -13,7 +13,7 @@ use lib.Seq.{getD-append-seam}
 use borrow.Author.Tests.{eq-eqb, ne-eqb}
 use Rattle.lists.specs.Lists.{member, distinct, ascending, without, place}
 use Rattle.lists.proofs.Tests.{compared, same, other, tell, or-false-left}
-use Rattle.lists.proofs.Members.{fails, clash, member-none, member-first, member-more, member-cases, without-away, place-seam}
+use Rattle.lists.proofs.Members.{fails, member-none, member-first, member-more, member-cases, without-away, place-seam}
 use Rattle.lists.proofs.Order.{ascending-none, ascending-more, ascending-le, ascending-distinct, ascending-short}
 use Rattle.rules.specs.State.{State, area}
 use Rattle.rules.specs.Chance.{taken, freeFrom, free}

@@ -1,6 +1,13 @@
 pub mod Facts
+pub mod Image
+pub mod Words
+pub mod Holdable
+pub mod Answers
+pub mod Step
+pub mod Parts
 pub mod Examples
 pub mod Places
+pub mod Sample
 pub mod FreeCells
 pub mod Digits
 pub mod Draws
@@ -10,3 +17,7 @@ pub mod Placement
 pub mod Taken
 pub mod Starts
 pub mod PlaceCheck
+pub mod Fairness
+pub mod Births
+pub mod DrawFacts
+pub mod Again

@@ -4,24 +4,21 @@ use mathlib.Core.Path.{_≡_, refl, sym, ap, _∙_, subst}
 use mathlib.Core.Logic.{_⊎_, inl, inr, ⊎-elim}
 use mathlib.Core.Bool.{Bool, true, false, _&&_}
 use mathlib.Core.List.{List, [], _∷_}
-use Prim.Native.Nat.{ℕ, zero, suc, _+_, _-_, _*_, _/_, _%_, _≤_, _<_, zero-le}
-use native.Mathlib.Nat.{suc-inj, zero-mul, one-mul, suc-ne-zero}
+use Prim.Native.Nat.{ℕ, zero, suc, _+_, _-_, _*_, _<_, zero-le}
+use native.Mathlib.Nat.{suc-inj, zero-mul, one-mul}
 use native.Mathlib.Omega.{arith}
 use lib.Arith.{digits-lt, digits-div, digits-mod}
-use lib.Dec.{eqb}
 use lib.ListN.{length, getD}
-use borrow.Author.Tests.{eq-eqb, ne-eqb}
 use Rattle.lists.specs.Choice.{bit}
 use Rattle.lists.specs.Below.{countBelow, sumBelow}
 use Rattle.lists.specs.Lists.{all, keep, member, distinct, ascending, insert, without}
 use Rattle.lists.specs.Products.{falling, factorial}
 use Rattle.lists.specs.Equal.{sameList}
-use Rattle.lists.proofs.Tests.{tell}
 use Rattle.lists.proofs.Below.{sum-ext, count-ext}
 use Rattle.lists.proofs.Lists.{member-at, keep-small}
-use Rattle.lists.proofs.Members.{clash, fails, agree, member-first, member-more, member-cases, member-none, all-member, all-members, length-without, not-in-without, distinct-without, distinct-first, distinct-rest, distinct-apart, covers}
+use Rattle.lists.proofs.Members.{clash, fails, agree, member-first, member-more, member-cases, member-none, all-member, all-members, length-without, not-in-without, distinct-without, distinct-rest, distinct-apart, covers}
 use Rattle.lists.proofs.Order.{of-insert, in-insert, insert-long, ascending-insert, ascending-same}
-use Rattle.lists.proofs.Products.{falling-first, falling-self, falling-none}
+use Rattle.lists.proofs.Products.{falling-first, falling-self}
 use Rattle.lists.proofs.Blocks.{count-sum, sum-zero, sum-blocks, keep-places, keep-without, keep-ext, keep-nothing}
 use Rattle.lists.proofs.Equal.{same-list, list-same}
 use Rattle.rules.specs.Chance.{drawnFrom, withFood}

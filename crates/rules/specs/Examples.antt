@@ -12,13 +12,13 @@ use Rattle.rules.specs.Step.{stepped}
 use Rattle.rules.specs.Chance.{free, outcomes, drawn, rankOf}
 use Rattle.rules.specs.View.{shows}
 use Rattle.rules.specs.LengthKey.{lengthKey}
-use Rattle.rules.specs.Events.{dies}
+use Rattle.rules.specs.Events.{dies, blank}
 use Rattle.rules.specs.declared.Setting.{Setting}
 use Rattle.rules.specs.declared.Limit.the-variants.{Unset}
 use Rattle.rules.specs.declared.Heading.{Heading}
 use Rattle.rules.specs.declared.Heading.the-variants.{Up, Right, Left}
 use Rattle.rules.specs.declared.Cause.{Cause}
-use Rattle.rules.specs.declared.Cause.the-variants.{NoCause, OppBody}
+use Rattle.rules.specs.declared.Cause.the-variants.{NoCause, Wall, OppBody}
 use Rattle.rules.specs.declared.Event.{Event}
 
 pub data Example : Type 0 where
@@ -87,4 +87,21 @@ theTwelve =
     ∷ move (plain 2 4 1 0) (facing (1 ∷ []) (2 ∷ 3 ∷ [])) (0 ∷ 0 ∷ [])
     (event OppBody false false true false ∷ event NoCause true true false false ∷ [])
     ∷ key (arena 6 0 (living Up (cells 3) ∷ living Up (cells 30) ∷ []) []) 65545
+    ∷ []
+
+-- ---- two moves more, for slips that the twelve do not notice
+
+abbrev pub dead : List ℕ → Snake
+dead b = record { heading = Up; alive = false; body = b }
+
+abbrev pub toLast : ℕ → ℕ → ℕ → Setting
+toLast n g k = record { snakes = n; grid = pos g; size = k; last = true; lead = Unset; food = 0; ticks = Unset }
+
+-- a head that enters a corpse's cell lives; the last play_to_last snake that dies alone neither lost nor drew
+unfoldable pub twoMore : List Example
+twoMore =
+    move (toLast 3 4 1) (arena 4 0 (living Right (0 ∷ []) ∷ dead (1 ∷ []) ∷ living Left (15 ∷ []) ∷ []) []) (0 ∷ 0 ∷ 0 ∷ [])
+    (blank ∷ blank ∷ blank ∷ [])
+    ∷ move (toLast 2 4 1) (arena 4 0 (living Up (0 ∷ []) ∷ dead (5 ∷ []) ∷ []) []) (0 ∷ 0 ∷ [])
+    (event Wall false false false false ∷ blank ∷ [])
     ∷ []

@@ -17,3 +17,5 @@ pub mod Says
 pub mod Calls
 pub mod Promises
 pub mod Examples
+pub mod Sample
+pub mod Births

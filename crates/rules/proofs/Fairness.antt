@@ -1,0 +1,185 @@
+-- The draw is fair (01, 'Chance'): for a state t whose food ascends, with n = length (free t) free cells, k = drawSize t draws and
+-- P = outcomes t, the indices below P and the ordered lists of k different free cells match one to one by `drawn` and `rankOf`, and each
+-- set of k free cells is added to the food by exactly k! of the indices. Below that, what a draw leaves as it was. Assumes nothing.
+use mathlib.Core.Path.{_≡_, refl, _∙_}
+use mathlib.Core.Bool.{true, false, not, _&&_}
+use mathlib.Core.List.{List, [], _∷_}
+use Prim.Native.Nat.{ℕ, zero, suc, _-_, _%_, _<_, min}
+use native.Mathlib.Nat.{mul-one, sub-zero, mod-eq-of-lt, lt-irrefl}
+use native.Mathlib.Omega.{arith}
+use lib.Dec.{eqb}
+use lib.ListN.{length, getD}
+use borrow.Author.Tests.{eqb-true, eq-eqb, ne-eqb}
+use Rattle.lists.specs.Below.{countBelow}
+use Rattle.lists.specs.Lists.{all, member, distinct, ascending}
+use Rattle.lists.specs.Products.{falling, factorial}
+use Rattle.lists.specs.Equal.{sameList}
+use Rattle.lists.proofs.Tests.{and-left, and-right, both}
+use Rattle.lists.proofs.Members.{all-member, all-members}
+use Rattle.rules.specs.State.{State, area}
+use Rattle.rules.specs.Chance.{taken, free, drawSize, outcomes, digits, pick, drawnFrom, drawn, withFood, afterDraw, rankOf, canRank}
+use Rattle.rules.proofs.FreeCells.{free-distinct, free-below, free-untaken, free-member, free-off-food}
+use Rattle.rules.proofs.Draws.{Listed, listed-turn, drawn-listed, drawn-none, rank-drawn, rank-lt, drawn-rank}
+use Rattle.rules.proofs.Sets.{food-count, with-none}
+
+pub record Fair (t : State) : Type 0 where
+  -- a cell is free if and only if it is on the board and neither food nor any body holds it
+  pub every-free : (c : ℕ) → c < area t → taken t c ≡ false → member c (free t) ≡ true
+  pub on-board : (c : ℕ) → member c (free t) ≡ true → c < area t
+  pub untaken : (c : ℕ) → member c (free t) ≡ true → taken t c ≡ false
+  pub free-once : distinct (free t) ≡ true
+  -- the count: k factors from n downward
+  pub count : outcomes t ≡ falling (length (free t)) (drawSize t)
+  -- each index draws k different free cells
+  pub long : (i : ℕ) → i < outcomes t → length (drawn t i) ≡ drawSize t
+  pub among : (i : ℕ) → i < outcomes t → (c : ℕ) → member c (drawn t i) ≡ true → member c (free t) ≡ true
+  pub once : (i : ℕ) → i < outcomes t → distinct (drawn t i) ≡ true
+  -- its list can be ranked, and ranks as the index
+  pub rankable : (i : ℕ) → i < outcomes t → canRank t (drawn t i) ≡ true
+  pub back : (i : ℕ) → i < outcomes t → rankOf t (drawn t i) ≡ i
+  -- each list of k different free cells is drawn by one index, its rank
+  pub ranks : (l : List ℕ) → canRank t l ≡ true → rankOf t l < outcomes t
+  pub forth : (l : List ℕ) → canRank t l ≡ true → drawn t (rankOf t l) ≡ l
+  -- each set of k free cells is the food that comes for exactly k! indices
+  pub sets : (s : List ℕ) → canRank t s ≡ true
+      → countBelow (outcomes t) (λ i. sameList (afterDraw t i .food) (withFood (t .food) s)) ≡ factorial (drawSize t)
+
+module _ (t : State) where
+  -- a list that can be ranked is an ordered list of k different free cells
+  pub ranked-listed : (l : List ℕ) → canRank t l ≡ true → Listed (free t) (drawSize t) l
+  unfolding canRank
+  ranked-listed l h =
+      let n = eqb (length l) (drawSize t) in
+      let a = all (λ c. member c (free t)) l in
+      let r = and-left (n && a) (distinct l) h in
+      record {
+        long = eqb-true (length l) (drawSize t) (and-left n a r);
+        among = λ c m. all-member (λ x. member x (free t)) l c (and-right n a r) m;
+        once = and-right (n && a) (distinct l) h;
+      }
+
+  pub listed-ranked : (l : List ℕ) → Listed (free t) (drawSize t) l → canRank t l ≡ true
+  unfolding canRank
+  listed-ranked l r =
+      both (both (eq-eqb (length l) (drawSize t) (r .long)) (all-members (λ x. member x (free t)) l (r .among))) (r .once)
+
+  pub listed : (i : ℕ) → i < outcomes t → Listed (free t) (drawSize t) (drawn t i)
+  unfolding drawn outcomes
+  listed i h = drawn-listed (free t) (drawSize t) i (free-distinct t) h
+
+  rank-back : (i : ℕ) → i < outcomes t → rankOf t (drawn t i) ≡ i
+  unfolding drawn outcomes rankOf
+  rank-back i h = rank-drawn (drawSize t) (free t) i (free-distinct t) h
+
+  rank-below : (l : List ℕ) → canRank t l ≡ true → rankOf t l < outcomes t
+  unfolding outcomes rankOf
+  rank-below l h = let r = ranked-listed l h in rw (r .long) at (rank-lt l (free t) (listed-turn (free t) l (drawSize t) r))
+
+  rank-forth : (l : List ℕ) → canRank t l ≡ true → drawn t (rankOf t l) ≡ l
+  unfolding drawn rankOf
+  rank-forth l h = let r = ranked-listed l h in rw (r .long) at (drawn-rank l (free t) (listed-turn (free t) l (drawSize t) r))
+
+  sets-count : ascending 0 (t .food) ≡ true → (s : List ℕ) → canRank t s ≡ true
+      → countBelow (outcomes t) (λ i. sameList (afterDraw t i .food) (withFood (t .food) s)) ≡ factorial (drawSize t)
+  unfolding outcomes afterDraw drawn
+  sets-count f s h = food-count (t .food) (free t) (drawSize t) f (free-off-food t) s (free-distinct t) (ranked-listed s h)
+
+  count-is : outcomes t ≡ falling (length (free t)) (drawSize t)
+  unfolding outcomes
+  count-is = refl
+
+  pub fair : ascending 0 (t .food) ≡ true → Fair t
+  fair f = record {
+    every-free = free-member t;
+    on-board = free-below t;
+    untaken = free-untaken t;
+    free-once = free-distinct t;
+    count = count-is;
+    long = λ i h. listed i h .long;
+    among = λ i h. listed i h .among;
+    once = λ i h. listed i h .once;
+    rankable = λ i h. listed-ranked (drawn t i) (listed i h);
+    back = rank-back;
+    ranks = rank-below;
+    forth = rank-forth;
+    sets = sets-count f;
+  }
+
+-- ---- what a draw leaves as it was, and what it changes
+
+pub record Settled (t : State) (i : ℕ) : Type 0 where
+  pub side : afterDraw t i .side ≡ t .side
+  pub snakes : afterDraw t i .snakes ≡ t .snakes
+  pub birth : afterDraw t i .birth ≡ false
+  pub due : afterDraw t i .due ≡ 0
+  pub food : afterDraw t i .food ≡ withFood (t .food) (drawn t i)
+
+-- a draw that is not at birth sets all apples that are due, or as many as there are free cells
+pub settled : (t : State) (i : ℕ) → t .birth ≡ false → Settled t i
+unfolding afterDraw
+settled t i b = record { side = refl; snakes = refl; birth = rw b; due = rw b; food = refl }
+
+pub later-size : (t : State) → t .birth ≡ false → drawSize t ≡ min (t .due) (length (free t))
+later-size t b = rw b
+
+-- ---- at birth: one apple a draw, and no draw without a free cell
+
+pub birth-size : (t : State) → t .birth ≡ true → drawSize t ≡ min 1 (length (free t))
+birth-size t b = rw b
+
+pub record Born (t : State) (i : ℕ) : Type 0 where
+  pub side : afterDraw t i .side ≡ t .side
+  pub snakes : afterDraw t i .snakes ≡ t .snakes
+  pub birth : afterDraw t i .birth ≡ not (eqb (t .due) 1)
+  pub due : afterDraw t i .due ≡ t .due - 1
+  pub food : afterDraw t i .food ≡ withFood (t .food) (getD (free t) i 0 ∷ [])
+  pub cell : drawn t i ≡ getD (free t) i 0 ∷ []
+  pub rank : rankOf t (getD (free t) i 0 ∷ []) ≡ i
+
+module _ (t : State) (b : t .birth ≡ true) where
+  one : 0 < length (free t) → drawSize t ≡ 1
+  one h = birth-size t b ∙ omega arith
+
+  -- the count is n
+  pub birth-count : 0 < length (free t) → outcomes t ≡ length (free t)
+  unfolding outcomes falling
+  birth-count h = rw (one h) (go (length (free t)))
+    where
+      go : (n : ℕ) → falling n 1 ≡ n
+      go zero = refl
+      go (suc n) = mul-one (suc n)
+
+  -- or 1 where no cell is free
+  pub birth-full : length (free t) ≡ 0 → outcomes t ≡ 1
+  unfolding outcomes falling
+  birth-full h = let e : drawSize t ≡ 0 = birth-size t b ∙ omega arith in rw e
+
+  birth-cell : (i : ℕ) → i < length (free t) → drawn t i ≡ getD (free t) i 0 ∷ []
+  unfolding drawn drawnFrom digits pick
+  birth-cell i h =
+      let n = length (free t) in
+      let m : i % (n - 0) ≡ i = rw sub-zero (mod-eq-of-lt h) in
+      rw (one (omega arith), m)
+
+  pub born : (i : ℕ) → i < length (free t) → Born t i
+  unfolding afterDraw
+  born i h =
+      let n : eqb (length (free t)) 0 ≡ false = ne-eqb (length (free t)) 0 (λ e. lt-irrefl 0 (omega arith)) in
+      record {
+        side = refl;
+        snakes = refl;
+        birth = rw (n, b);
+        due = rw (n, b);
+        food = rw (birth-cell i h);
+        cell = birth-cell i h;
+        rank = rw (birth-cell i h) at (rank-back t i (rw (birth-count (omega arith)) h));
+      }
+
+  -- no cell is free: nothing is drawn, and nothing is due any more
+  pub born-full : (i : ℕ) → length (free t) ≡ 0 → Settled t i × (drawn t i ≡ []) × (afterDraw t i .food ≡ t .food)
+  unfolding afterDraw drawn
+  born-full i e =
+      let n : eqb (length (free t)) 0 ≡ true = eq-eqb (length (free t)) 0 e in
+      let z : drawSize t ≡ 0 = birth-size t b ∙ omega arith in
+      let d : drawnFrom (free t) (drawSize t) i ≡ [] = rw z (drawn-none (free t) i) in
+      (record { side = refl; snakes = refl; birth = rw (n, b); due = rw (n, b); food = refl }, d, rw d (with-none (t .food)))
