@@ -12,7 +12,7 @@ ghost use Rattle.rules.specs.Placement.{rowOf, colOf, traced};
 ghost use Rattle.rules.specs.SettingParts.{startPlace};
 ghost use Rattle.rules.specs.declared.Heading.the-variants.{Up};
 ghost use Rattle.places.specs.Near.{Near};
-ghost use Rattle.setting.specs.Traces.{turnsOf, Walked, Wrote, Start};
+ghost use Rattle.setting.specs.Traces.{turnsOf, Walked, Wrote, Start, Ready, Placed};
 
 // A trace on its way: its last place, and which of its four directions it follows.
 struct Walk {
@@ -92,14 +92,7 @@ fn walk_on(g: u16, even: bool, from: Walk) -> Walk
 }
 
 // The cells of a body of `size` places from `start` on, or fewer where the directions are used up; how many.
-pub fn trace_body(
-    cells: &mut [u16],
-    at: usize,
-    g: u16,
-    start: Place,
-    even: bool,
-    size: usize,
-) -> usize
+fn trace_body(cells: &mut [u16], at: usize, g: u16, start: Place, even: bool, size: usize) -> usize
     requires { ⌜ (at + 125 ≤ length (now cells)) × (g ≤ 32) × (1 ≤ size) ⌝ }
     requires { ⌜ inside (pos g) start ≡ true ⌝ }
     ensures { λ r. ⌜ Wrote (now (cells .entry)) (now (cells .exit)) at (map (cellOf g) (traced (pos g) (turnsOf even) size start)) r ⌝ }
@@ -122,4 +115,23 @@ pub fn trace_body(
             return k;
         }
     }
+}
+
+// Every body, one after the other; false where some body cannot be traced to its length.
+pub fn place_snakes(cells: &mut [u16], g: u16, n: u16, size: usize) -> bool
+    requires { ⌜ Ready g n size (now cells) ⌝ }
+    ensures { λ r. ⌜ Placed g n size (now (cells .entry)) (now (cells .exit)) r ⌝ }
+{
+    let mut at = 0;
+    let mut i = 0;
+    while i < n {
+        let start = start_place(g, n, i);
+        let k = trace_body(cells, at, g, start, i % 2 == 0, size);
+        if k < size {
+            return false;
+        }
+        at += k;
+        i += 1;
+    }
+    true
 }
