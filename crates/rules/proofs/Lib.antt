@@ -21,3 +21,4 @@ pub mod Fairness
 pub mod Births
 pub mod DrawFacts
 pub mod Again
+pub mod SmallGrids
