@@ -83,7 +83,7 @@ pub fn same(p: Place, q: Place) -> bool
 }
 
 // A number that is not negative, without its sign.
-fn plain(x: i32) -> u16
+pub fn plain(x: i32) -> u16
     requires { ⌜ Plain x ⌝ }
     ensures { λ r. ⌜ r ≡ natAbs x ⌝ }
 {

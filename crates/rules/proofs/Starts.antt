@@ -8,7 +8,7 @@ use mathlib.Core.Bool.{Bool, true, false, cond, true≢false, false≢true}
 use lib.Dec.{T, ltb, eqb}
 use lib.IntN.{ℤ, pos, negsuc, negℤ, subℕ, natAbs, _+ℤ_, _-ℤ_}
 use lib.Signed.{ltZ, nonNeg, quotZ}
-use borrow.Author.Tests.{le-ltb, ltb-false}
+use borrow.Author.Tests.{le-ltb, ltb-false, ltb-true}
 use Rattle.lists.specs.Choice.{_if_else_}
 use Rattle.lists.proofs.Tests.{both, compared, same, other, tell}
 use Rattle.rules.specs.Places.{within, inside}
@@ -72,3 +72,25 @@ module _ (g n i : ℕ) (side : 3 ≤ g) (number : i < n) where
 
   pub start-inside : inside (pos g) (startPlace (pos g) n i) ≡ true
   start-inside = both row-in-grid col-in-grid
+
+-- ---- a grid by its side
+
+pub grid-two : (g : ℤ) → ltZ g (pos 2) ≡ false → ltZ g (pos 3) ≡ true → g ≡ pos 2
+grid-two (pos g) h l = ap pos (omega (arith, ltb-false g 2 h, ltb-true g 3 l))
+grid-two (negsuc g) h l = absurd (true≢false h)
+
+pub grid-side : (g : ℤ) → ltZ g (pos 3) ≡ false → g ≡ pos (sideOf g)
+grid-side (pos g) h = refl
+grid-side (negsuc g) h = absurd (true≢false h)
+
+pub side-three : (g : ℤ) → ltZ g (pos 3) ≡ false → 3 ≤ sideOf g
+side-three (pos g) h = ltb-false g 3 h
+side-three (negsuc g) h = absurd (true≢false h)
+
+pub side-plain-three : (g : ℤ) → ltZ g (pos 3) ≡ false → T (nonNeg g)
+side-plain-three (pos g) h = tt
+side-plain-three (negsuc g) h = absurd (true≢false h)
+
+pub side-abs : (g : ℤ) → ltZ g (pos 3) ≡ false → natAbs g ≡ sideOf g
+side-abs (pos g) h = refl
+side-abs (negsuc g) h = absurd (true≢false h)

@@ -64,3 +64,7 @@ placeCheck g n k f =
 -- a body's cells
 abbrev pub cellsOf : ℕ → ℕ → ℕ → ℕ → List ℕ
 cellsOf g n k i = map (cellOf g) (placed (pos g) n k i)
+
+-- the cells of all bodies of a setting
+abbrev pub startCells : Setting → List ℕ
+startCells s = concatBelow (s .snakes) (cellsOf (sideOf (s .grid)) (s .snakes) (s .size))
