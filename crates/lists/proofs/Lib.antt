@@ -13,3 +13,5 @@ pub mod Equal
 pub mod Lowest
 pub mod Boards
 pub mod Flags
+pub mod Shorter
+pub mod Pigeonhole

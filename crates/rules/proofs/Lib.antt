@@ -22,3 +22,4 @@ pub mod Births
 pub mod DrawFacts
 pub mod Again
 pub mod SmallGrids
+pub mod StepFacts

@@ -1,0 +1,6 @@
+mod Laws
+mod Left
+mod Words
+mod Room
+mod Link
+mod Follows

@@ -1,0 +1,29 @@
+// One step from a checked image: all living snakes move, all causes are judged on that one world, then the consequences.
+mod after;
+mod apply;
+mod bodies;
+mod events;
+mod food;
+mod killers;
+mod leads;
+mod next;
+
+use rules::Cause;
+use rules::Heading;
+use rules::Place;
+
+// A snake after the move: the rest of its body is the part of the image of `keep` words from `start` on.
+pub struct Move {
+    pub moves: bool,
+    pub heading: Heading,
+    pub head: Place,
+    pub start: usize,
+    pub keep: usize,
+    pub eats: bool,
+}
+
+// A move and what it led to.
+pub struct Judged {
+    pub moved: Move,
+    pub cause: Cause,
+}
