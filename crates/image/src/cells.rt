@@ -21,7 +21,7 @@ fn cells_below(cells: &[u16], area: u16) -> bool
 }
 
 // No cell twice: each leaves the body's stamp on the board, where no earlier body left it.
-fn stamps_once(body: &[u16], board: &mut [u8; 1024], stamp: u8) -> bool
+pub fn stamps_once(body: &[u16], board: &mut [u8; 1024], stamp: u8) -> bool
     requires { ⌜ Under 1024 (now body) ⌝ }
     requires { ⌜ Board stamp (now board) ⌝ }
     ensures { λ r. ⌜ Stamped (now (body .entry)) stamp r (now (board .exit)) ⌝ }

@@ -7,6 +7,7 @@ mod parts;
 mod table;
 mod words;
 
+pub use cells::stamps_once;
 pub use check::well_formed;
 pub use food::write_food;
 pub use lists::Found;

@@ -83,17 +83,25 @@ pub fn same(p: Place, q: Place) -> bool
 }
 
 // A number that is not negative, without its sign.
-fn plain(x: i32) -> u16
+pub fn plain(x: i32) -> u16
     requires { ⌜ Plain x ⌝ }
     ensures { λ r. ⌜ r ≡ natAbs x ⌝ }
 {
     x as u16
 }
 
-fn signed(x: u16) -> i32
+// A number as a coordinate.
+pub fn signed(x: u16) -> i32
     ensures { λ r. ⌜ r ≡ pos x ⌝ }
 {
     x as i32
+}
+
+// The same for a side of 16 bits.
+pub fn on_grid(g: u16, p: Place) -> bool
+    ensures { λ r. ⌜ r ≡ inside (pos g) p ⌝ }
+{
+    is_inside(signed(g), p)
 }
 
 // Row-major; 0 off the grid, where no rule asks for it.

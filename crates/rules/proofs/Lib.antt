@@ -12,9 +12,15 @@ pub mod FreeCells
 pub mod Digits
 pub mod Draws
 pub mod Sets
+pub mod SettingParts
+pub mod Placement
+pub mod Taken
+pub mod Starts
+pub mod PlaceCheck
 pub mod Fairness
 pub mod Births
 pub mod DrawFacts
 pub mod Again
 pub mod View
+pub mod SmallGrids
 pub mod StepFacts

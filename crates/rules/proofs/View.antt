@@ -229,8 +229,8 @@ module _ (w v : List ℕ) (a : ℕ) (s : Sound w) (k : DifferOnly w v a) where
     snakes = k .snakes;
     heading = k .heading;
     bodies = λ i h.
-      ap₂ (λ (n : ℕ) (l : List ℕ). take n l) (k .lengths i h) (past (startAt w i) (body-from w s i h) ∙ ap (λ (x : ℕ). drop x v) (k .starts i h));
+        ap₂ (λ (n : ℕ) (l : List ℕ). take n l) (k .lengths i h) (past (startAt w i) (body-from w s i h) ∙ ap (λ (x : ℕ). drop x v) (k .starts i h));
     food =
-      past (foodStart w) (omega arith)
-      ∙ ap (λ (x : ℕ). drop x v) (ap₂ (λ (x y : ℕ). front x + y) (k .snakes) (sum-ext (snakesIn w) (lengthAt w) (lengthAt v) (k .lengths) ∙ ap (λ (n : ℕ). sumBelow n (lengthAt v)) (k .snakes)));
+        past (foodStart w) (omega arith)
+        ∙ ap (λ (x : ℕ). drop x v) (ap₂ (λ (x y : ℕ). front x + y) (k .snakes) (sum-ext (snakesIn w) (lengthAt w) (lengthAt v) (k .lengths) ∙ ap (λ (n : ℕ). sumBelow n (lengthAt v)) (k .snakes)));
   }
