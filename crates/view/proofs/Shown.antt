@@ -56,13 +56,13 @@ module _ (m : ℕ) where
     plane-set h = ext-getD dark (set (plane m cs) x bright) (plane m (cs ++ (x ∷ [])))
         (length-set (plane m cs) x bright ∙ plane-long cs ∙ sym (plane-long (cs ++ (x ∷ []))))
         (λ i l.
-          let b : i < m = omega (arith, length-set (plane m cs) x bright, plane-long cs) in
-          elim (compared i x) [
-            | same e t ↦
+        let b : i < m = omega (arith, length-set (plane m cs) x bright, plane-long cs) in
+        elim (compared i x) [
+          | same e t ↦
               rw e (getD-set-same (plane m cs) x bright dark (omega (arith, plane-long cs)) ∙ sym (plane-at (cs ++ (x ∷ [])) x h ∙ ap lit now-there))
-            | other n t ↦
+          | other n t ↦
               getD-set-other (plane m cs) x i bright dark n ∙ plane-at cs i b ∙ sym (plane-at (cs ++ (x ∷ [])) i b ∙ ap lit (as-before i n))
-          ])
+        ])
 
   plane-marks : (cs new : List ℕ) (rest : List Float) → all (λ c. ltb c m) new ≡ true → marked new (plane m cs ++ rest) ≡ plane m (cs ++ new) ++ rest
   unfolding marked all
@@ -96,7 +96,7 @@ module _ (m : ℕ) where
         let fs = concatBelow ch (λ k. plane m (f k)) in
         let e = append-assoc fs (plane m (f ch)) rest in
         let gs : fs ≡ concatBelow ch (λ k. plane m (g k)) =
-              concat-ext ch (λ k. plane m (f k)) (λ k. plane m (g k)) (λ k l. ap (plane m) (sym (away k (λ q. omega arith)))) in
+        concat-ext ch (λ k. plane m (f k)) (λ k. plane m (g k)) (λ k l. ap (plane m) (sym (away k (λ q. omega arith)))) in
         ap₂ _++_ (ap (take (ch * m)) e ∙ take-at fs (plane m (f ch) ++ rest) (ch * m) (planes-long ch f))
         (ap (marked new) (ap (drop (ch * m)) e ∙ drop-at fs (plane m (f ch) ++ rest) (ch * m) (planes-long ch f)) ∙ plane-marks (f ch) new rest t)
         ∙ sym (append-assoc fs (plane m (f ch ++ new)) rest)

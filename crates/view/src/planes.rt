@@ -1,6 +1,5 @@
 // The five planes of an observation: the turn of a cell, and bodies and food marked with 1.0.
 use rules::Heading;
-
 ghost use mathlib.Core.Path.{_≡_};
 ghost use mathlib.Core.List.{map};
 ghost use Prim.Native.Nat.{_+_, _*_, _<_, _≤_};
@@ -47,7 +46,15 @@ fn mark(plane: &mut [f32], cells: &[u16], heading: Heading, g: u32)
 }
 
 // Marks a part of the image in plane ch, the plane as its own part of the lent numbers.
-fn mark_plane(obs: &mut [f32], ch: usize, image: &[u16], start: usize, len: usize, heading: Heading, g: u32)
+fn mark_plane(
+    obs: &mut [f32],
+    ch: usize,
+    image: &[u16],
+    start: usize,
+    len: usize,
+    heading: Heading,
+    g: u32,
+)
     requires { ⌜ Draws (now image) g ch (now obs) ⌝ }
     requires { ⌜ (front (snakesIn (now image)) ≤ start) × (start + len ≤ length (now image)) ⌝ }
     ensures { λ _. ⌜ now (obs .exit) ≡ markedIn (g * g) ch (map (turnedCell g heading) (take len (drop start (now (image .entry))))) (now (obs .entry)) ⌝ }
