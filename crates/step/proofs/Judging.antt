@@ -12,11 +12,12 @@ use Rattle.lists.specs.Below.{someBelow, eachBelow, filled}
 use Rattle.lists.specs.Lists.{member}
 use Rattle.lists.proofs.Missing.{missing-part}
 use Rattle.lists.proofs.Tests.{ordered, less, more}
-use Rattle.lists.proofs.Below.{some-ext, some-never, some-false, each-long, each-at, each-past, each-ext, each-map, filled-is}
+use Rattle.lists.proofs.Below.{some-ext, some-never, some-false, each-at, each-past, each-ext, each-map, filled-is}
 use Rattle.rules.specs.Places.{same, inside, cellOf}
 use Rattle.rules.specs.State.{nobody}
-use Rattle.rules.specs.Image.{front, snakesIn, sideIn, foodStart, foodAt, snakeAt, stateOf}
+use Rattle.rules.specs.Image.{front, snakesIn, sideIn, foodStart, foodAt, stateOf}
 use Rattle.rules.specs.Facts.{Sound}
+use Rattle.rules.proofs.Parts.{state-count}
 use Rattle.rules.specs.Step.{Moved, stays, movedOf, another, onBody, causeOf, outcomeOf, stepped}
 use Rattle.rules.specs.declared.Cause.the-variants.{NoCause, Wall, SelfBody, OppBody, HeadOn}
 use Rattle.rules.specs.declared.Setting.{Setting}
@@ -127,10 +128,13 @@ module _ (w acts : List ℕ) (s : Sound w) (all : List Move) (q : all ≡ filled
 
 -- ---- what the definition makes of a judged array
 
+pub cause-judged : (w acts : List ℕ) (r : List Judged) → Judges w acts r → (i : ℕ) → i < snakesIn w → causesOf r i ≡ causeOf (sideIn w) (snakesIn w) (judgedWorld w r) i
+cause-judged w acts r j i l = (λ k. j .causes k i) ∙ each-at (snakesIn w) (causeOf (sideIn w) (snakesIn w) (judgedWorld w r)) NoCause i l
+
 pub stepped-by : (w acts : List ℕ) (r : List Judged) (s : Setting) → Judges w acts r
     → stepped s (stateOf w) acts ≡ outcomeOf s (sideIn w) (snakesIn w) (foodAt w) (judgedWorld w r)
 unfolding stepped stateOf
 stepped-by w acts r s j =
-    let e = each-long (snakesIn w) (snakeAt w) in
+    let e = state-count w in
     (λ k. outcomeOf s (sideIn w) (e k) (foodAt w) (λ i. getD (eachBelow (e k) (movedOf (stateOf w) acts)) i (stays nobody)))
     ∙ ap (outcomeOf s (sideIn w) (snakesIn w) (foodAt w)) (sym (j .moved))

@@ -12,13 +12,13 @@ use lib.Seq.{take-take, getD-take, getD-drop}
 use borrow.Author.Tests.{eqb-true}
 use Rattle.lists.specs.Choice.{_if_else_}
 use Rattle.lists.specs.Lists.{member}
-use Rattle.lists.proofs.Below.{each-at}
 use Rattle.lists.proofs.Lists.{part-long}
 use Rattle.rules.specs.Headings.{headingOf, turned, actionOf}
 use Rattle.rules.specs.Places.{ahead, inside, cellOf, placeOf}
-use Rattle.rules.specs.State.{Snake, nobody, snakeOf}
-use Rattle.rules.specs.Image.{word, front, snakesIn, sideIn, foodCountIn, startAt, lengthAt, headingAt, aliveAt, foodStart, bodyAt, foodAt, snakeAt, stateOf}
+use Rattle.rules.specs.State.{Snake}
+use Rattle.rules.specs.Image.{word, front, snakesIn, sideIn, startAt, lengthAt, headingAt, aliveAt, foodStart, bodyAt, foodAt, snakeAt, stateOf}
 use Rattle.rules.specs.Facts.{Sound}
+use Rattle.rules.proofs.Parts.{state-snake}
 use Rattle.rules.specs.Step.{onFood, goes, stays, move, movedOf}
 use Rattle.rules.specs.declared.Heading.{Heading}
 use Rattle.rules.specs.declared.Place.{Place}
@@ -60,13 +60,9 @@ module _ (w : List ℕ) (s : Sound w) (i : ℕ) (l : i < snakesIn w) where
       ∙ ap (λ (c : ℕ). goes (bodyAt w i) h (p c) (onFood (sideIn w) (foodAt w) (p c))) q
   move-is a false e = refl
 
-  snake-is : snakeOf (stateOf w) i ≡ snakeAt w i
-  unfolding stateOf
-  snake-is = each-at (snakesIn w) (snakeAt w) nobody i l
-
   pub shown-move : (acts : List ℕ) → shown w (moveAt w acts i) ≡ movedOf (stateOf w) acts i
   unfolding moveBy stateOf
-  shown-move acts = move-is (getD acts i 0) (eqb (aliveAt w i) 1) refl ∙ ap (λ (z : Snake). move (sideIn w) (foodAt w) z (getD acts i 0)) (sym snake-is)
+  shown-move acts = move-is (getD acts i 0) (eqb (aliveAt w i) 1) refl ∙ ap (λ (z : Snake). move (sideIn w) (foodAt w) z (getD acts i 0)) (sym (state-snake w i l))
 
   abbrev Within : Move → Type 0
   Within m = (m .start ≡ startAt w i) × (m .keep ≤ lengthAt w i)
@@ -111,10 +107,6 @@ module _ (g : ℕ) (food : List ℕ) (p : Place) where
 
   pub food-on : inside (pos g) p ≡ true → member (cellOf g p) food ≡ onFood g food p
   food-on e = rw e
-
--- the food is the last part of the image
-pub food-from : (w : List ℕ) → Sound w → length w - foodCountIn w ≡ foodStart w
-food-from w s = omega (arith, s .total)
 
 pub near-cell : (g c : ℕ) → c < 65536 → Near (placeOf g c)
 near-cell g c h = record { row = omega (arith, div-le-self c g); col = omega (arith, mod-le c g) }

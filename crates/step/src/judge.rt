@@ -8,22 +8,13 @@ use rules::Heading;
 use rules::Place;
 ghost use mathlib.Core.Path.{_≡_};
 ghost use Prim.Native.Nat.{_+_, _<_, _≤_};
-ghost use lib.ListN.{length, take, drop};
+ghost use lib.ListN.{length};
 ghost use Rattle.lists.specs.Below.{someBelow};
-ghost use Rattle.lists.specs.Lists.{member};
 ghost use Rattle.rules.specs.Image.{snakesIn, sideIn};
 ghost use Rattle.rules.specs.Facts.{Sound};
 ghost use Rattle.rules.specs.Step.{causeOf};
 ghost use Rattle.step.specs.World.{world, Judges};
 ghost use Rattle.step.specs.Judging.{Rests, meetsAt, stopsBy, stopsAt, bodyCause};
-
-// Whether a part of the image holds the cell.
-fn part_holds(image: &[u16], start: usize, keep: usize, cell: u16) -> bool
-    requires { ⌜ start + keep ≤ length (now image) ⌝ }
-    ensures { λ r. ⌜ r ≡ member cell (take keep (drop start (now (image .entry)))) ⌝ }
-{
-    lists::holds(&image[start..start + keep], cell)
-}
 
 // Whether another snake than i moved to the same place.
 fn head_on(all: [Move; 8], n: usize, i: usize, head: Place) -> bool
@@ -51,7 +42,7 @@ fn stops(image: &[u16], i: usize, j: usize, you: Move, cell: u16) -> bool
     if !you.moves {
         return false;
     }
-    part_holds(image, you.start, you.keep, cell)
+    image::holds_in(image, you.start, you.keep, cell)
 }
 
 // Whether some snake has the cell so. Heads are not asked: a head there was head-on.
@@ -82,7 +73,7 @@ fn body_cause(image: &[u16], all: [Move; 8], n: usize, i: usize, cell: u16) -> C
         return Cause::NoCause;
     }
     let me = all[i];
-    if part_holds(image, me.start, me.keep, cell) {
+    if image::holds_in(image, me.start, me.keep, cell) {
         return Cause::SelfBody;
     }
     if stopped(image, all, n, i, cell) {

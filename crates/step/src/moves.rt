@@ -58,7 +58,7 @@ pub fn on_grid(g: u16, p: Place) -> bool
     places::is_inside(g as i32, p)
 }
 
-// Whether there is food at a place: the food is the image's last part.
+// Whether there is food at a place.
 fn on_food(image: &[u16], p: Place) -> bool
     requires { ⌜ Sound (now image) ⌝ }
     ensures { λ r. ⌜ r ≡ onFood (sideIn (now (image .entry))) (foodAt (now (image .entry))) p ⌝ }
@@ -67,9 +67,8 @@ fn on_food(image: &[u16], p: Place) -> bool
     if !on_grid(g, p) {
         return false;
     }
-    let cell = places::cell_of(g, p);
-    let from = image.len() - image[4] as usize;
-    lists::holds(&image[from..], cell)
+    let food = image::food_of(image);
+    lists::holds(food, places::cell_of(g, p))
 }
 
 // The body of `len` words from `start` on goes one place on; its tail stays only where the new head is on food.

@@ -48,11 +48,11 @@ mul-me c = search needs
 array-copy-out-me : tie.Need-array-copy-out-me
 array-copy-out-me c = search needs
 
-part-holds-requires : tie.Need-part-holds-requires
-part-holds-requires c κs = let s = c .before .before .before .before .before in s .pre .1 .0 .fits (s .args .i)
+holds-in-requires : tie.Need-holds-in-requires
+holds-in-requires c κs = let s = c .before .before .before .before .before in s .pre .1 .0 .fits (s .args .i)
 
 returns-2 : tie.Need-returns-2
-returns-2 c = let a = c .before .before .before .before .before .before .before .args in body-by (now (a .image)) (a .t2) (a .i) (a .cell) (a .n) (sym (c .before .part-holds .ensures) ∙ c .if2 .taken) refl
+returns-2 c = let a = c .before .before .before .before .before .before .before .args in body-by (now (a .image)) (a .t2) (a .i) (a .cell) (a .n) (sym (c .before .holds-in .ensures) ∙ c .if2 .taken) refl
 
 stopped-requires : tie.Need-stopped-requires
 stopped-requires c κs = search needs
@@ -61,13 +61,13 @@ returns-3 : tie.Need-returns-3
 returns-3 c =
     let e = c .before .before in
     let a = e .before .before .before .before .before .before .before .args in
-    body-by (now (a .image)) (a .t2) (a .i) (a .cell) (a .n) (sym (e .before .part-holds .ensures) ∙ e .if2 .left) (sym (c .before .stopped .ensures) ∙ c .if3 .taken)
+    body-by (now (a .image)) (a .t2) (a .i) (a .cell) (a .n) (sym (e .before .holds-in .ensures) ∙ e .if2 .left) (sym (c .before .stopped .ensures) ∙ c .if3 .taken)
 
 returns-4 : tie.Need-returns-4
 returns-4 c =
     let e = c .before .before in
     let a = e .before .before .before .before .before .before .before .args in
-    body-by (now (a .image)) (a .t2) (a .i) (a .cell) (a .n) (sym (e .before .part-holds .ensures) ∙ e .if2 .left) (sym (c .before .stopped .ensures) ∙ c .if3 .left)
+    body-by (now (a .image)) (a .t2) (a .i) (a .cell) (a .n) (sym (e .before .holds-in .ensures) ∙ e .if2 .left) (sym (c .before .stopped .ensures) ∙ c .if3 .left)
 
 pub body-cause-spec : {M : Type 1} → statement M
 body-cause-spec =
@@ -83,7 +83,7 @@ body-cause-spec =
     returns
     mul-me
     array-copy-out-me
-    part-holds-requires
+    holds-in-requires
     returns-2
     stopped-requires
     returns-3

@@ -16,13 +16,13 @@ returns-2 c =
     let a = c .before .before .before .before .args in
     stops-by (now (a .image)) (a .i) (a .j) (a .you) (a .cell) (ne-eqb _ _ (c .before .before .if1 .left)) (not-true _ (c .if2 .taken))
 
-part-holds-requires : tie.Need-part-holds-requires
-part-holds-requires c κs = search needs
+holds-in-requires : tie.Need-holds-in-requires
+holds-in-requires c κs = search needs
 
 returns-3 : tie.Need-returns-3
 returns-3 c =
     let a = c .before .before .before .before .before .args in
-    c .part-holds .ensures ∙ stops-by (now (a .image)) (a .i) (a .j) (a .you) (a .cell) (ne-eqb _ _ (c .before .before .before .if1 .left)) (not-false _ (c .before .if2 .left))
+    c .holds-in .ensures ∙ stops-by (now (a .image)) (a .i) (a .j) (a .you) (a .cell) (ne-eqb _ _ (c .before .before .before .if1 .left)) (not-false _ (c .before .if2 .left))
 
 pub stops-spec : {M : Type 1} → statement M
-stops-spec = tie.close (tie.spec returns returns-2 part-holds-requires returns-3)
+stops-spec = tie.close (tie.spec returns returns-2 holds-in-requires returns-3)
