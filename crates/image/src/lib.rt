@@ -2,14 +2,12 @@
 mod cells;
 mod check;
 mod contents;
-mod food;
 mod parts;
 mod table;
 mod words;
 
 pub use cells::stamps_once;
 pub use check::well_formed;
-pub use food::write_food;
 pub use lists::Found;
 pub use lists::find;
 pub use lists::holds;

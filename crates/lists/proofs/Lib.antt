@@ -17,7 +17,6 @@ pub mod Flags
 pub mod Squares
 pub mod Parts
 pub mod Insertion
-pub mod Inserts
 pub mod Shorter
 pub mod Pigeonhole
 pub mod Runs
