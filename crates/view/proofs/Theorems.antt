@@ -13,13 +13,14 @@ use Rattle.lists.specs.Choice.{_if_else_}
 use Rattle.lists.proofs.Tests.{tell}
 use Rattle.rules.specs.Image.{snakesIn, aliveAt, wellFormed}
 use Rattle.rules.specs.Turns.{truncated}
-use Rattle.rules.specs.Says.{refuses, gives, says, seen, lent}
+use Rattle.rules.specs.Says.{refuses, gives, seen, lent}
 use Rattle.rules.specs.Calls.{observeSays, truncationSays}
 use Rattle.rules.specs.Promises.{Observes, Truncates}
 use Rattle.rules.specs.declared.Answer.{Answer}
 use Rattle.rules.specs.declared.Event.{Event}
 use Rattle.rules.specs.declared.Truncated.the-variants.{Marked}
 use Rattle.rules.proofs.Facts.{sound}
+use Rattle.rules.proofs.Answers.{answer-one}
 use Rattle.rules.proofs.View.{Alike, same-view, DifferOnly, alike}
 use Rattle.view.proofs.Gates.{mark-20, mark-26, mark-gives}
 
@@ -42,7 +43,7 @@ module _ (w v : List ℕ) (a : ℕ) (p : wellFormed w ≡ true) (q : wellFormed 
 
 -- two calls into equal buffers: equal answers, and equal numbers afterwards
 pub record SameSeen (new new' : List Float) (r r' : Answer) : Type 0 where
-  pub answers : says r ≡ says r'
+  pub answers : r ≡ r'
   pub numbers : new ≡ new'
 
 module _ (w v : List ℕ) (a : ℕ) (p : wellFormed w ≡ true) (q : wellFormed v ≡ true)
@@ -52,7 +53,7 @@ module _ (w v : List ℕ) (a : ℕ) (p : wellFormed w ≡ true) (q : wellFormed 
   same-seen k =
       let e = same-says w v a p q k (length old) in
       record {
-        answers = x .answer ∙ ap (seen (λ v. length v)) e ∙ sym (y .answer);
+        answers = answer-one r r' (x .answer ∙ ap (seen (λ v. length v)) e ∙ sym (y .answer));
         numbers = x .numbers ∙ ap (lent (λ v. v) old) e ∙ sym (y .numbers);
       }
 
