@@ -1,12 +1,12 @@
 -- What an agent sees: where cells show under each heading, and on what the planes depend. Assumes nothing.
 use Prim.Native.Nat.{ℕ, zero, suc, _+_, _-_, _*_, _/_, _%_, _≤_, _<_}
 use mathlib.Core.Path.{_≡_, refl, sym, ap, ap₂, _∙_}
-use mathlib.Core.Bool.{Bool, true, false, _&&_, false≢true}
+use mathlib.Core.Bool.{true, false, false≢true}
 use mathlib.Core.List.{List, [], _∷_, map}
 use native.Mathlib.Omega.{arith}
 use lib.Dec.{eqb, leb, ltb}
-use lib.IntN.{pos, negsuc, sucℤ, predℤ}
-use lib.ListN.{length, getD, take, drop}
+use lib.IntN.{pos}
+use lib.ListN.{getD, take, drop}
 use lib.Seq.{drop-drop}
 use borrow.Author.Tests.{ltb-true, lt-ltb}
 use Rattle.lists.specs.Choice.{_if_else_}
@@ -16,14 +16,13 @@ use Rattle.lists.proofs.Tests.{and-left, and-right, both}
 use Rattle.lists.proofs.Below.{concat-ext, sum-ext}
 use Rattle.lists.proofs.Squares.{row-lt, col-lt, cell-is, cell-lt, row-of, col-of, far-rows}
 use Rattle.rules.specs.Headings.{headingOf}
-use Rattle.rules.specs.State.{Snake, State, count, snakeOf}
+use Rattle.rules.specs.State.{Snake}
 use Rattle.rules.specs.Places.{ahead, inside, within, cellOf, placeOf}
-use Rattle.rules.specs.Image.{front, snakesIn, sideIn, foodCountIn, startAt, lengthAt, headingAt, startDue, foodStart, bodyOf, bodyAt, foodAt, stateOf}
+use Rattle.rules.specs.Image.{front, snakesIn, sideIn, foodCountIn, startAt, lengthAt, headingAt, foodStart, bodyOf, bodyAt, foodAt, stateOf}
 use Rattle.rules.specs.Facts.{Sound}
 use Rattle.rules.specs.View.{shows, turnedCell, plane, channels, viewOf, view}
 use Rattle.rules.specs.declared.Heading.{Heading}
 use Rattle.rules.specs.declared.Heading.the-variants.{Up, Right, Down, Left}
-use Rattle.rules.specs.declared.Place.{Place}
 use Rattle.rules.proofs.Parts.{state-count, state-snake, state-body, body-from}
 
 -- ---- where a cell shows

@@ -1,27 +1,26 @@
 -- What the answers of the calls tell, from their promises alone. Assumes nothing.
-use Prim.Native.Nat.{ℕ, _*_, _<_, _≤_}
+use Prim.Native.Nat.{ℕ, _*_}
 use mathlib.Core.Path.{_≡_, refl, sym, ap, ap₂, _∙_}
 use mathlib.Core.Logic.{⊎-elim}
-use mathlib.Core.Bool.{Bool, true, false, not}
+use mathlib.Core.Bool.{Bool, true, false}
 use mathlib.Core.List.{List}
 use native.Mathlib.Omega.{arith}
 use lib.Dec.{eqb, ltb}
 use lib.Ieee.{Float}
 use lib.ListN.{length}
-use borrow.Author.Tests.{ltb-true}
+use borrow.Author.Tests.{ltb-true, ltb-false}
 use Rattle.lists.specs.Choice.{_if_else_}
 use Rattle.lists.proofs.Tests.{tell}
-use Rattle.rules.specs.Image.{snakesIn, sideIn, areaIn, aliveAt, stateOf, wellFormed}
+use Rattle.rules.specs.Image.{snakesIn, aliveAt, wellFormed}
 use Rattle.rules.specs.Turns.{truncated}
-use Rattle.rules.specs.View.{view}
-use Rattle.rules.specs.Says.{Says, refuses, gives, says, seen, lent}
+use Rattle.rules.specs.Says.{refuses, gives, seen, lent}
 use Rattle.rules.specs.Calls.{observeSays, truncationSays}
 use Rattle.rules.specs.Promises.{Observes, Truncates}
 use Rattle.rules.specs.declared.Answer.{Answer}
 use Rattle.rules.specs.declared.Event.{Event}
-use Rattle.rules.specs.declared.Truncated.{Truncated}
 use Rattle.rules.specs.declared.Truncated.the-variants.{Marked}
 use Rattle.rules.proofs.Facts.{sound}
+use Rattle.rules.proofs.Answers.{answer-one}
 use Rattle.rules.proofs.View.{Alike, same-view, DifferOnly, alike}
 use Rattle.view.proofs.Gates.{mark-20, mark-26, mark-gives}
 
@@ -44,7 +43,7 @@ module _ (w v : List ℕ) (a : ℕ) (p : wellFormed w ≡ true) (q : wellFormed 
 
 -- two calls into equal buffers: equal answers, and equal numbers afterwards
 pub record SameSeen (new new' : List Float) (r r' : Answer) : Type 0 where
-  pub answers : says r ≡ says r'
+  pub answers : r ≡ r'
   pub numbers : new ≡ new'
 
 module _ (w v : List ℕ) (a : ℕ) (p : wellFormed w ≡ true) (q : wellFormed v ≡ true)
@@ -54,7 +53,7 @@ module _ (w v : List ℕ) (a : ℕ) (p : wellFormed w ≡ true) (q : wellFormed 
   same-seen k =
       let e = same-says w v a p q k (length old) in
       record {
-        answers = x .answer ∙ ap (seen (λ v. length v)) e ∙ sym (y .answer);
+        answers = answer-one r r' (x .answer ∙ ap (seen (λ v. length v)) e ∙ sym (y .answer));
         numbers = x .numbers ∙ ap (lent (λ v. v) old) e ∙ sym (y .numbers);
       }
 
@@ -88,7 +87,7 @@ module _ (w : List ℕ) (a : ℕ) (e f : Event) (x : Truncates w a e (Marked f))
   living : wellFormed w ≡ true → OnlySurvival e f (eqb (aliveAt w a) 1)
   living p = ⊎-elim
       (λ t. from-gives (eqb (aliveAt w a) 1) (mark-gives w p a (ltb-true a (snakesIn w) t) e))
-      (λ t. absurd (never-refused 26 (mark-26 w p a (borrow.Author.Tests.ltb-false a (snakesIn w) t) e)))
+      (λ t. absurd (never-refused 26 (mark-26 w p a (ltb-false a (snakesIn w) t) e)))
       (tell (ltb a (snakesIn w)))
 
   -- a marked event is the event, but for the survival flag, which is the agent's alive flag
