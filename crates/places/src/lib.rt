@@ -67,7 +67,7 @@ pub fn is_inside(g: i32, p: Place) -> bool
     false
 }
 
-fn equal(a: i32, b: i32) -> bool
+pub fn equal(a: i32, b: i32) -> bool
     ensures { λ r. ⌜ r ≡ sameZ a b ⌝ }
 {
     a == b

@@ -6,3 +6,4 @@ mod Link
 mod Follows
 pub mod Moving
 pub mod Judging
+mod Asked

@@ -5,3 +5,4 @@ pub mod Next
 pub mod Applied
 pub mod Moving
 pub mod Judging
+pub mod Asked
