@@ -26,10 +26,11 @@ fn has_cell(image: &[u16], a: After, cell: u16) -> bool
     requires { ⌜ a .start + a .keep ≤ length (now image) ⌝ }
     ensures { λ r. ⌜ r ≡ holdsAt (now (image .entry)) a cell ⌝ }
 {
+    let at_head = cell == a.cell;
     if !a.lives {
         return false;
     }
-    (cell == a.cell) | image::holds_in(image, a.start, a.keep, cell)
+    at_head | image::holds_in(image, a.start, a.keep, cell)
 }
 
 // The lowest-numbered survivor whose body holds a cell, or n.

@@ -4,7 +4,6 @@ use Rattle.step.proofs.apply.conclude.Statement.{statement}
 use mathlib.Core.Path.{_≡_, refl, _∙_}
 use lib.ListN.{length}
 use denote.Ref.{now}
-use Rattle.step.specs.After.{cells}
 use Rattle.step.specs.Next.{nextIn, outcomeIn, answered, written}
 use Rattle.rules.specs.Image.{imageOf, sideIn}
 use Rattle.step.proofs.Link.{terminal-is, events-are}

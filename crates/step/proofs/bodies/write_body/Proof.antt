@@ -10,7 +10,7 @@ use lib.ListN.{length, length-append}
 use denote.Ref.{now}
 use Rattle.step.specs.After.{part}
 use Rattle.lists.proofs.Lists.{part-is}
-use Rattle.lists.specs.Lists.{writeAt, keep}
+use Rattle.lists.specs.Lists.{writeAt}
 use Rattle.step.proofs.Words.{body-is, part-size}
 use Rattle.step.specs.Next.{headOf}
 use Rattle.step.proofs.bodies.write_body.Tie as tie

@@ -2,7 +2,6 @@ use borrow.Author.Needs.{needs}
 use Rattle.step.proofs.bodies.write_head.Statement.{statement}
 use native.Mathlib.Omega.{arith}
 use denote.Ref.{now}
-use Rattle.step.specs.Left.{left}
 use Rattle.step.proofs.Words.{head-written, head-left}
 use Rattle.step.proofs.bodies.write_head.Tie as tie
 

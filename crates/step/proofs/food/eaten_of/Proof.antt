@@ -11,7 +11,6 @@ use mathlib.Core.List.{List, [], _∷_, _++_}
 use Rattle.lists.proofs.Below.{count-none, concat-none}
 use borrow.Author.Tests.{not-true, not-false}
 use Rattle.step.proofs.Left.{bite-none, bite-next, eating-none, eating-next}
-use Rattle.step.specs.Left.{left}
 use lib.Seq.{take-suc-set}
 use native.Mathlib.Numerals.{add-one}
 use Rattle.step.proofs.food.eaten_of.Tie as tie

@@ -7,11 +7,10 @@ use denote.Ref.{now}
 use Rattle.step.specs.After.{part}
 use Rattle.step.proofs.Laws.{body-holds, body-gone}
 use borrow.Author.Tests.{not-true, not-false}
-use Rattle.step.specs.Left.{left}
 use Rattle.step.proofs.killers.has_cell.Tie as tie
 
 returns : tie.Need-returns
-returns c = let a = c .before .before .before .args in body-gone (a .a .lives) (a .cell) (a .a .cell) (part (now (a .image)) (a .a)) (not-true _ (c .if1 .taken))
+returns c = let a = c .before .before .before .before .args in body-gone (a .a .lives) (a .cell) (a .a .cell) (part (now (a .image)) (a .a)) (not-true _ (c .if1 .taken))
 
 holds-in-requires : tie.Need-holds-in-requires
 holds-in-requires c κs = search needs
@@ -22,7 +21,7 @@ returns-2 c =
     let w = now (s .args .image) in
     let a = s .args .a in
     let x = s .args .cell in
-    ap (λ (b : Bool). eqb x (a .cell) || b) (c .holds-in .ensures) ∙ body-holds (a .lives) x (a .cell) (part w a) (not-false _ (c .before .before .if1 .left))
+    ap (λ (b : Bool). eqb x (a .cell) || b) (c .holds-in .ensures) ∙ body-holds (a .lives) x (a .cell) (part w a) (not-false _ (c .before .if1 .left))
 
 pub has-cell-spec : {M : Type 1} → statement M
 has-cell-spec = tie.close (tie.spec returns holds-in-requires returns-2)
