@@ -23,3 +23,4 @@ pub mod DrawFacts
 pub mod Again
 pub mod SmallGrids
 pub mod StepFacts
+pub mod SettingFacts
