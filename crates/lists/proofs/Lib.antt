@@ -15,3 +15,4 @@ pub mod Boards
 pub mod Flags
 pub mod Shorter
 pub mod Pigeonhole
+pub mod Distinct

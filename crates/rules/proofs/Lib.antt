@@ -24,3 +24,4 @@ pub mod Again
 pub mod SmallGrids
 pub mod StepFacts
 pub mod SettingFacts
+pub mod InitialFacts

@@ -60,7 +60,7 @@ fine false true true e = absurd (suc-ne-zero 11 e)
 fine false true false e = record { nine = refl; eleven = refl; twelve = refl }
 
 -- cells of places inside
-cells-all : (g : ℕ) (ps : List Place) → all (inside (pos g)) ps ≡ true → all (λ c. ltb c (g * g)) (map (cellOf g) ps) ≡ true
+pub cells-all : (g : ℕ) (ps : List Place) → all (inside (pos g)) ps ≡ true → all (λ c. ltb c (g * g)) (map (cellOf g) ps) ≡ true
 unfolding all
 cells-all g [] k = refl
 cells-all g (p ∷ ps) k =
