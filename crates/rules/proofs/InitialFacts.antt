@@ -44,7 +44,7 @@ module _ (s : Setting) (a : Accepts s) where
   pub start-body : (i : ℕ) → i < s .snakes → bodyOf (initialState s) i ≡ cellsOf (sideOf (s .grid)) (s .snakes) (s .size) i
   start-body i h = ap (λ (z : Snake). z .body) (start-snake i h) ∙ by-side i
 
-  cells-long : (i : ℕ) → i < s .snakes → length (cellsOf (sideOf (s .grid)) (s .snakes) (s .size) i) ≡ s .size
+  pub cells-long : (i : ℕ) → i < s .snakes → length (cellsOf (sideOf (s .grid)) (s .snakes) (s .size) i) ≡ s .size
   cells-long i h =
       length-map (placed (pos (sideOf (s .grid))) (s .snakes) (s .size) i) (cellOf (sideOf (s .grid)))
       ∙ ap (λ (z : ℤ). length (placed z (s .snakes) (s .size) i)) (sym (a .grid-is))

@@ -3,3 +3,4 @@ pub mod Going
 pub mod Laying
 pub mod Judging
 pub mod Written
+pub mod Starting
