@@ -25,3 +25,4 @@ pub mod SmallGrids
 pub mod StepFacts
 pub mod SettingFacts
 pub mod InitialFacts
+pub mod Extremes
