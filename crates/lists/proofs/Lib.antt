@@ -20,3 +20,4 @@ pub mod Insertion
 pub mod Shorter
 pub mod Pigeonhole
 pub mod Runs
+pub mod Distinct

@@ -24,3 +24,6 @@ pub mod Again
 pub mod View
 pub mod SmallGrids
 pub mod StepFacts
+pub mod SettingFacts
+pub mod InitialFacts
+pub mod Extremes

@@ -44,7 +44,7 @@ unfolding concatBelow all
 all-concat p zero h k = refl
 all-concat p (suc n) h k = all-append p (concatBelow n h) (h n) ∙ both (all-concat p n h (λ i l. k i (omega arith))) (k n (le-refl _))
 
-sum-same : (n k : ℕ) → sumBelow n (λ i. k) ≡ n * k
+pub sum-same : (n k : ℕ) → sumBelow n (λ i. k) ≡ n * k
 unfolding sumBelow
 sum-same zero k = omega arith
 sum-same (suc n) k = omega (arith, sum-same n k)

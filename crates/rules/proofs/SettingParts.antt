@@ -90,8 +90,8 @@ module _ (s : Setting) (e : limitsCheck s ≡ 0) where
   pub lead-some : isZero (s .lead) ≡ false
   lead-some = cleared .three
 
-  pub lead-two : (isSet (s .lead) && not (eqb (s .snakes) 2)) ≡ false
-  lead-two = cleared .four
+  pub lead-two-or : (isSet (s .lead) && not (eqb (s .snakes) 2)) ≡ false
+  lead-two-or = cleared .four
 
-  pub worst-max : worst s ≤ 2 ^ 53
-  worst-max = ltb-false (2 ^ 53) (worst s) (cleared .last)
+  pub worst-most : worst s ≤ 2 ^ 53
+  worst-most = ltb-false (2 ^ 53) (worst s) (cleared .last)

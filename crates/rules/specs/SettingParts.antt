@@ -2,16 +2,18 @@
 use Prim.Native.Nat.{ℕ, zero, suc, _+_, _*_, _-_, _^_, _<_, _≤_, min}
 use mathlib.Core.Path.{_≡_}
 use mathlib.Core.Bool.{Bool, true, false, not, _&&_, _||_}
-use mathlib.Core.List.{List, [], map}
+use mathlib.Core.List.{List, [], _∷_, map}
 use lib.Dec.{ltb, eqb}
 use lib.ListN.{length}
 use lib.IntN.{ℤ, pos}
 use lib.Signed.{ltZ}
-use Rattle.lists.specs.Choice.{_if_else_}
+use Rattle.lists.specs.Choice.{_if_else_, bit}
 use Rattle.lists.specs.Below.{someBelow, concatBelow}
 use Rattle.lists.specs.Products.{falling}
 use Rattle.rules.specs.Places.{cellOf}
-use Rattle.rules.specs.Placement.{rowOf, colOf, placed}
+use Rattle.rules.specs.Headings.{numberOf}
+use Rattle.rules.specs.Image.{front}
+use Rattle.rules.specs.Placement.{rowOf, colOf, startHeading, placed}
 use Rattle.rules.specs.Setting.{isSet, isZero, sideOf, areaOf, worst, badCell}
 use Rattle.rules.specs.declared.Setting.{Setting}
 use Rattle.rules.specs.declared.Place.{Place}
@@ -68,3 +70,11 @@ cellsOf g n k i = map (cellOf g) (placed (pos g) n k i)
 -- the cells of all bodies of a setting
 abbrev pub startCells : Setting → List ℕ
 startCells s = concatBelow (s .snakes) (cellsOf (sideOf (s .grid)) (s .snakes) (s .size))
+
+-- the record of snake i, of n snakes of k cells
+abbrev pub startRecord : ℕ → ℕ → ℕ → List ℕ
+startRecord n k i = (front n + k * i) ∷ k ∷ numberOf (startHeading i) ∷ 1 ∷ []
+
+-- words 0 to 4
+abbrev pub startContents : Setting → List ℕ
+startContents s = s .snakes ∷ sideOf (s .grid) ∷ s .food ∷ bit (ltb 0 (s .food)) ∷ 0 ∷ []

@@ -2,3 +2,5 @@ pub mod Walks
 pub mod Going
 pub mod Laying
 pub mod Judging
+pub mod Written
+pub mod Starting
