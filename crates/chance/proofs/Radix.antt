@@ -9,10 +9,10 @@ use lib.Dec.{ltb}
 use lib.ListN.{length, drop, set, drop-of-length-le}
 use lib.Seq.{drop-cons, lt-length-set, getD-set-same, drop-set-lt}
 use borrow.Author.Tests.{lt-ltb, le-ltb}
-use Rattle.lists.specs.Choice.{_if_else_}
 use Rattle.lists.specs.Products.{falling}
 use Rattle.lists.proofs.Products.{falling-next, falling-mono}
 use Rattle.rules.specs.Chance.{digits}
+use Rattle.chance.specs.Odds.{fitted}
 use Rattle.rules.proofs.Digits.{digits-next}
 
 -- the next factor of a product that is p so far
@@ -21,7 +21,8 @@ module _ (n k j p : ℕ) (h : j < k) (g : k ≤ n) (e : p ≡ falling n j) where
   product-le = rw (e, ← (falling-next n j)) (falling-mono n (j + 1) k (omega arith) g)
 
   -- it passes the limit: so does the whole
-  pub product-over : (2 ^ 64 - 1) / (n - j) < p → 0 ≡ (0 if ltb (2 ^ 64 - 1) (falling n k) else falling n k)
+  pub product-over : (2 ^ 64 - 1) / (n - j) < p → 0 ≡ fitted (falling n k)
+  unfolding fitted
   product-over o =
       let f : 0 < n - j = omega arith in
       let q : 2 ^ 64 - 1 < p * (n - j) = div-lt-iff-lt-mul f .0 o in
@@ -33,7 +34,8 @@ module _ (n k j p : ℕ) (h : j < k) (g : k ≤ n) (e : p ≡ falling n j) where
       let f : 0 < n - j = omega arith in
       lt-of-not-le (λ z. not-le-of-lt (div-lt-iff-lt-mul f .1 (le-trans (omega arith) z)) o)
 
-pub product-done : (n k p : ℕ) → p ≡ falling n k → p < 2 ^ 64 → p ≡ (0 if ltb (2 ^ 64 - 1) (falling n k) else falling n k)
+pub product-done : (n k p : ℕ) → p ≡ falling n k → p < 2 ^ 64 → p ≡ fitted (falling n k)
+unfolding fitted
 product-done n k p e h = rw (le-ltb (2 ^ 64 - 1) (falling n k) (rw (← e) (omega arith))) e
 
 -- a digit more, from the last to the first

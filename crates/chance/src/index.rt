@@ -1,16 +1,15 @@
 // Numbers of outcomes, and an index in mixed radix.
 ghost use mathlib.Core.Path.{_≡_};
-ghost use Prim.Native.Nat.{ℕ, _+_, _-_, _≤_, _<_, _^_};
-ghost use lib.Dec.{ltb};
+ghost use Prim.Native.Nat.{_≤_};
 ghost use lib.ListN.{length};
-ghost use Rattle.lists.specs.Choice.{_if_else_};
 ghost use Rattle.lists.specs.Products.{falling};
 ghost use Rattle.rules.specs.Chance.{digits};
+ghost use Rattle.chance.specs.Odds.{fitted};
 
 // The product of k factors from n downward. It is never 0: 0 stands for one above 2^64 - 1.
 pub fn product(n: usize, k: usize) -> u64
     requires { ⌜ k ≤ n ⌝ }
-    ensures { λ r. ⌜ r ≡ (0 if ltb (2 ^ 64 - 1) (falling n k) else falling n k) ⌝ }
+    ensures { λ r. ⌜ r ≡ fitted (falling n k) ⌝ }
 {
     let mut p: u64 = 1;
     let mut j = 0;

@@ -12,3 +12,4 @@ pub mod Equal
 pub mod Lowest
 pub mod Boards
 pub mod Flags
+pub mod Insert

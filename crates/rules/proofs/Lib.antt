@@ -14,3 +14,4 @@ pub mod Fairness
 pub mod Births
 pub mod DrawFacts
 pub mod Again
+pub mod TakenWords
