@@ -1,3 +1,9 @@
+use native.Mathlib.Omega.{arith}
+use Prim.Native.Nat.{ℕ, suc, _+_, _-_, _*_, _/_, _%_, _≤_, _<_, _^_}
+use mathlib.Core.Path.{_≡_, refl, sym, ap, _∙_}
+use mathlib.Core.List.{List, [], _∷_, _++_}
+use lib.ListN.{length, getD, set, take, drop, length-set}
+use Rattle.chance.proofs.Marking.{words-under, stands}
 use borrow.Author.Needs.{needs}
 use Rattle.chance.proofs.odds.odds_of.Statement.{statement}
 use Rattle.chance.proofs.odds.odds_of.Tie as tie
@@ -53,7 +59,9 @@ mul-mark-taken-3 c = search needs
 
 -- src/odds.rt:47:9
 mark-taken-requires : tie.Need-mark-taken-requires
-mark-taken-requires c κs = ?
+mark-taken-requires c κs = 
+    let b = c .before .before .before .before .before in
+    ((words-under (b .args .image .now) (b .pre .0), b .pre .0 .area-max), b .pre .1)
 
 -- src/odds.rt:48:26
 shared-slice-read-draw-size : tie.Need-shared-slice-read-draw-size
@@ -77,7 +85,10 @@ product-requires c κs = search needs
 
 -- src/odds.rt:40:1
 returns : tie.Need-returns
-returns c = ?
+returns c = 
+    let b = c .before .before .before .before .before .before .before .before .before .before in
+    stands (b .args .image .now) (b .pre .0) (c .before .before .before .before .mark-taken .last .1 .1 .0) (record { free = c .before .before .before .before .mark-taken .result; size = c .before .draw-size .result; count = c .product .result })
+    (c .before .before .before .before .mark-taken .ensures) (c .before .draw-size .ensures) (c .product .ensures)
 
 pub odds-of-spec : {M : Type 1} → statement M
 odds-of-spec =
