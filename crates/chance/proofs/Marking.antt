@@ -8,7 +8,7 @@ use native.Mathlib.Omega.{arith}
 use lib.Dec.{eqb, ltb}
 use lib.ListN.{length, getD, take, drop, length-drop, List·getD-eq-default}
 use lib.Seq.{getD-drop}
-use borrow.Author.Tests.{ltb-true, lt-ltb, le-ltb}
+use borrow.Author.Tests.{ltb-false}
 use Rattle.lists.specs.Choice.{_if_else_}
 use Rattle.lists.specs.Boards.{Under}
 use Rattle.lists.specs.Products.{falling}
@@ -77,3 +77,23 @@ module _ (w : List ℕ) (s : Sound w) where
 
     pub stands : Stands w board r
     stands = record { size = m .size; shows = shown; free-is = left; size-is = taken; count-is = counted }
+
+-- ---- a count that fits
+
+module _ (w board : List ℕ) (r : Odds) (o : Stands w board r) where
+  pub size-le : r .size ≤ r .free
+  size-le = let a = o .size-is in let b = o .free-is in omega arith
+
+  pub count-over : r .count ≡ 0 → ltb (2 ^ 64 - 1) (outcomes (stateOf w)) ≡ true
+  count-over e = fitted-over (outcomes (stateOf w)) (outcomes-some (stateOf w)) (sym (o .count-is) ∙ e)
+
+  module _ (n : r .count ≡ 0 → ⊥) where
+    pub count-in : ltb (2 ^ 64 - 1) (outcomes (stateOf w)) ≡ false
+    count-in = fitted-in (outcomes (stateOf w)) (λ e. n (o .count-is ∙ e))
+
+    pub count-eq : r .count ≡ outcomes (stateOf w)
+    count-eq = o .count-is ∙ fitted-is (outcomes (stateOf w)) count-in
+
+    pub count-fits : falling (r .free) (r .size) < 2 ^ 64
+    unfolding outcomes
+    count-fits = rw (o .free-is, o .size-is) (let l = ltb-false (2 ^ 64 - 1) (outcomes (stateOf w)) count-in in omega arith)

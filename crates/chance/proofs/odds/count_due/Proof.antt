@@ -1,3 +1,4 @@
+use Rattle.chance.proofs.Marking.{count-over, count-in, count-eq}
 use borrow.Author.Needs.{needs}
 use native.Mathlib.Omega.{arith}
 use Prim.Native.Nat.{ℕ, suc, _+_, _-_, _*_, _/_, _%_, _≤_, _<_, _^_}
@@ -22,17 +23,22 @@ odds-of-requires c κs = (c .before .before .pre, board-blank)
 -- src/odds.rt:64:9
 returns : tie.Need-returns
 returns c = 
-    let t = stateOf (c .before .before .before .before .before .args .image .now) in
+    let b = c .before .before .before .before .before in
+    let w = b .args .image .now in
+    let r = c .before .before .odds-of .result in
+    let m = c .before .before .odds-of .last .1 .0 in
     let o = c .before .before .odds-of .ensures in
-    rw (fitted-over (outcomes t) (outcomes-some t) (sym (o .count-is) ∙ c .if1 .taken))
+    rw (count-over w m r o (c .if1 .taken))
 
 -- src/odds.rt:57:1
 returns-2 : tie.Need-returns-2
 returns-2 c = 
-    let t = stateOf (c .before .before .before .before .before .args .image .now) in
+    let b = c .before .before .before .before .before in
+    let w = b .args .image .now in
+    let r = c .before .before .odds-of .result in
+    let m = c .before .before .odds-of .last .1 .0 in
     let o = c .before .before .odds-of .ensures in
-    let f = fitted-in (outcomes t) (λ e. c .if1 .left (o .count-is ∙ e)) in
-    rw f (ap gives (o .count-is ∙ fitted-is (outcomes t) f))
+    rw (count-in w m r o (c .if1 .left)) (ap gives (count-eq w m r o (c .if1 .left)))
 
 pub count-due-spec : {M : Type 1} → statement M
 count-due-spec = tie.close (tie.spec odds-of-requires returns returns-2)
