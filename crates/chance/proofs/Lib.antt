@@ -3,3 +3,4 @@ pub mod Radix
 pub mod Growing
 pub mod Horner
 pub mod Marking
+pub mod NextImage

@@ -18,7 +18,7 @@ use Rattle.lists.proofs.Tests.{compared, same, other, tell, eqb-sym}
 use Rattle.lists.proofs.Lists.{member-left, member-end}
 use Rattle.lists.proofs.Members.{length-without}
 use Rattle.rules.specs.Chance.{freeFrom, pick}
-use Rattle.rules.proofs.FreeCells.{free-ext, from-without, from-split, in-from}
+use Rattle.rules.proofs.FreeCells.{free-ext, from-few, from-without, from-split, in-from}
 use Rattle.chance.specs.Marks.{marked, unmarked, Marks}
 
 -- ---- what is left of the free cells at square c
@@ -210,3 +210,7 @@ digit-at list old j e = sym (head-is list j) ∙ ap (λ (l : List ℕ). getD l 0
 pub digits-rest : (list old : List ℕ) (j x : ℕ) → drop j list ≡ drop j old → drop (j + 1) (set list j x) ≡ drop (j + 1) old
 digits-rest list old j x e =
     drop-set-lt (j + 1) list j x (omega arith) ∙ sym (drop-drop 1 j list) ∙ ap (drop 1) e ∙ drop-drop 1 j old
+
+pub unmarked-few : (b : List ℕ) (n : ℕ) → length (unmarked b n) ≤ n
+unfolding unmarked
+unmarked-few b n = from-few (marked b) n 0

@@ -2,5 +2,6 @@
 mod board;
 mod food;
 mod index;
+mod next;
 mod odds;
 mod ranks;
