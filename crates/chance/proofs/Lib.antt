@@ -4,3 +4,4 @@ pub mod Growing
 pub mod Horner
 pub mod Marking
 pub mod NextImage
+pub mod Drawing

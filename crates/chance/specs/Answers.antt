@@ -12,14 +12,15 @@ use Rattle.rules.specs.Calls.{Draw}
 use Rattle.rules.specs.Says.{Says, refuses, gives, seen, beside, lent, says}
 use Rattle.rules.specs.declared.Drawn.{Drawn}
 
+abbrev pub drawOf : List ℕ → ℕ → Draw
+drawOf w i = record { next = afterDraw (stateOf w) i; cells = drawn (stateOf w) i }
+
 unfoldable pub dueSays : List ℕ → ℕ → ℕ → ℕ → Says Draw
 dueSays w i room listRoom =
-    let t = stateOf w in
-    let d : Draw = record { next = afterDraw t i; cells = drawn t i } in
-    refuses 28 if ltb (2 ^ 64 - 1) (outcomes t) else
-    refuses 27 if not (ltb i (outcomes t)) else
-    refuses 29 if ltb room (length (imageOf (d .next))) || ltb listRoom (length (d .cells)) else
-    gives d
+    refuses 28 if ltb (2 ^ 64 - 1) (outcomes (stateOf w)) else
+    refuses 27 if not (ltb i (outcomes (stateOf w))) else
+    refuses 29 if ltb room (length (imageOf (drawOf w i .next))) || ltb listRoom (length (drawOf w i .cells)) else
+    gives (drawOf w i)
 
 -- every word of both buffers, by what the draw says
 pub record Answers (said : Says Draw) (old new oldList newList : List ℕ) (r : Drawn) : Type 0 where

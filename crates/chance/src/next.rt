@@ -18,12 +18,11 @@ ghost use Rattle.lists.specs.Lists.{overFront};
 ghost use Rattle.rules.specs.Image.{dueIn, foodAt, stateOf};
 ghost use Rattle.rules.specs.Facts.{Sound};
 ghost use Rattle.rules.specs.Chance.{outcomes, drawnFrom};
-ghost use Rattle.rules.specs.Calls.{Draw};
 ghost use Rattle.rules.specs.Says.{gives};
 ghost use Rattle.chance.specs.Marks.{unmarked};
 ghost use Rattle.chance.specs.Odds.{Stands};
 ghost use Rattle.chance.specs.Next.{Fresh, nextWords};
-ghost use Rattle.chance.specs.Answers.{dueSays, Answers, Refuses};
+ghost use Rattle.chance.specs.Answers.{drawOf, dueSays, Answers, Refuses};
 
 pub fn refused(number: u8) -> Drawn
     ensures { λ r. ⌜ Refuses number r ⌝ }
@@ -76,4 +75,57 @@ fn write_next(image: &[u16], due: usize, birth: bool, cells: &[u16], out: &mut [
     write_at(out, 0, image);
     write_contents(out, image[0] as usize, image[1] as usize, due, birth, foods + cells.len());
     put_all(&mut out[at..], foods, cells);
+}
+
+// The list, then the image, once both buffers have room.
+fn draw_into(
+    image: &[u16],
+    index: u64,
+    found: Odds,
+    board: &mut [u8; 1024],
+    out: &mut [u16],
+    list: &mut [u16],
+) -> Drawn
+    requires { ⌜ Sound (now image) ⌝ }
+    requires { ⌜ Stands (now image) (now board) found ⌝ }
+    requires { ⌜ (0 < dueIn (now image)) × (index < outcomes (stateOf (now image))) ⌝ }
+    requires { ⌜ (length (now image) + found .size ≤ length (now out)) × (found .size ≤ length (now list)) ⌝ }
+    ensures { λ r. ⌜ Answers (gives (drawOf (now (image .entry)) index)) (now (out .entry)) (now (out .exit)) (now (list .entry)) (now (list .exit)) r ⌝ }
+{
+    let size = found.size;
+    let free = found.free;
+    let g = image[1] as usize;
+    let due = image[2] as usize;
+    let birth = image[3] == 1;
+    draw_list(&mut list[0..size], index, free, g * g, board);
+    let left = due_after(due, birth, free);
+    let stays = birth_after(due, birth, free);
+    write_next(image, left, stays, &list[0..size], out);
+    Drawn {
+        answer: Answer::Done(image.len() + size),
+        cells: size,
+    }
+}
+
+// Refusals 28, 27, 29; nothing is written before the last of them.
+pub fn draw_due(image: &[u16], index: u64, out: &mut [u16], list: &mut [u16]) -> Drawn
+    requires { ⌜ Sound (now image) ⌝ }
+    requires { ⌜ 0 < dueIn (now image) ⌝ }
+    ensures { λ r. ⌜ Answers (dueSays (now (image .entry)) index (length (now (out .entry))) (length (now (list .entry)))) (now (out .entry)) (now (out .exit)) (now (list .entry)) (now (list .exit)) r ⌝ }
+{
+    let mut board = [0u8; 1024];
+    let found = odds_of(image, &mut board);
+    if found.count == 0 {
+        return refused(28);
+    }
+    if found.count <= index {
+        return refused(27);
+    }
+    if out.len() < image.len() + found.size {
+        return refused(29);
+    }
+    if list.len() < found.size {
+        return refused(29);
+    }
+    draw_into(image, index, found, &mut board, out, list)
 }
