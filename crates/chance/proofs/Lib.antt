@@ -5,3 +5,4 @@ pub mod Horner
 pub mod Marking
 pub mod NextImage
 pub mod Drawing
+pub mod Saying
