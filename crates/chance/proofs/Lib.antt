@@ -6,3 +6,4 @@ pub mod Marking
 pub mod NextImage
 pub mod Drawing
 pub mod Saying
+pub mod Gates
