@@ -1,9 +1,8 @@
 -- A draw's list and its next image, as the code makes them, are those of the definition. Assumes nothing.
-use mathlib.Core.Path.{_≡_, refl, sym, ap, ap₂, _∙_, subst}
-use mathlib.Core.Bool.{Bool, true, false, not, _&&_, _||_}
-use mathlib.Core.List.{List, [], _∷_, _++_}
-use Prim.Native.Nat.{ℕ, zero, suc, _+_, _-_, _≤_, _<_}
-use native.Mathlib.Nat.{le-trans}
+use mathlib.Core.Path.{_≡_, sym, ap, ap₂, _∙_}
+use mathlib.Core.Bool.{Bool, not, _&&_, _||_}
+use mathlib.Core.List.{List, _++_}
+use Prim.Native.Nat.{ℕ, _+_, _-_, _≤_, _<_}
 use native.Mathlib.Omega.{arith}
 use lib.Dec.{eqb}
 use lib.ListN.{length, take, drop}
@@ -11,16 +10,15 @@ use lib.Seq.{length-take-le, take-at}
 use borrow.Rule.Slice.PartMut.{putMid}
 use Rattle.lists.specs.Choice.{_if_else_}
 use Rattle.lists.specs.Lists.{overFront}
-use Rattle.rules.specs.State.{State}
 use Rattle.rules.specs.Image.{dueIn, birthIn, areaIn, imageOf, stateOf}
 use Rattle.rules.specs.Facts.{Sound}
-use Rattle.rules.specs.Chance.{free, drawSize, outcomes, drawnFrom, drawn, afterDraw}
+use Rattle.rules.specs.Chance.{free, outcomes, drawnFrom, drawn, afterDraw}
 use Rattle.rules.proofs.DrawFacts.{drawn-due}
 use Rattle.rules.proofs.Fairness.{listed}
 use Rattle.rules.proofs.FreeCells.{free-short}
 use Rattle.chance.specs.Marks.{unmarked}
 use Rattle.chance.specs.Odds.{Stands}
-use Rattle.chance.specs.Next.{Fresh, nextWords}
+use Rattle.chance.specs.Next.{nextWords}
 use Rattle.chance.specs.declared.odds.Odds.{Odds}
 use Rattle.chance.proofs.NextImage.{next-is}
 use Rattle.chance.proofs.Marking.{size-le}

@@ -1,23 +1,21 @@
 -- The rank as a loop adds it up, cell by cell, and the test that each cell is there when its turn comes. Assumes nothing.
-use mathlib.Core.Path.{_≡_, refl, sym, ap, ap₂, _∙_, subst}
-use mathlib.Core.Bool.{Bool, true, false, not, _&&_}
+use mathlib.Core.Path.{_≡_, refl, sym, ap, ap₂, _∙_}
+use mathlib.Core.Bool.{true, false, _&&_}
 use mathlib.Core.List.{List, [], _∷_}
-use Prim.Native.Nat.{ℕ, zero, suc, _+_, _-_, _*_, _≤_, _<_, _^_}
+use Prim.Native.Nat.{ℕ, suc, _+_, _-_, _*_, _≤_, _<_, _^_}
 use native.Mathlib.Nat.{le-trans, lt-irrefl, mul-assoc, add-mul, zero-mul, zero-add}
 use native.Mathlib.Numerals.{add-one}
 use native.Mathlib.Omega.{arith}
 use lib.Arith.{digits-lt}
-use lib.Dec.{eqb}
 use lib.ListN.{length, getD, set, drop, drop-of-length-le, length-drop}
 use lib.Seq.{drop-cons}
-use Rattle.lists.specs.Choice.{_if_else_}
-use Rattle.lists.specs.Lists.{all, member, distinct, without, place}
+use Rattle.lists.specs.Lists.{member, without, place}
 use Rattle.lists.specs.Products.{falling}
-use Rattle.lists.proofs.Tests.{both, and-left, and-right, tell}
-use Rattle.lists.proofs.Members.{agree, clash, fails, length-without, place-lt, all-member, all-members}
+use Rattle.lists.proofs.Tests.{both, and-left, and-right}
+use Rattle.lists.proofs.Members.{agree, clash, fails, length-without, place-lt}
 use Rattle.lists.proofs.Products.{falling-next, falling-first, falling-mono, falling-none}
 use Rattle.rules.specs.State.{State}
-use Rattle.rules.specs.Chance.{free, drawSize, rankIn, rankOf, canRank}
+use Rattle.rules.specs.Chance.{free, drawSize, rankIn, canRank}
 use Rattle.rules.proofs.FreeCells.{place-scan, of-from, free-distinct}
 use Rattle.rules.proofs.Draws.{InTurn, in-turn, turn-among, turn-distinct}
 use Rattle.rules.proofs.Fairness.{ranked-listed, listed-ranked}

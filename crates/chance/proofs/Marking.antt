@@ -1,12 +1,12 @@
 -- The board shows the free cells of an image's state, and the numbers that a draw starts from. Assumes nothing.
-use mathlib.Core.Path.{_≡_, refl, sym, ap, ap₂, _∙_, subst}
+use mathlib.Core.Path.{_≡_, sym, ap, ap₂, _∙_, subst}
 use mathlib.Core.Bool.{true, false}
 use mathlib.Core.List.{List}
-use Prim.Native.Nat.{ℕ, zero, suc, _+_, _-_, _*_, _≤_, _<_, _^_, min}
+use Prim.Native.Nat.{ℕ, _+_, _-_, _≤_, _<_, _^_, min}
 use native.Mathlib.Nat.{mul-pos, lt-irrefl}
 use native.Mathlib.Omega.{arith}
 use lib.Dec.{eqb, ltb}
-use lib.ListN.{length, getD, take, drop, length-drop, List·getD-eq-default}
+use lib.ListN.{length, take, drop, List·getD-eq-default}
 use lib.Seq.{getD-drop}
 use borrow.Author.Tests.{ltb-false}
 use Rattle.lists.specs.Choice.{_if_else_}
@@ -16,7 +16,7 @@ use Rattle.lists.proofs.Tests.{ordered, less, more}
 use Rattle.lists.proofs.Lists.{rest-is}
 use Rattle.lists.proofs.Products.{falling-pos}
 use Rattle.rules.specs.State.{State}
-use Rattle.rules.specs.Image.{front, snakesIn, sideIn, dueIn, birthIn, areaIn, stateOf}
+use Rattle.rules.specs.Image.{front, snakesIn, dueIn, birthIn, areaIn, stateOf}
 use Rattle.rules.specs.Facts.{Sound}
 use Rattle.rules.specs.Chance.{free, drawSize, outcomes}
 use Rattle.rules.proofs.TakenWords.{free-words}

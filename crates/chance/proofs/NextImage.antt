@@ -1,8 +1,8 @@
 -- The image after a draw, word by word: the records and bodies stay, and the food grows. Assumes nothing.
-use mathlib.Core.Path.{_≡_, refl, sym, ap, ap₂, _∙_, subst}
-use mathlib.Core.Bool.{Bool, true, false}
+use mathlib.Core.Path.{_≡_, sym, ap, ap₂, _∙_}
+use mathlib.Core.Bool.{Bool}
 use mathlib.Core.List.{List, [], _∷_, _++_, append-assoc, append-nil}
-use Prim.Native.Nat.{ℕ, zero, suc, _+_, _-_, _*_, _≤_, _<_}
+use Prim.Native.Nat.{ℕ, _+_, _-_, _≤_, _<_}
 use native.Mathlib.Nat.{le-of-eq}
 use native.Mathlib.Omega.{arith}
 use lib.ListN.{length, take, drop, length-append, length-drop, take-append-drop, drop-of-length-le}
@@ -12,11 +12,11 @@ use Rattle.lists.proofs.Lists.{rest-is}
 use Rattle.lists.proofs.Writes.{write-front}
 use Rattle.lists.specs.Choice.{bit}
 use Rattle.lists.specs.Below.{concatBelow}
-use Rattle.lists.specs.Lists.{member, distinct, ascending, writeAt, overFront}
-use Rattle.rules.specs.State.{State, count}
-use Rattle.rules.specs.Image.{bodyOf, recordOf, contentsOf, imageOf, snakesIn, sideIn, foodCountIn, startDue, foodStart, foodAt, stateOf}
+use Rattle.lists.specs.Lists.{writeAt, overFront}
+use Rattle.rules.specs.State.{count}
+use Rattle.rules.specs.Image.{bodyOf, recordOf, imageOf, snakesIn, sideIn, foodCountIn, foodStart, foodAt, stateOf}
 use Rattle.rules.specs.Facts.{Sound}
-use Rattle.rules.specs.Chance.{free, drawSize, outcomes, drawn, withFood, afterDraw}
+use Rattle.rules.specs.Chance.{drawSize, outcomes, drawn, withFood, afterDraw}
 use Rattle.rules.proofs.FreeCells.{free-off-food}
 use Rattle.rules.proofs.Facts.{start-first, start-mono}
 use Rattle.rules.proofs.Fairness.{listed}

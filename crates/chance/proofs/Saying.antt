@@ -1,18 +1,17 @@
 -- What a draw says, by the tests in their order. Assumes nothing.
-use mathlib.Core.Path.{_≡_, refl, sym, ap, _∙_}
-use mathlib.Core.Bool.{Bool, true, false, not, _||_, or-true}
+use mathlib.Core.Path.{_≡_, sym, ap, _∙_}
+use mathlib.Core.Bool.{false}
 use mathlib.Core.List.{List}
 use Prim.Native.Nat.{ℕ, _+_, _≤_, _<_}
 use native.Mathlib.Omega.{arith}
 use lib.Dec.{ltb}
 use lib.ListN.{length}
 use borrow.Author.Tests.{lt-ltb, le-ltb}
-use Rattle.lists.specs.Choice.{_if_else_}
 use Rattle.rules.specs.Image.{imageOf, stateOf}
 use Rattle.rules.specs.Facts.{Sound}
 use Rattle.rules.specs.Chance.{outcomes, drawn, afterDraw}
 use Rattle.rules.specs.Calls.{Draw}
-use Rattle.rules.specs.Says.{Says, refuses, gives, seen, beside, lent, says}
+use Rattle.rules.specs.Says.{Says, refuses, gives}
 use Rattle.rules.specs.declared.Drawn.{Drawn}
 use Rattle.rules.proofs.FreeCells.{free-short}
 use Rattle.chance.specs.Odds.{Stands}

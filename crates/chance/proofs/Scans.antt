@@ -4,7 +4,6 @@ use mathlib.Core.Bool.{Bool, true, false, not, cond, _||_}
 use mathlib.Core.List.{List, [], _∷_, _++_, append-assoc, append-nil}
 use mathlib.Core.Logic.{inl, inr}
 use Prim.Native.Nat.{ℕ, zero, suc, _+_, _-_, _<_, _≤_, zero-le}
-use native.Mathlib.Nat.{not-suc-le-zero}
 use native.Mathlib.Numerals.{add-one}
 use native.Mathlib.Omega.{arith}
 use lib.Dec.{eqb}
@@ -14,12 +13,12 @@ use borrow.Author.Tests.{eq-eqb, ne-eqb}
 use Rattle.lists.specs.Choice.{bit}
 use Rattle.lists.specs.Lists.{member, without}
 use Rattle.lists.specs.Boards.{Board}
-use Rattle.lists.proofs.Tests.{compared, same, other, tell, eqb-sym}
+use Rattle.lists.proofs.Tests.{compared, same, other, tell}
 use Rattle.lists.proofs.Lists.{member-left, member-end}
 use Rattle.lists.proofs.Members.{length-without}
 use Rattle.rules.specs.Chance.{freeFrom, pick}
 use Rattle.rules.proofs.FreeCells.{free-ext, from-few, from-without, from-split, in-from}
-use Rattle.chance.specs.Marks.{marked, unmarked, Marks}
+use Rattle.chance.specs.Marks.{marked, unmarked}
 
 -- ---- what is left of the free cells at square c
 

@@ -73,7 +73,14 @@ fn write_next(image: &[u16], due: usize, birth: bool, cells: &[u16], out: &mut [
     let foods = image[4] as usize;
     let at = image.len() - foods;
     write_at(out, 0, image);
-    write_contents(out, image[0] as usize, image[1] as usize, due, birth, foods + cells.len());
+    write_contents(
+        out,
+        image[0] as usize,
+        image[1] as usize,
+        due,
+        birth,
+        foods + cells.len(),
+    );
     put_all(&mut out[at..], foods, cells);
 }
 

@@ -1,6 +1,6 @@
 -- Every word of an image past its records is a taken cell, and no other cell is taken. Assumes nothing.
-use mathlib.Core.Path.{_≡_, refl, sym, ap, ap₂, _∙_}
-use mathlib.Core.Bool.{Bool, true, false, _||_, or-comm}
+use mathlib.Core.Path.{_≡_, sym, ap, ap₂, _∙_}
+use mathlib.Core.Bool.{Bool, _||_, or-comm}
 use mathlib.Core.List.{List, _++_}
 use Prim.Native.Nat.{ℕ}
 use lib.ListN.{drop}
@@ -8,8 +8,8 @@ use Rattle.lists.specs.Below.{someBelow, concatBelow}
 use Rattle.lists.specs.Lists.{member}
 use Rattle.lists.proofs.Lists.{member-append}
 use Rattle.lists.proofs.Members.{member-concat}
-use Rattle.rules.specs.State.{State, count}
-use Rattle.rules.specs.Image.{front, bodyOf, snakesIn, areaIn, imageOf, stateOf}
+use Rattle.rules.specs.State.{count}
+use Rattle.rules.specs.Image.{front, bodyOf, snakesIn, areaIn, stateOf}
 use Rattle.rules.specs.Facts.{Sound}
 use Rattle.rules.specs.Chance.{taken, freeFrom, free}
 use Rattle.rules.proofs.Image.{past-front}

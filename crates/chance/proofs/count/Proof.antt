@@ -1,58 +1,46 @@
 use native.Mathlib.Omega.{arith}
-use Prim.Native.Nat.{ℕ, suc, _+_, _-_, _*_, _/_, _%_, _≤_, _<_, _^_}
-use mathlib.Core.Path.{_≡_, refl, sym, ap, _∙_}
-use mathlib.Core.List.{List, [], _∷_, _++_}
-use lib.ListN.{length, getD, set, take, drop, length-set}
-use Rattle.chance.proofs.Gates.{bad, good, count-bad, count-none, count-some, rank-bad, rank-none, rank-some, draws-bad, draws-none, draws-due}
+use Prim.Native.Nat.{_-_}
+use mathlib.Core.Path.{_∙_}
+use Rattle.chance.proofs.Gates.{bad, good, count-bad, count-none, count-some}
 use Rattle.rules.proofs.Facts.{sound}
 use borrow.Author.Needs.{needs}
 use Rattle.chance.proofs.count.Statement.{statement}
 use Rattle.chance.proofs.count.Tie as tie
-use Rattle.chance.proofs.count.Reads as reads
-use Rattle.chance.proofs.count.Lts as lts
-use Rattle.chance.proofs.odds.count_due.Reads as count-due-reads
-use Rattle.image.proofs.well_formed.Reads as well-formed-reads
 
--- src/lib.rt:22:9
 well-formed-requires : tie.Need-well-formed-requires
 well-formed-requires c κs = search needs
 
--- src/lib.rt:23:9
 returns : tie.Need-returns
-returns c = 
+returns c =
     let b = c .before .before .before in
     let w = b .args .image .now in
     let e = c .before .well-formed .ensures in
     record { answer = count-bad w (bad w (c .before .well-formed .result) e (c .if1 .taken)) }
 
--- src/lib.rt:25:8
 shared-slice-read-if2 : tie.Need-shared-slice-read-if2
-shared-slice-read-if2 c = 
+shared-slice-read-if2 c =
     let b = c .before .before .before .before in
     let w = b .args .image .now in
     let e = c .before .before .well-formed .ensures in
     let s = sound w (good w (c .before .before .well-formed .result) e (c .before .if1 .left)) in
     omega (arith, s .five)
 
--- src/lib.rt:26:9
 returns-2 : tie.Need-returns-2
-returns-2 c = 
+returns-2 c =
     let b = c .before .before .before .before .before in
     let w = b .args .image .now in
     let e = c .before .before .before .well-formed .ensures in
     record { answer = count-none w (good w (c .before .before .before .well-formed .result) e (c .before .before .if1 .left)) (c .if2 .taken) }
 
--- src/lib.rt:28:5
 count-due-requires : tie.Need-count-due-requires
-count-due-requires c κs = 
+count-due-requires c κs =
     let b = c .before .before .before .before .before in
     let w = b .args .image .now in
     let e = c .before .before .before .well-formed .ensures in
     sound w (good w (c .before .before .before .well-formed .result) e (c .before .before .if1 .left))
 
--- src/lib.rt:19:1
 returns-3 : tie.Need-returns-3
-returns-3 c = 
+returns-3 c =
     let b = c .before .before .before .before .before .before in
     let w = b .args .image .now in
     let e = c .before .before .before .before .well-formed .ensures in

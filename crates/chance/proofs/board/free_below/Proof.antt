@@ -1,19 +1,15 @@
 use borrow.Author.Needs.{needs}
 use native.Mathlib.Omega.{arith}
-use Prim.Native.Nat.{ℕ, suc, _+_, _-_, _*_, _/_, _%_, _≤_, _<_, _^_}
-use mathlib.Core.Path.{_≡_, refl, sym, ap, _∙_}
-use mathlib.Core.List.{List, [], _∷_, _++_}
-use lib.ListN.{length, getD, set, take, drop, length-set}
-use Rattle.chance.specs.Marks.{marked, unmarked, Marks}
+use Prim.Native.Nat.{ℕ, _-_, _≤_}
+use mathlib.Core.Path.{_≡_, sym, ap, _∙_}
+use lib.ListN.{length, getD}
+use Rattle.chance.specs.Marks.{unmarked}
 use lib.Dec.{eqb}
 use Rattle.lists.specs.Choice.{bit}
 use Rattle.lists.proofs.Tests.{bit-le}
 use Rattle.chance.proofs.Scans.{count-start, count-more}
 use Rattle.chance.proofs.board.free_below.Statement.{statement}
 use Rattle.chance.proofs.board.free_below.Tie as tie
-use Rattle.chance.proofs.board.free_below.Reads as reads
-use Rattle.chance.proofs.board.free_below.Lts as lts
-use Rattle.chance.proofs.board.open_square.Reads as open-square-reads
 
 abbrev Inv-loop : tie.InvT-loop
 Inv-loop board c n₀ k₀ n k = (k ≤ c) × (n ≡ length (unmarked board k)) × (n ≤ k)
@@ -21,36 +17,29 @@ Inv-loop board c n₀ k₀ n k = (k ≤ c) × (n ≡ length (unmarked board k)) 
 abbrev μ-loop : tie.MeasureT-loop
 μ-loop board c n₀ k₀ n k = c - k
 
--- src/board.rt:63:5
 loop-holds : tie.Need-loop-holds Inv-loop μ-loop
 loop-holds c = (omega arith, sym (count-start (c .args .board .now)), omega arith)
 
--- src/board.rt:64:26
 element-copy-out-open-square : tie.Need-element-copy-out-open-square Inv-loop μ-loop
 element-copy-out-open-square c = search needs
 
--- src/board.rt:64:14
 open-square-requires : tie.Need-open-square-requires Inv-loop μ-loop
 open-square-requires c κs = search needs
 
--- src/board.rt:64:9
 add-n : tie.Need-add-n Inv-loop μ-loop
-add-n c = 
+add-n c =
     let s = c .before .before .before .loop in
     let r : c .open-square .result ≡ bit (eqb (getD (c .before .before .before .before .args .board .now) (s .k) 0) 0) = c .open-square .ensures in
     omega (arith, bit-le (eqb (getD (c .before .before .before .before .args .board .now) (s .k) 0) 0))
 
--- src/board.rt:65:9
 add-k : tie.Need-add-k Inv-loop μ-loop
 add-k c = search needs
 
--- src/board.rt:63:5
 loop-less : tie.Need-loop-less Inv-loop μ-loop
 loop-less c = search needs
 
--- src/board.rt:63:5
 loop-again : tie.Need-loop-again Inv-loop μ-loop
-loop-again c = 
+loop-again c =
     let s = c .before .before .before .loop in
     let a = c .before .before .before .before .args in
     let r : c .open-square .result ≡ bit (eqb (getD (a .board .now) (s .k) 0) 0) = c .open-square .ensures in
@@ -58,9 +47,8 @@ loop-again c =
     let z = bit-le (eqb (getD (a .board .now) (s .k) 0) 0) in
     (omega arith, omega arith, omega arith)
 
--- src/board.rt:57:1
 returns : tie.Need-returns Inv-loop μ-loop
-returns c = 
+returns c =
     let s = c .before .loop in
     let a = c .before .before .args in
     let e : s .k ≡ a .c = omega arith in

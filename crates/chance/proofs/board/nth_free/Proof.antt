@@ -1,16 +1,14 @@
 use borrow.Author.Needs.{needs}
 use native.Mathlib.Omega.{arith}
-use Prim.Native.Nat.{ℕ, suc, _+_, _-_, _*_, _/_, _%_, _≤_, _<_, _^_}
-use mathlib.Core.Path.{_≡_, refl, sym, ap, _∙_}
-use mathlib.Core.List.{List, [], _∷_, _++_}
-use lib.ListN.{length, getD, set, take, drop, length-set}
-use Rattle.chance.specs.Marks.{marked, unmarked, Marks}
+use Prim.Native.Nat.{ℕ, _-_, _≤_}
+use mathlib.Core.Path.{_≡_, sym, ap, _∙_}
+use mathlib.Core.List.{List}
+use lib.ListN.{getD}
+use Rattle.chance.specs.Marks.{marked, unmarked}
 use Rattle.rules.specs.Chance.{freeFrom}
 use Rattle.chance.proofs.Scans.{scan-start, scan-past, scan-hit, scan-on, scan-end}
 use Rattle.chance.proofs.board.nth_free.Statement.{statement}
 use Rattle.chance.proofs.board.nth_free.Tie as tie
-use Rattle.chance.proofs.board.nth_free.Reads as reads
-use Rattle.chance.proofs.board.nth_free.Lts as lts
 
 abbrev Inv-loop : tie.InvT-loop
 Inv-loop board area i left₀ c₀ left c = (c ≤ area) × (getD (freeFrom (marked board) c (area - c)) left 0 ≡ getD (unmarked board area) i 0)
@@ -18,58 +16,47 @@ Inv-loop board area i left₀ c₀ left c = (c ≤ area) × (getD (freeFrom (mar
 abbrev μ-loop : tie.MeasureT-loop
 μ-loop board area i left₀ c₀ left c = area - c
 
--- src/board.rt:42:5
 loop-holds : tie.Need-loop-holds Inv-loop μ-loop
 loop-holds c = (omega arith, ap (λ (l : List ℕ). getD l (c .args .i) 0) (scan-start (c .args .board .now) (c .args .area)))
 
--- src/board.rt:43:12
 element-copy-out-if1 : tie.Need-element-copy-out-if1 Inv-loop μ-loop
 element-copy-out-if1 c = search needs
 
--- src/board.rt:44:13
 add-c : tie.Need-add-c Inv-loop μ-loop
 add-c c = search needs
 
--- src/board.rt:42:5
 loop-less : tie.Need-loop-less Inv-loop μ-loop
 loop-less c = search needs
 
--- src/board.rt:42:5
 loop-again : tie.Need-loop-again Inv-loop μ-loop
-loop-again c = 
+loop-again c =
     let s = c .before .before .before .loop in
     let a = c .before .before .before .before .args in
     (omega arith, sym (scan-past (a .board .now) (a .area) (s .c) (s .left) (omega arith) (c .if1 .taken)) ∙ s .inv .1)
 
--- src/board.rt:48:13
 returns : tie.Need-returns Inv-loop μ-loop
-returns c = 
+returns c =
     let s = c .before .before .before .before .loop in
     let a = c .before .before .before .before .before .args in
     sym (scan-hit (a .board .now) (a .area) (s .c) (s .left) (omega arith) (c .before .if1 .left) (c .if2 .taken)) ∙ s .inv .1
 
--- src/board.rt:50:9
 sub-left : tie.Need-sub-left Inv-loop μ-loop
 sub-left c = search needs
 
--- src/board.rt:51:9
 add-c-2 : tie.Need-add-c-2 Inv-loop μ-loop
 add-c-2 c = search needs
 
--- src/board.rt:42:5
 loop-less-2 : tie.Need-loop-less-2 Inv-loop μ-loop
 loop-less-2 c = search needs
 
--- src/board.rt:42:5
 loop-again-2 : tie.Need-loop-again-2 Inv-loop μ-loop
-loop-again-2 c = 
+loop-again-2 c =
     let s = c .before .before .before .before .loop in
     let a = c .before .before .before .before .before .args in
     (omega arith, sym (scan-on (a .board .now) (a .area) (s .c) (s .left) (omega arith) (c .before .if1 .left) (c .if2 .left)) ∙ s .inv .1)
 
--- src/board.rt:36:1
 returns-2 : tie.Need-returns-2 Inv-loop μ-loop
-returns-2 c = 
+returns-2 c =
     let s = c .before .loop in
     let a = c .before .before .args in
     sym (scan-end (a .board .now) (a .area) (s .c) (s .left) (omega arith)) ∙ s .inv .1

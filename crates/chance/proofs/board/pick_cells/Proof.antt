@@ -1,18 +1,14 @@
-use Rattle.chance.proofs.Scans.{pick-done, digit-at, digits-rest}
+use Rattle.chance.proofs.Scans.{pick-done, digit-at, digits-rest, square-below, pick-turn}
 use borrow.Author.Needs.{needs}
 use native.Mathlib.Omega.{arith}
-use Prim.Native.Nat.{ℕ, suc, _+_, _-_, _*_, _/_, _%_, _≤_, _<_, _^_}
-use mathlib.Core.Path.{_≡_, refl, sym, ap, _∙_}
-use mathlib.Core.List.{List, [], _∷_, _++_}
-use lib.ListN.{length, getD, set, take, drop, length-set}
-use Rattle.chance.specs.Marks.{marked, unmarked, Marks}
+use Prim.Native.Nat.{_+_, _-_, _≤_, _<_}
+use mathlib.Core.Path.{_≡_, sym, _∙_}
+use mathlib.Core.List.{_++_}
+use lib.ListN.{length, getD, take, drop, length-set}
+use Rattle.chance.specs.Marks.{unmarked}
 use Rattle.rules.specs.Chance.{pick}
-use Rattle.chance.proofs.Scans.{square-below, pick-turn, pick-end}
 use Rattle.chance.proofs.board.pick_cells.Statement.{statement}
 use Rattle.chance.proofs.board.pick_cells.Tie as tie
-use Rattle.chance.proofs.board.pick_cells.Reads as reads
-use Rattle.chance.proofs.board.pick_cells.Lts as lts
-use Rattle.chance.proofs.board.nth_free.Reads as nth-free-reads
 
 abbrev Inv-loop : tie.InvT-loop
 Inv-loop list₀ area board₀ j₀ list board j = (j ≤ length list) × (length list ≡ length list₀) × (length board ≡ 1024) × (take j list ++ pick (unmarked board area) (drop j list₀) ≡ pick (unmarked board₀ area) list₀) × (drop j list ≡ drop j list₀)
@@ -20,29 +16,23 @@ Inv-loop list₀ area board₀ j₀ list board j = (j ≤ length list) × (lengt
 abbrev μ-loop : tie.MeasureT-loop
 μ-loop list₀ area board₀ j₀ list board j = length list₀ - j
 
--- src/board.rt:76:5
 loop-holds : tie.Need-loop-holds Inv-loop μ-loop
 loop-holds c = search needs
 
--- src/board.rt:77:39
 mul-nth-free : tie.Need-mul-nth-free Inv-loop μ-loop
 mul-nth-free c = search needs
 
--- src/board.rt:77:39
 slice-read-nth-free : tie.Need-slice-read-nth-free Inv-loop μ-loop
 slice-read-nth-free c = search needs
 
--- src/board.rt:77:39
 cast-nth-free : tie.Need-cast-nth-free Inv-loop μ-loop
 cast-nth-free c = omega (arith, c .slice-known2 .given (c .before .before .before .loop .j))
 
--- src/board.rt:77:13
 nth-free-requires : tie.Need-nth-free-requires Inv-loop μ-loop
 nth-free-requires c κs = search needs
 
--- src/board.rt:78:9
 element-write-board : tie.Need-element-write-board Inv-loop μ-loop
-element-write-board c = 
+element-write-board c =
     let s = c .before .before .before .before .loop in
     let a = c .before .before .before .before .before .before .args in
     let x = c .nth-free .result in
@@ -50,9 +40,8 @@ element-write-board c =
     let l : x < 1024 = rw e (square-below (s .board) (a .area) (getD (s .list) (s .j) 0) (omega arith)) in
     l
 
--- src/board.rt:79:19
 cast-list : tie.Need-cast-list Inv-loop μ-loop
-cast-list c = 
+cast-list c =
     let s = c .before .before .before .before .loop in
     let a = c .before .before .before .before .before .before .args in
     let x = c .nth-free .result in
@@ -60,25 +49,20 @@ cast-list c =
     let l : x < 1024 = rw e (square-below (s .board) (a .area) (getD (s .list) (s .j) 0) (omega arith)) in
     omega arith
 
--- src/board.rt:79:9
 mul-list : tie.Need-mul-list Inv-loop μ-loop
 mul-list c = search needs
 
--- src/board.rt:79:9
 slice-write-list : tie.Need-slice-write-list Inv-loop μ-loop
 slice-write-list c = search needs
 
--- src/board.rt:80:9
 add-j : tie.Need-add-j Inv-loop μ-loop
 add-j c = search needs
 
--- src/board.rt:76:5
 loop-less : tie.Need-loop-less Inv-loop μ-loop
 loop-less c = search needs
 
--- src/board.rt:76:5
 loop-again : tie.Need-loop-again Inv-loop μ-loop
-loop-again c = 
+loop-again c =
     let s = c .before .before .before .before .loop in
     let a = c .before .before .before .before .before .before .args in
     let x = c .nth-free .result in
@@ -92,13 +76,11 @@ loop-again c =
       digits-rest (s .list) (a .list .now) (s .j) x (s .inv .4),
     )
 
--- src/board.rt:71:1
 same-length : tie.Need-same-length Inv-loop μ-loop
 same-length c = search needs
 
--- src/board.rt:71:1
 returns : tie.Need-returns Inv-loop μ-loop
-returns c = 
+returns c =
     let s = c .before .loop in
     let a = c .before .before .before .args in
     sym (pick-done (s .list) (a .list .now) (unmarked (s .board) (a .area)) (s .j) (s .inv .1) (omega arith)) ∙ s .inv .3

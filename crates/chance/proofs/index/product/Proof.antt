@@ -1,17 +1,12 @@
 use Rattle.chance.proofs.Radix.{product-over, product-fits, product-done}
 use borrow.Author.Needs.{needs}
 use native.Mathlib.Omega.{arith}
-use Prim.Native.Nat.{ℕ, suc, _+_, _-_, _*_, _/_, _%_, _≤_, _<_, _^_}
-use mathlib.Core.Path.{_≡_, refl, sym, ap, _∙_}
-use mathlib.Core.List.{List, [], _∷_, _++_}
-use lib.ListN.{length, getD, set, take, drop, length-set}
+use Prim.Native.Nat.{_-_, _≤_, _<_, _^_}
+use mathlib.Core.Path.{_≡_, sym}
 use Rattle.lists.specs.Products.{falling}
-use Rattle.lists.proofs.Products.{falling-none, falling-next, falling-mono}
-use borrow.Author.Tests.{eq-eqb, ne-eqb, ltb-true, lt-ltb, le-ltb}
+use Rattle.lists.proofs.Products.{falling-none, falling-next}
 use Rattle.chance.proofs.index.product.Statement.{statement}
 use Rattle.chance.proofs.index.product.Tie as tie
-use Rattle.chance.proofs.index.product.Reads as reads
-use Rattle.chance.proofs.index.product.Lts as lts
 
 abbrev Inv-loop : tie.InvT-loop
 Inv-loop n k p₀ j₀ p j = (j ≤ k) × (p ≡ falling n j) × (p < 2 ^ 64)
@@ -19,42 +14,36 @@ Inv-loop n k p₀ j₀ p j = (j ≤ k) × (p ≡ falling n j) × (p < 2 ^ 64)
 abbrev μ-loop : tie.MeasureT-loop
 μ-loop n k p₀ j₀ p j = k - j
 
--- src/index.rt:17:5
 loop-holds : tie.Need-loop-holds Inv-loop μ-loop
 loop-holds c = (omega arith, sym (falling-none (c .args .n)), omega arith)
 
--- src/index.rt:18:23
 sub-factor : tie.Need-sub-factor Inv-loop μ-loop
 sub-factor c = search needs
 
--- src/index.rt:19:12
 div-if1 : tie.Need-div-if1 Inv-loop μ-loop
 div-if1 c = search needs
 
--- src/index.rt:20:13
 returns : tie.Need-returns Inv-loop μ-loop
-returns c = 
+returns c =
     let s = c .before .before .loop in
     let a = c .before .before .before .args in
     product-over (a .n) (a .k) (s .j) (s .p) (omega arith) (omega arith) (s .inv .1) (c .if1 .taken)
 
--- src/index.rt:22:9
 mul-p : tie.Need-mul-p Inv-loop μ-loop
-mul-p c = 
+mul-p c =
     let s = c .before .before .loop in
     let a = c .before .before .before .args in
     let h = product-fits (a .n) (a .k) (s .j) (s .p) (omega arith) (omega arith) (s .inv .1) (c .if1 .left) in
     omega arith
+
 add-j : tie.Need-add-j Inv-loop μ-loop
 add-j c = search needs
 
--- src/index.rt:17:5
 loop-less : tie.Need-loop-less Inv-loop μ-loop
 loop-less c = search needs
 
--- src/index.rt:17:5
 loop-again : tie.Need-loop-again Inv-loop μ-loop
-loop-again c = 
+loop-again c =
     let s = c .before .before .loop in
     let a = c .before .before .before .args in (
       omega arith,
@@ -62,9 +51,8 @@ loop-again c =
       product-fits (a .n) (a .k) (s .j) (s .p) (omega arith) (omega arith) (s .inv .1) (c .if1 .left),
     )
 
--- src/index.rt:11:1
 returns-2 : tie.Need-returns-2 Inv-loop μ-loop
-returns-2 c = 
+returns-2 c =
     let s = c .before .loop in
     let a = c .before .before .args in
     let e : s .j ≡ a .k = omega arith in

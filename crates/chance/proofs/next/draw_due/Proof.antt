@@ -1,31 +1,21 @@
 use native.Mathlib.Omega.{arith}
-use Prim.Native.Nat.{ℕ, suc, _+_, _-_, _*_, _/_, _%_, _≤_, _<_, _^_}
-use mathlib.Core.Path.{_≡_, refl, sym, ap, _∙_}
-use mathlib.Core.List.{List, [], _∷_, _++_}
-use lib.ListN.{length, getD, set, take, drop, length-set}
+use Prim.Native.Nat.{_-_}
+use lib.ListN.{length}
 use Rattle.lists.proofs.Boards.{board-blank}
 use Rattle.chance.specs.Answers.{dueSays}
 use Rattle.chance.proofs.Saying.{refusing, saying, size-few, below-count, says-over, says-past, says-short, says-list, says-gives}
 use borrow.Author.Needs.{needs}
 use Rattle.chance.proofs.next.draw_due.Statement.{statement}
 use Rattle.chance.proofs.next.draw_due.Tie as tie
-use Rattle.chance.proofs.next.draw_due.Reads as reads
-use Rattle.chance.proofs.next.draw_due.Lts as lts
-use Rattle.chance.proofs.next.draw_into.Reads as draw-into-reads
-use Rattle.chance.proofs.next.refused.Reads as refused-reads
-use Rattle.chance.proofs.odds.odds_of.Reads as odds-of-reads
 
--- src/next.rt:117:9
 odds-of-requires : tie.Need-odds-of-requires
 odds-of-requires c κs = (c .before .before .before .before .pre .0, board-blank)
 
--- src/next.rt:119:9
 refused-requires : tie.Need-refused-requires
 refused-requires c κs = search needs
 
--- src/next.rt:119:9
 returns : tie.Need-returns
-returns c = 
+returns c =
     let b = c .before .before .before .before .before .before .before .before in
     let a = b .args in
     let w = a .image .now in
@@ -36,13 +26,11 @@ returns c =
     let more = length (a .list .now) in
     refusing (dueSays w (a .index) room more) 28 (a .out .now) (a .list .now) (c .refused .result) (says-over w m r (b .pre .0) o (a .index) room more (c .before .if1 .taken)) (c .refused .ensures)
 
--- src/next.rt:122:9
 refused-requires-2 : tie.Need-refused-requires-2
 refused-requires-2 c κs = search needs
 
--- src/next.rt:122:9
 returns-2 : tie.Need-returns-2
-returns-2 c = 
+returns-2 c =
     let b = c .before .before .before .before .before .before .before .before .before .before in
     let a = b .args in
     let w = a .image .now in
@@ -53,9 +41,8 @@ returns-2 c =
     let more = length (a .list .now) in
     refusing (dueSays w (a .index) room more) 27 (a .out .now) (a .list .now) (c .refused2 .result) (says-past w m r (b .pre .0) o (a .index) room more (c .before .before .before .if1 .left) (c .before .if2 .taken)) (c .refused2 .ensures)
 
--- src/next.rt:124:20
 add-if3 : tie.Need-add-if3
-add-if3 c = 
+add-if3 c =
     let b = c .before .before .before .before .before .before .before .before .before .before in
     let a = b .args in
     let w = a .image .now in
@@ -67,13 +54,11 @@ add-if3 c =
     let k = size-few w m r (b .pre .0) o (a .index) room more in
     omega (arith, b .pre .0 .small)
 
--- src/next.rt:125:9
 refused-requires-3 : tie.Need-refused-requires-3
 refused-requires-3 c κs = search needs
 
--- src/next.rt:125:9
 returns-3 : tie.Need-returns-3
-returns-3 c = 
+returns-3 c =
     let b = c .before .before .before .before .before .before .before .before .before .before .before .before in
     let a = b .args in
     let w = a .image .now in
@@ -84,13 +69,11 @@ returns-3 c =
     let more = length (a .list .now) in
     refusing (dueSays w (a .index) room more) 29 (a .out .now) (a .list .now) (c .refused3 .result) (says-short w m r (b .pre .0) o (a .index) room more (c .before .before .before .before .before .if1 .left) (c .before .before .before .if2 .left) (c .before .if3 .taken)) (c .refused3 .ensures)
 
--- src/next.rt:128:9
 refused-requires-4 : tie.Need-refused-requires-4
 refused-requires-4 c κs = search needs
 
--- src/next.rt:128:9
 returns-4 : tie.Need-returns-4
-returns-4 c = 
+returns-4 c =
     let b = c .before .before .before .before .before .before .before .before .before .before .before .before .before .before in
     let a = b .args in
     let w = a .image .now in
@@ -101,9 +84,8 @@ returns-4 c =
     let more = length (a .list .now) in
     refusing (dueSays w (a .index) room more) 29 (a .out .now) (a .list .now) (c .refused4 .result) (says-list w m r (b .pre .0) o (a .index) room more (c .before .before .before .before .before .before .before .if1 .left) (c .before .before .before .before .before .if2 .left) (c .before .before .before .if3 .left) (c .before .if4 .taken)) (c .refused4 .ensures)
 
--- src/next.rt:130:5
 draw-into-requires : tie.Need-draw-into-requires
-draw-into-requires c κs = 
+draw-into-requires c κs =
     let b = c .before .before .before .before .before .before .before .before .before .before .before .before .before .before .before .before in
     let a = b .args in
     let w = a .image .now in
@@ -114,17 +96,14 @@ draw-into-requires c κs =
     let more = length (a .list .now) in
     (b .pre .0, (o, ((b .pre .1, below-count w m r (b .pre .0) o (a .index) room more (c .before .before .before .before .before .before .before .before .before .if1 .left) (c .before .before .before .before .before .before .before .if2 .left)), (c .before .before .before .before .before .if3 .left, c .before .before .before .if4 .left))))
 
--- src/next.rt:111:1
 same-length : tie.Need-same-length
 same-length c = search needs
 
--- src/next.rt:111:1
 same-length-2 : tie.Need-same-length-2
 same-length-2 c = search needs
 
--- src/next.rt:111:1
 returns-5 : tie.Need-returns-5
-returns-5 c = 
+returns-5 c =
     let b = c .before .before .before .before .before .before .before .before .before .before .before .before .before .before .before .before .before .before .before .before .before in
     let a = b .args in
     let w = a .image .now in

@@ -1,8 +1,7 @@
 use native.Mathlib.Omega.{arith}
-use Prim.Native.Nat.{ℕ, suc, _+_, _-_, _*_, _/_, _%_, _≤_, _<_, _^_}
-use mathlib.Core.Path.{_≡_, refl, sym, ap, _∙_}
-use mathlib.Core.List.{List, [], _∷_, _++_}
-use lib.ListN.{length, getD, set, take, drop, length-set}
+use Prim.Native.Nat.{ℕ, _+_, _-_}
+use mathlib.Core.Path.{sym, ap, _∙_}
+use lib.ListN.{length}
 use Rattle.rules.specs.Image.{stateOf}
 use Rattle.rules.specs.Says.{gives}
 use Rattle.chance.proofs.Drawing.{cells-long, cells-few, part-few, list-part, list-after, due-small, due-next, birth-next, words-next}
@@ -10,52 +9,36 @@ use Rattle.chance.proofs.NextImage.{next-long, drawn-fresh}
 use borrow.Author.Needs.{needs}
 use Rattle.chance.proofs.next.draw_into.Statement.{statement}
 use Rattle.chance.proofs.next.draw_into.Tie as tie
-use Rattle.chance.proofs.next.draw_into.Reads as reads
-use Rattle.chance.proofs.next.draw_into.Lts as lts
-use Rattle.chance.proofs.next.birth_after.Reads as birth-after-reads
-use Rattle.chance.proofs.next.draw_list.Reads as draw-list-reads
-use Rattle.chance.proofs.next.due_after.Reads as due-after-reads
-use Rattle.chance.proofs.next.write_next.Reads as write-next-reads
 
--- src/next.rt:97:13
 shared-slice-read-g : tie.Need-shared-slice-read-g
 shared-slice-read-g c = search needs
 
--- src/next.rt:97:13
 cast-g : tie.Need-cast-g
 cast-g c = search needs
 
--- src/next.rt:98:15
 shared-slice-read-due : tie.Need-shared-slice-read-due
 shared-slice-read-due c = search needs
 
--- src/next.rt:98:15
 cast-due : tie.Need-cast-due
 cast-due c = search needs
 
--- src/next.rt:99:17
 shared-slice-read-birth : tie.Need-shared-slice-read-birth
 shared-slice-read-birth c = search needs
 
--- src/next.rt:100:15
 sub-draw-list : tie.Need-sub-draw-list
 sub-draw-list c = search needs
 
--- src/next.rt:100:15
 part-draw-list-start : tie.Need-part-draw-list-start
 part-draw-list-start c = search needs
 
--- src/next.rt:100:15
 part-draw-list-end : tie.Need-part-draw-list-end
 part-draw-list-end c = search needs
 
--- src/next.rt:100:48
 mul-draw-list : tie.Need-mul-draw-list
 mul-draw-list c = search needs
 
--- src/next.rt:100:5
 draw-list-requires : tie.Need-draw-list-requires
-draw-list-requires c κs = 
+draw-list-requires c κs =
     let b = c .before .before .before .before .before .before .before .before in
     let a = b .args in
     let w = a .image .now in
@@ -65,29 +48,23 @@ draw-list-requires c κs =
     let k = b .pre .1 .1 .1 .1 in
     ((b .pre .0 .area-max, o .size), (o .free-is ∙ ap length (sym (o .shows)), part-few w m (a .found) (b .pre .0) o (a .index) h (a .list .now) k))
 
--- src/next.rt:101:9
 due-after-requires : tie.Need-due-after-requires
 due-after-requires c κs = search needs
 
--- src/next.rt:102:9
 birth-after-requires : tie.Need-birth-after-requires
 birth-after-requires c κs = search needs
 
--- src/next.rt:103:36
 sub-write-next : tie.Need-sub-write-next
 sub-write-next c = search needs
 
--- src/next.rt:103:36
 part-write-next-start : tie.Need-part-write-next-start
 part-write-next-start c = search needs
 
--- src/next.rt:103:36
 part-write-next-end : tie.Need-part-write-next-end
 part-write-next-end c = search needs
 
--- src/next.rt:103:5
 write-next-requires : tie.Need-write-next-requires
-write-next-requires c κs = 
+write-next-requires c κs =
     let b = c .before .before .before .before .before .before .before .before .before .before .before .before .before .before .before .before in
     let a = b .args in
     let w = a .image .now in
@@ -96,28 +73,29 @@ write-next-requires c κs =
     let h = b .pre .1 .1 .0 .1 in
     let k = b .pre .1 .1 .1 .1 in
     let e = list-part w m (a .found) (b .pre .0) o (a .index) h (a .list .now) (c .before .before .before .before .before .before .before .draw-list .last .0) k (c .before .before .before .before .before .before .before .draw-list .ensures) in
-    let l = cells-long w m (a .found) (b .pre .0) o (a .index) h in
-    (b .pre .0,
-    ((due-small w m (a .found) (b .pre .0) o (a .index) h (c .before .before .before .before .due-after .result) (c .before .before .before .before .due-after .ensures ∙ due-next w m (a .found) (b .pre .0) o (a .index) h),
-    rw e (cells-few w m (a .found) (b .pre .0) o (a .index) h),
-    rw e (omega arith)),
-    rw e (drawn-fresh w (b .pre .0) (a .index) h)))
+    let l = cells-long w m (a .found) (b .pre .0) o (a .index) h in (
+      b .pre .0,
+      (
+        (
+          due-small w m (a .found) (b .pre .0) o (a .index) h (c .before .before .before .before .due-after .result) (c .before .before .before .before .due-after .ensures ∙ due-next w m (a .found) (b .pre .0) o (a .index) h),
+          rw e (cells-few w m (a .found) (b .pre .0) o (a .index) h),
+          rw e (omega arith),
+        ),
+        rw e (drawn-fresh w (b .pre .0) (a .index) h),
+      ),
+    )
 
--- src/next.rt:105:30
 add-t23 : tie.Need-add-t23
 add-t23 c = search needs
 
--- src/next.rt:81:1
 same-length : tie.Need-same-length
 same-length c = search needs
 
--- src/next.rt:81:1
 same-length-2 : tie.Need-same-length-2
 same-length-2 c = search needs
 
--- src/next.rt:81:1
 returns : tie.Need-returns
-returns c = 
+returns c =
     let b = c .before .before .before .before .before .before .before .before .before .before .before .before .before .before .before .before .before .before .before in
     let a = b .args in
     let w = a .image .now in
@@ -132,10 +110,10 @@ returns c =
       answer = ap gives (sym (next-long w (b .pre .0) (a .index) h ∙ ap (λ (n : ℕ). length w + n) (sym (o .size-is))));
       cells = sym (cells-long w m (a .found) (b .pre .0) o (a .index) h);
       words = c .before .before .write-next .ensures
-      ∙ words-next w m (a .found) (b .pre .0) o (a .index) h (c .before .before .before .before .before .before .before .due-after .result) (c .before .before .before .before .before .before .birth-after .result) _ (a .out .now)
-      (c .before .before .before .before .before .before .before .due-after .ensures ∙ due-next w m (a .found) (b .pre .0) o (a .index) h)
-      (c .before .before .before .before .before .before .birth-after .ensures ∙ birth-next w m (a .found) (b .pre .0) o (a .index) h)
-      (list-part w m (a .found) (b .pre .0) o (a .index) h (a .list .now) ys k q);
+          ∙ words-next w m (a .found) (b .pre .0) o (a .index) h (c .before .before .before .before .before .before .before .due-after .result) (c .before .before .before .before .before .before .birth-after .result) _ (a .out .now)
+          (c .before .before .before .before .before .before .before .due-after .ensures ∙ due-next w m (a .found) (b .pre .0) o (a .index) h)
+          (c .before .before .before .before .before .before .birth-after .ensures ∙ birth-next w m (a .found) (b .pre .0) o (a .index) h)
+          (list-part w m (a .found) (b .pre .0) o (a .index) h (a .list .now) ys k q);
       list = list-after w m (a .found) (b .pre .0) o (a .index) h (a .list .now) ys k q;
     }
 

@@ -1,91 +1,64 @@
-use native.Mathlib.Omega.{arith}
-use Prim.Native.Nat.{ℕ, suc, _+_, _-_, _*_, _/_, _%_, _≤_, _<_, _^_}
-use mathlib.Core.Path.{_≡_, refl, sym, ap, _∙_}
-use mathlib.Core.List.{List, [], _∷_, _++_}
-use lib.ListN.{length, getD, set, take, drop, length-set}
+use Prim.Native.Nat.{_-_}
 use Rattle.chance.proofs.Marking.{words-under, stands}
 use borrow.Author.Needs.{needs}
 use Rattle.chance.proofs.odds.odds_of.Statement.{statement}
 use Rattle.chance.proofs.odds.odds_of.Tie as tie
-use Rattle.chance.proofs.odds.odds_of.Reads as reads
-use Rattle.chance.proofs.odds.odds_of.Lts as lts
-use Rattle.chance.proofs.board.mark_taken.Reads as mark-taken-reads
-use Rattle.chance.proofs.index.product.Reads as product-reads
-use Rattle.chance.proofs.odds.draw_size.Reads as draw-size-reads
 
--- src/odds.rt:45:13
 shared-slice-read-n : tie.Need-shared-slice-read-n
 shared-slice-read-n c = search needs
 
--- src/odds.rt:45:13
 cast-n : tie.Need-cast-n
 cast-n c = search needs
 
--- src/odds.rt:46:13
 shared-slice-read-g : tie.Need-shared-slice-read-g
 shared-slice-read-g c = search needs
 
--- src/odds.rt:46:13
 cast-g : tie.Need-cast-g
 cast-g c = search needs
 
--- src/odds.rt:47:38
 mul-mark-taken : tie.Need-mul-mark-taken
 mul-mark-taken c = search needs
 
--- src/odds.rt:47:34
 add-mark-taken : tie.Need-add-mark-taken
 add-mark-taken c = search needs
 
--- src/odds.rt:47:27
 mul-mark-taken-2 : tie.Need-mul-mark-taken-2
 mul-mark-taken-2 c = search needs
 
--- src/odds.rt:47:27
 sub-mark-taken : tie.Need-sub-mark-taken
 sub-mark-taken c = search needs
 
--- src/odds.rt:47:27
 part-mark-taken-start : tie.Need-part-mark-taken-start
 part-mark-taken-start c = search needs
 
--- src/odds.rt:47:27
 part-mark-taken-end : tie.Need-part-mark-taken-end
 part-mark-taken-end c = search needs
 
--- src/odds.rt:47:48
 mul-mark-taken-3 : tie.Need-mul-mark-taken-3
 mul-mark-taken-3 c = search needs
 
--- src/odds.rt:47:9
 mark-taken-requires : tie.Need-mark-taken-requires
-mark-taken-requires c κs = 
+mark-taken-requires c κs =
     let b = c .before .before .before .before .before in
     ((words-under (b .args .image .now) (b .pre .0), b .pre .0 .area-max), b .pre .1)
 
--- src/odds.rt:48:26
 shared-slice-read-draw-size : tie.Need-shared-slice-read-draw-size
 shared-slice-read-draw-size c = search needs
 
--- src/odds.rt:48:26
 cast-draw-size : tie.Need-cast-draw-size
 cast-draw-size c = search needs
 
--- src/odds.rt:48:45
 shared-slice-read-draw-size-2 : tie.Need-shared-slice-read-draw-size-2
 shared-slice-read-draw-size-2 c = search needs
 
--- src/odds.rt:48:9
 draw-size-requires : tie.Need-draw-size-requires
 draw-size-requires c κs = search needs
 
--- src/odds.rt:52:16
 product-requires : tie.Need-product-requires
 product-requires c κs = search needs
 
--- src/odds.rt:40:1
 returns : tie.Need-returns
-returns c = 
+returns c =
     let b = c .before .before .before .before .before .before .before .before .before .before in
     stands (b .args .image .now) (b .pre .0) (c .before .before .before .before .mark-taken .last .1 .1 .0) (record { free = c .before .before .before .before .mark-taken .result; size = c .before .draw-size .result; count = c .product .result })
     (c .before .before .before .before .mark-taken .ensures) (c .before .draw-size .ensures) (c .product .ensures)

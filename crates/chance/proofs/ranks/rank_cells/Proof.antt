@@ -1,21 +1,16 @@
 use Rattle.rules.specs.Says.{gives}
-use Rattle.chance.proofs.Horner.{rank-start, rank-small, rank-done, rank-fits, rank-below, left-one, turn-one, rank-one, place-small, turn-fails, turn-end, off-board, taken-square}
+use Rattle.chance.proofs.Horner.{rank-start, rank-small, rank-done, rank-fits, rank-below, left-one, turn-one, rank-one, place-small, turn-fails, turn-end, off-board, taken-square, rankLeft}
 use borrow.Author.Needs.{needs}
 use native.Mathlib.Omega.{arith}
-use Prim.Native.Nat.{ℕ, suc, _+_, _-_, _*_, _/_, _%_, _≤_, _<_, _^_}
+use Prim.Native.Nat.{_+_, _-_, _≤_, _<_}
 use mathlib.Core.Path.{_≡_, refl, sym, ap, _∙_}
-use mathlib.Core.List.{List, [], _∷_, _++_}
-use lib.ListN.{length, getD, set, take, drop, length-set}
-use Rattle.chance.specs.Marks.{marked, unmarked, Marks}
+use lib.ListN.{length, getD, drop, length-set}
+use Rattle.chance.specs.Marks.{unmarked}
 use Rattle.lists.specs.Products.{falling}
 use Rattle.rules.specs.Chance.{rankIn}
 use Rattle.chance.specs.Odds.{inTurn}
-use Rattle.chance.proofs.Horner.{rankLeft}
 use Rattle.chance.proofs.ranks.rank_cells.Statement.{statement}
 use Rattle.chance.proofs.ranks.rank_cells.Tie as tie
-use Rattle.chance.proofs.ranks.rank_cells.Reads as reads
-use Rattle.chance.proofs.ranks.rank_cells.Lts as lts
-use Rattle.chance.proofs.board.free_below.Reads as free-below-reads
 
 abbrev Inv-loop : tie.InvT-loop
 Inv-loop list area free board₀ rank₀ j₀ board rank j = (j ≤ length list) × (length board ≡ 1024) × (length (unmarked board area) + j ≡ free) × (inTurn (unmarked board area) (drop j list) ≡ inTurn (unmarked board₀ area) list) × (rankLeft (unmarked board area) list j rank ≡ rankIn (unmarked board₀ area) list) × (rank < falling free j)
@@ -23,7 +18,6 @@ Inv-loop list area free board₀ rank₀ j₀ board rank j = (j ≤ length list)
 abbrev μ-loop : tie.MeasureT-loop
 μ-loop list area free board₀ rank₀ j₀ board rank j = length list - j
 
--- src/ranks.rt:27:5
 loop-holds : tie.Need-loop-holds Inv-loop μ-loop
 loop-holds c = (
   omega arith,
@@ -34,22 +28,17 @@ loop-holds c = (
   rank-small (c .before .args .free),
 )
 
-
--- src/ranks.rt:28:17
 mul-c : tie.Need-mul-c Inv-loop μ-loop
 mul-c c = search needs
 
--- src/ranks.rt:28:17
 shared-slice-read-c : tie.Need-shared-slice-read-c Inv-loop μ-loop
 shared-slice-read-c c = search needs
 
--- src/ranks.rt:28:17
 cast-c : tie.Need-cast-c Inv-loop μ-loop
 cast-c c = omega (arith, c .shared-slice-known2 .given (c .before .before .loop .j))
 
--- src/ranks.rt:30:13
 returns : tie.Need-returns Inv-loop μ-loop
-returns c = 
+returns c =
     let s = c .before .before .before .loop in
     let b = c .before .before .before .before .before in
     let a = b .args in
@@ -57,13 +46,11 @@ returns c =
     let e = sym (s .inv .3) ∙ turn-fails (unmarked (s .board) (a .area)) (a .list .now) (s .j) (omega arith) (off-board (s .board) (a .area) x (c .if1 .taken)) in
     rw e
 
--- src/ranks.rt:32:12
 element-copy-out-if2 : tie.Need-element-copy-out-if2 Inv-loop μ-loop
 element-copy-out-if2 c = search needs
 
--- src/ranks.rt:33:13
 returns-2 : tie.Need-returns-2 Inv-loop μ-loop
-returns-2 c = 
+returns-2 c =
     let s = c .before .before .before .before .before .loop in
     let b = c .before .before .before .before .before .before .before in
     let a = b .args in
@@ -71,13 +58,11 @@ returns-2 c =
     let e = sym (s .inv .3) ∙ turn-fails (unmarked (s .board) (a .area)) (a .list .now) (s .j) (omega arith) (taken-square (s .board) (a .area) x (c .if2 .taken)) in
     rw e
 
--- src/ranks.rt:35:24
 sub-rank : tie.Need-sub-rank Inv-loop μ-loop
 sub-rank c = search needs
 
--- src/ranks.rt:35:16
 mul-rank : tie.Need-mul-rank Inv-loop μ-loop
-mul-rank c = 
+mul-rank c =
     let s = c .before .before .before .before .before .loop in
     let b = c .before .before .before .before .before .before .before in
     let a = b .args in
@@ -85,13 +70,11 @@ mul-rank c =
     let f = rank-fits (a .free) (s .j) (length (a .list .now)) (s .rank) 0 (s .inv .5) (omega arith) (omega arith) (omega arith) (b .pre .1 .1) in
     omega arith
 
--- src/ranks.rt:35:43
 free-below-requires : tie.Need-free-below-requires Inv-loop μ-loop
 free-below-requires c κs = search needs
 
--- src/ranks.rt:35:16
 add-rank : tie.Need-add-rank Inv-loop μ-loop
-add-rank c = 
+add-rank c =
     let s = c .before .before .before .before .before .before .before .loop in
     let b = c .before .before .before .before .before .before .before .before .before in
     let a = b .args in
@@ -100,21 +83,17 @@ add-rank c =
     let f = rank-fits (a .free) (s .j) (length (a .list .now)) (s .rank) (c .free-below .result) (s .inv .5) p (omega arith) (omega arith) (b .pre .1 .1) in
     omega arith
 
--- src/ranks.rt:36:9
 element-write-board : tie.Need-element-write-board Inv-loop μ-loop
 element-write-board c = search needs
 
--- src/ranks.rt:37:9
 add-j : tie.Need-add-j Inv-loop μ-loop
 add-j c = search needs
 
--- src/ranks.rt:27:5
 loop-less : tie.Need-loop-less Inv-loop μ-loop
 loop-less c = search needs
 
--- src/ranks.rt:27:5
 loop-again : tie.Need-loop-again Inv-loop μ-loop
-loop-again c = 
+loop-again c =
     let s = c .before .before .before .before .before .before .before .loop in
     let b = c .before .before .before .before .before .before .before .before .before in
     let a = b .args in
@@ -133,13 +112,11 @@ loop-again c =
       rank-below (a .free) (s .j) 0 (s .rank) r (s .inv .5) (place-small (s .board) (a .list .now) (a .area) (a .free) (s .j) (s .rank) r h k g u (s .inv .2) e),
     )
 
--- src/ranks.rt:20:1
 returns-3 : tie.Need-returns-3 Inv-loop μ-loop
-returns-3 c = 
+returns-3 c =
     let s = c .before .loop in
     let b = c .before .before .before in
     let a = b .args in
-    
     let cells = unmarked (s .board) (a .area) in
     let e = sym (s .inv .3) ∙ turn-end cells (a .list .now) (s .j) (omega arith) in
     rw e (ap gives (sym (rank-done cells (a .list .now) (s .j) (s .rank) (omega arith)) ∙ s .inv .4))

@@ -1,8 +1,7 @@
 use native.Mathlib.Omega.{arith}
-use Prim.Native.Nat.{ℕ, suc, _+_, _-_, _*_, _/_, _%_, _≤_, _<_, _^_}
-use mathlib.Core.Path.{_≡_, refl, sym, ap, _∙_}
-use mathlib.Core.List.{List, [], _∷_, _++_}
-use lib.ListN.{length, getD, set, take, drop, length-set}
+use Prim.Native.Nat.{_-_}
+use mathlib.Core.Path.{sym, ap, _∙_}
+use lib.ListN.{length}
 use Rattle.lists.proofs.Boards.{board-blank}
 use Rattle.rules.specs.Image.{stateOf}
 use Rattle.rules.specs.Chance.{rankOf}
@@ -11,18 +10,12 @@ use Rattle.chance.proofs.Horner.{wrong-length, can-rank}
 use borrow.Author.Needs.{needs}
 use Rattle.chance.proofs.ranks.rank_due.Statement.{statement}
 use Rattle.chance.proofs.ranks.rank_due.Tie as tie
-use Rattle.chance.proofs.ranks.rank_due.Reads as reads
-use Rattle.chance.proofs.ranks.rank_due.Lts as lts
-use Rattle.chance.proofs.odds.odds_of.Reads as odds-of-reads
-use Rattle.chance.proofs.ranks.rank_cells.Reads as rank-cells-reads
 
--- src/ranks.rt:48:9
 odds-of-requires : tie.Need-odds-of-requires
 odds-of-requires c κs = (c .before .before .before .pre, board-blank)
 
--- src/ranks.rt:50:9
 returns : tie.Need-returns
-returns c = 
+returns c =
     let b = c .before .before .before .before .before .before in
     let w = b .args .image .now in
     let r = c .before .before .odds-of .result in
@@ -30,9 +23,8 @@ returns c =
     let o = c .before .before .odds-of .ensures in
     rw (count-over w m r o (c .if1 .taken))
 
--- src/ranks.rt:53:9
 returns-2 : tie.Need-returns-2
-returns-2 c = 
+returns-2 c =
     let b = c .before .before .before .before .before .before .before .before in
     let w = b .args .image .now in
     let r = c .before .before .before .before .odds-of .result in
@@ -40,21 +32,17 @@ returns-2 c =
     let o = c .before .before .before .before .odds-of .ensures in
     rw (count-in w m r o (c .before .before .if1 .left), wrong-length (stateOf w) (b .args .list .now) (λ e. c .if2 .taken (e ∙ sym (o .size-is))))
 
--- src/ranks.rt:55:13
 shared-slice-read-g : tie.Need-shared-slice-read-g
 shared-slice-read-g c = search needs
 
--- src/ranks.rt:55:13
 cast-g : tie.Need-cast-g
 cast-g c = search needs
 
--- src/ranks.rt:56:22
 mul-rank-cells : tie.Need-mul-rank-cells
 mul-rank-cells c = search needs
 
--- src/ranks.rt:56:5
 rank-cells-requires : tie.Need-rank-cells-requires
-rank-cells-requires c κs = 
+rank-cells-requires c κs =
     let b = c .before .before .before .before .before .before .before .before .before .before in
     let w = b .args .image .now in
     let r = c .before .before .before .before .before .before .odds-of .result in
@@ -64,10 +52,9 @@ rank-cells-requires c κs =
     let k = size-le w m r o in
     ((b .pre .area-max, o .size, o .free-is ∙ ap length (sym (o .shows))), (omega arith, rw e (count-fits w m r o (c .before .before .before .before .if1 .left))))
 
--- src/ranks.rt:43:1
 returns-3 : tie.Need-returns-3
 unfolding rankOf
-returns-3 c = 
+returns-3 c =
     let b = c .before .before .before .before .before .before .before .before .before .before .before in
     let w = b .args .image .now in
     let r = c .before .before .before .before .before .before .before .odds-of .result in
