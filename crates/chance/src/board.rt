@@ -74,9 +74,9 @@ pub fn pick_cells(list: &mut [u16], area: usize, board: &mut [u8; 1024])
 {
     let mut j = 0;
     while j < list.len() {
-        let c = nth_free(board, area, list[j] as usize);
-        board[c] = 1;
-        list[j] = c as u16;
+        let cell = nth_free(board, area, list[j] as usize);
+        board[cell] = 1;
+        list[j] = cell as u16;
         j += 1;
     }
 }
