@@ -21,3 +21,4 @@ pub mod Shorter
 pub mod Pigeonhole
 pub mod Runs
 pub mod Distinct
+pub mod Insert

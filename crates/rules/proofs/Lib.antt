@@ -27,3 +27,4 @@ pub mod StepFacts
 pub mod SettingFacts
 pub mod InitialFacts
 pub mod Extremes
+pub mod TakenWords
