@@ -1,0 +1,32 @@
+use borrow.Author.Needs.{needs}
+use Rattle.probe.proofs.fields.below.Statement.{statement}
+use Rattle.probe.proofs.fields.below.Tie as tie
+use Rattle.probe.proofs.fields.below.Reads as reads
+use Rattle.probe.proofs.fields.below.Lts as lts
+
+-- src/fields.rt:86:9
+returns : tie.Need-returns
+returns c = search needs
+
+-- src/fields.rt:89:9
+returns-2 : tie.Need-returns-2
+returns-2 c = search needs
+
+-- src/fields.rt:91:16
+sub-low : tie.Need-sub-low
+sub-low c = search needs
+
+-- src/fields.rt:91:15
+cast-low : tie.Need-cast-low
+cast-low c = search needs
+
+-- src/fields.rt:92:17
+sub-t5 : tie.Need-sub-t5
+sub-t5 c = ?
+
+-- src/fields.rt:84:1
+returns-3 : tie.Need-returns-3
+returns-3 c = search needs
+
+pub below-spec : {M : Type 1} → statement M
+below-spec = tie.close (tie.spec returns returns-2 sub-low cast-low sub-t5 returns-3)

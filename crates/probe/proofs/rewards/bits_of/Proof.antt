@@ -1,0 +1,20 @@
+use borrow.Author.Needs.{needs}
+use Rattle.probe.proofs.rewards.bits_of.Statement.{statement}
+use Rattle.probe.proofs.rewards.bits_of.Tie as tie
+use Rattle.probe.proofs.rewards.bits_of.Reads as reads
+use Rattle.probe.proofs.rewards.bits_of.Lts as lts
+
+-- src/rewards.rt:24:9
+returns : tie.Need-returns
+returns c = search needs
+
+-- src/rewards.rt:26:5
+float-to-bits-result : tie.Need-float-to-bits-result
+float-to-bits-result c = ?
+
+-- src/rewards.rt:22:1
+returns-2 : tie.Need-returns-2
+returns-2 c = search needs
+
+pub bits-of-spec : {M : Type 1} → statement M
+bits-of-spec = tie.close (tie.spec returns float-to-bits-result returns-2)

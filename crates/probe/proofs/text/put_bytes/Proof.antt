@@ -1,0 +1,58 @@
+use Rattle.probe.proofs.text.put_bytes.Statement.{statement}
+use Rattle.probe.proofs.text.put_bytes.Tie as tie
+use Rattle.probe.proofs.text.put_bytes.Reads as reads
+use Rattle.probe.proofs.text.put_bytes.Lts as lts
+use Rattle.probe.proofs.text.put.Reads as put-reads
+
+abbrev Inv-loop : tie.InvT-loop
+Inv-loop text₀ from bytes at₀ k₀ text at k = ?
+
+abbrev μ-loop : tie.MeasureT-loop
+μ-loop text₀ from bytes at₀ k₀ text at k = ?
+
+-- src/text.rt:37:5
+loop-holds : tie.Need-loop-holds Inv-loop μ-loop
+loop-holds c = ?
+
+-- src/text.rt:38:28
+shared-slice-read-put : tie.Need-shared-slice-read-put Inv-loop μ-loop
+shared-slice-read-put c = ?
+
+-- src/text.rt:38:9
+put-requires : tie.Need-put-requires Inv-loop μ-loop
+put-requires c κs = ?
+
+-- src/text.rt:39:9
+add-k : tie.Need-add-k Inv-loop μ-loop
+add-k c = ?
+
+-- src/text.rt:37:5
+loop-less : tie.Need-loop-less Inv-loop μ-loop
+loop-less c = ?
+
+-- src/text.rt:37:5
+loop-again : tie.Need-loop-again Inv-loop μ-loop
+loop-again c = ?
+
+-- src/text.rt:34:1
+same-length : tie.Need-same-length Inv-loop μ-loop
+same-length c = ?
+
+-- src/text.rt:34:1
+returns : tie.Need-returns Inv-loop μ-loop
+returns c = ?
+
+pub put-bytes-spec : {M : Type 1} → statement M
+put-bytes-spec =
+    tie.close
+    (tie.spec
+    Inv-loop
+    μ-loop
+    loop-holds
+    shared-slice-read-put
+    put-requires
+    add-k
+    loop-less
+    loop-again
+    same-length
+    returns)
