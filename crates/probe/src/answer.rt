@@ -115,7 +115,10 @@ fn rank_line(
     text: &mut [u8],
     at: usize,
 ) -> usize {
-    if (from < 1) | (values.len() < from) {
+    if from < 1 {
+        return no_call(text, at);
+    }
+    if values.len() < from {
         return no_call(text, at);
     }
     chances::rank_line(&values[1..from], words, list, text, at)
@@ -130,7 +133,10 @@ fn step_line(
     text: &mut [u8],
     at: usize,
 ) -> usize {
-    if (from < 9) | (values.len() < from) {
+    if from < 9 {
+        return no_call(text, at);
+    }
+    if values.len() < from {
         return no_call(text, at);
     }
     steps::step_line(values, kinds, &values[9..from], words, out, text, at)

@@ -116,7 +116,10 @@ fn bound_of(kind: u8, v: u64) -> Bound {
 
 // S, the line's first seven fields.
 pub fn setting_in(values: &[u64], kinds: &[u8]) -> Given {
-    if (values.len() < 7) | (kinds.len() < 7) {
+    if values.len() < 7 {
+        return Given::NoSetting;
+    }
+    if kinds.len() < 7 {
         return Given::NoSetting;
     }
     let plain = (kinds[0] == PLAIN)

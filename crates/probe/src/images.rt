@@ -13,22 +13,25 @@ pub fn well_formed_line(words: &[u16], text: &mut [u8], at: usize) -> usize {
     refuse(text, at, 20, true)
 }
 
+fn word(words: &[u16], k: usize) -> u64 {
+    if k < words.len() {
+        return words[k] as u64;
+    }
+    0
+}
+
 // The start word of a snake's record; 0 for a malformed image or no such snake.
 fn start_of(words: &[u16], snake: u64) -> u64 {
     if !arena::well_formed(words) {
         return 0;
     }
-    if words.len() == 0 {
+    if word(words, 0) <= snake {
         return 0;
     }
-    if words[0] as u64 <= snake {
+    if 7 < snake {
         return 0;
     }
-    let k = 5 + 4 * snake as usize;
-    if words.len() <= k {
-        return 0;
-    }
-    words[k] as u64
+    word(words, 5 + 4 * snake as usize)
 }
 
 // `b SNAKE W`

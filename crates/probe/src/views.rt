@@ -171,7 +171,10 @@ fn put_space(text: &mut [u8], at: usize, space: Space) -> usize {
 
 // `p GRID`
 pub fn observation_space_line(values: &[u64], kinds: &[u8], text: &mut [u8], at: usize) -> usize {
-    if (values.len() != 1) | (kinds.len() == 0) {
+    if values.len() != 1 {
+        return no_call(text, at);
+    }
+    if kinds.len() == 0 {
         return no_call(text, at);
     }
     match side_of(kinds[0], values[0]) {

@@ -1,3 +1,11 @@
+use Rattle.probe.proofs.Signs.{minus-one}
+use lib.IntN.{pos}
+use mir.Facts.{toZ-pos}
+use mir.Val.{toZ}
+use mir.Syntax.{w32}
+use native.Mathlib.Omega.{arith}
+use Prim.Native.Nat.{_-_}
+use mathlib.Core.Path.{_≡_}
 use borrow.Author.Needs.{needs}
 use Rattle.probe.proofs.fields.below.Statement.{statement}
 use Rattle.probe.proofs.fields.below.Tie as tie
@@ -22,7 +30,10 @@ cast-low c = search needs
 
 -- src/fields.rt:92:17
 sub-t5 : tie.Need-sub-t5
-sub-t5 c = ?
+sub-t5 c =
+    let m = c .before .before .args .v - 1 in
+    let p : toZ w32 m ≡ pos m = toZ-pos w32 (omega arith) in
+    rw (p, minus-one m) (record { sfits = omega arith })
 
 -- src/fields.rt:84:1
 returns-3 : tie.Need-returns-3

@@ -1,3 +1,8 @@
+use mathlib.Core.Path.{_≡_, sym, subst, _∙_}
+use mathlib.Core.Bool.{false, not}
+use lib.Dec.{T}
+use lib.Ieee.{Float, nan, inf, fin, ne, isNan}
+use lib.Ieee.Compare.{nan-differs}
 use borrow.Author.Needs.{needs}
 use Rattle.probe.proofs.rewards.bits_of.Statement.{statement}
 use Rattle.probe.proofs.rewards.bits_of.Tie as tie
@@ -8,9 +13,14 @@ use Rattle.probe.proofs.rewards.bits_of.Lts as lts
 returns : tie.Need-returns
 returns c = search needs
 
--- src/rewards.rt:26:5
+real : (x : Float) → ne x x ≡ false → T (not (isNan x))
+unfolding isNan
+real nan e = absurd (subst T (sym nan-differs ∙ e) tt)
+real (inf s) e = tt
+real (fin s m k) e = tt
+
 float-to-bits-result : tie.Need-float-to-bits-result
-float-to-bits-result c = ?
+float-to-bits-result c = real (c .before .args .x) (c .if1 .left)
 
 -- src/rewards.rt:22:1
 returns-2 : tie.Need-returns-2

@@ -1,3 +1,9 @@
+use mathlib.Core.Path.{sym, subst, _∙_}
+use mathlib.Core.Bool.{Bool, not}
+use lib.Dec.{T}
+use lib.Ieee.{binary64}
+use lib.Ieee.Bits.{nanBits-above}
+use borrow.Author.Tests.{le-ltb}
 use borrow.Author.Needs.{needs}
 use Rattle.probe.proofs.rewards.float_of.Statement.{statement}
 use Rattle.probe.proofs.rewards.float_of.Tie as tie
@@ -10,7 +16,7 @@ returns c = search needs
 
 -- src/rewards.rt:18:5
 float-from-bits-result : tie.Need-float-from-bits-result
-float-from-bits-result c = ?
+float-from-bits-result c = subst (λ (b : Bool). T (not b)) (sym (nanBits-above binary64 (c .before .args .bits) ∙ le-ltb _ _ (c .if1 .left))) tt
 
 -- src/rewards.rt:14:1
 returns-2 : tie.Need-returns-2
