@@ -29,7 +29,7 @@ shared-slice-read-put-number c = search needs
 
 -- src/text.rt:85:35
 cast-put-number : tie.Need-cast-put-number Inv-loop μ-loop
-cast-put-number c = omega (arith, c .shared-slice-known2 .given (c .before .before .loop .k))
+cast-put-number c = omega (arith, c .shared-slice-known2 .given (c .before .before .before .loop .k))
 
 -- src/text.rt:85:9
 put-number-requires : tie.Need-put-number-requires Inv-loop μ-loop
