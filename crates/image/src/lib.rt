@@ -1,9 +1,22 @@
 // The state image in 16-bit words: which slices are well-formed, what their parts are, and how words are written.
+mod cells;
 mod check;
+mod contents;
+mod parts;
 mod table;
 mod words;
 
+pub use cells::stamps_once;
 pub use check::well_formed;
+pub use lists::Found;
+pub use lists::find;
+pub use lists::holds;
+pub use parts::body;
+pub use parts::body_of;
+pub use parts::find_in;
+pub use parts::food_of;
+pub use parts::food_start;
+pub use parts::holds_in;
 use rules::Heading;
 pub use table::record_at;
 pub use table::records;

@@ -2,7 +2,7 @@
 use Prim.Native.Nat.{ℕ, zero, suc, _+_, _<_, _≤_}
 use native.Mathlib.Numerals.{add-one}
 use native.Mathlib.Omega.{arith}
-use mathlib.Core.Bool.{Bool, true, false, not, _&&_, and-false, and-true}
+use mathlib.Core.Bool.{Bool, true, false, not, _&&_, and-false, and-true, false≢true}
 use mathlib.Core.List.{List, [], _∷_}
 use mathlib.Core.Path.{_≡_, refl, sym, _∙_}
 use lib.Dec.{eqb}
@@ -102,4 +102,19 @@ pub part-under : (l : List ℕ) (m a n : ℕ) → 0 < m → ((k : ℕ) → a ≤
 part-under l m a n z h k = elim (ordered k n) [
   | less q t ↦ rw (getD-take n (drop a l) k 0 q, getD-drop a l k 0) (h (a + k) (omega arith) (omega arith))
   | more q t ↦ rw (List·getD-eq-default (take n (drop a l)) 0 {n = k} (rw (length-take n (drop a l)) (le-trans (min-le-left n (length (drop a l))) q))) z
+]
+
+pub rest-under : (l : List ℕ) (m a : ℕ) → 0 < m → ((k : ℕ) → a ≤ k → k < length l → getD l k 0 < m) → Under m (drop a l)
+rest-under l m a z h k = elim (ordered (a + k) (length l)) [
+  | less q t ↦ rw (getD-drop a l k 0) (h (a + k) (omega arith) q)
+  | more q t ↦ rw (getD-drop a l k 0, List·getD-eq-default l 0 {n = a + k} q) z
+]
+
+-- a number of a list is below what all are below
+pub member-under : (m x : ℕ) (l : List ℕ) → Under m l → member x l ≡ true → x < m
+unfolding member
+member-under m x [] h t = absurd (false≢true t)
+member-under m x (y ∷ l) h t = elim (compared x y) [
+  | same e q ↦ rw e (h 0)
+  | other n q ↦ member-under m x l (λ k. h (suc k)) (rw q at t)
 ]

@@ -21,9 +21,8 @@ use Rattle.rules.specs.Image.{front, bodyOf, startOf, imageOf, word, sna
 use Rattle.rules.specs.Facts.{Sound, Holdable}
 use Rattle.rules.specs.declared.Heading.{Heading}
 use Rattle.rules.specs.declared.Heading.the-variants.{Up, Right, Down, Left}
-use Rattle.rules.proofs.Facts.{sound, start-mono}
 use Rattle.rules.proofs.Image.{past-front, start-is, length-is, heading-is, alive-is, body-is, snakes-is, start-due, food-is, image-long, bit-back}
-use Rattle.rules.proofs.Words.{count-is, snake-at, body-at, body-long}
+use Rattle.rules.proofs.Parts.{state-count, state-snake, state-body, body-long, body-all, food-long, food-all}
 
 -- ---- from a state
 
@@ -140,42 +139,23 @@ module _ (s : State) (ok : Holdable s) where
 -- ---- from an image
 
 module _ (w : List ℕ) (ok : Sound w) where
-  body-cell : (i : ℕ) → i < snakesIn w → (k : ℕ) → k < lengthAt w i → getD (bodyAt w i) k 0 < areaIn w
-  body-cell i h k l =
-      let b = ok .bodies-in i h in
-      let a = start-mono w 0 i (omega arith) in
-      let e : getD (bodyAt w i) k 0 ≡ word w (startAt w i + k) = getD-take (lengthAt w i) (drop (startAt w i) w) k 0 l ∙ getD-drop (startAt w i) w k 0 in
-      rw e (ok .cells (startAt w i + k) (omega (arith, ok .starts i h)) (omega (arith, ok .total)))
-
-  pub body-cells : (i : ℕ) → i < snakesIn w → all (λ c. ltb c (areaIn w)) (bodyAt w i) ≡ true
-  body-cells i h = all-each (λ c. ltb c (areaIn w)) (bodyAt w i) 0 (λ k l. lt-ltb _ _ (body-cell i h k (rw (body-long w ok i h) at l)))
-
-  pub food-cells : all (λ c. ltb c (areaIn w)) (foodAt w) ≡ true
-  food-cells =
-      all-each (λ c. ltb c (areaIn w)) (foodAt w) 0
-      (λ k l. let a = start-mono w 0 (snakesIn w) (omega arith) in let e = length-drop (foodStart w) w in
-      lt-ltb (getD (foodAt w) k 0) (areaIn w) (rw (getD-drop (foodStart w) w k 0) (ok .cells (foodStart w + k) (omega arith) (omega arith))))
-
-  pub food-long : length (foodAt w) ≡ foodCountIn w
-  food-long = length-drop (foodStart w) w ∙ (let e = ok .total in omega arith)
-
   pub holds-state : Holdable (stateOf w)
   unfolding stateOf
   holds-state =
-      let c = count-is w ok in
+      let c = state-count w in
       record {
         snakes-min = rw c (ok .snakes-min);
         snakes-max = rw c (ok .snakes-max);
         side-min = ok .side-min;
         side-max = ok .side-max;
         due-max = ok .due-max;
-        food-max = rw food-long (ok .food-max);
-        food-cells = food-cells;
+        food-max = rw (food-long w ok) (ok .food-max);
+        food-cells = food-all w ok;
         rising = ok .rising;
-        lengths = λ i h. let l : i < snakesIn w = rw c at h in rw (body-at w ok i l, body-long w ok i l) (ok .lengths i l);
-        cells = λ i h. let l : i < snakesIn w = rw c at h in rw (body-at w ok i l) (body-cells i l);
-        apart = λ i h. let l : i < snakesIn w = rw c at h in rw (body-at w ok i l) (ok .apart i l);
+        lengths = λ i h. let l : i < snakesIn w = rw c at h in rw (state-body w i l, body-long w ok i l) (ok .lengths i l);
+        cells = λ i h. let l : i < snakesIn w = rw c at h in rw (state-body w i l) (body-all w ok i l);
+        apart = λ i h. let l : i < snakesIn w = rw c at h in rw (state-body w i l) (ok .apart i l);
         living = λ i h t.
             let l : i < snakesIn w = rw c at h in
-            rw (body-at w ok i l, body-long w ok i l) (ok .living i l (eqb-true _ _ (sym (ap (λ (z : Snake). z .alive) (snake-at w ok i l)) ∙ t)));
+            rw (state-body w i l, body-long w ok i l) (ok .living i l (eqb-true _ _ (sym (ap (λ (z : Snake). z .alive) (state-snake w i l)) ∙ t)));
       }

@@ -10,13 +10,13 @@ use lib.ListN.{length, getD, take, drop, take-append-drop, length-drop}
 use lib.Seq.{take-add, drop-drop, drop-cons}
 use Rattle.lists.specs.Choice.{bit}
 use Rattle.lists.specs.Below.{concatBelow, sumBelow, eachBelow}
-use Rattle.lists.proofs.Below.{each-long, each-at, concat-ext, concat-long, sum-ext}
-use Rattle.lists.proofs.Lists.{part-long}
+use Rattle.lists.proofs.Below.{concat-long, sum-ext}
 use Rattle.rules.specs.Headings.{numberOf, headingOf}
 use Rattle.rules.specs.State.{Snake, State, nobody, count, snakeOf}
 use Rattle.rules.specs.Image.{front, bodyOf, startOf, recordOf, contentsOf, imageOf, word, snakesIn, sideIn, dueIn, birthIn, foodCountIn, startAt, lengthAt, headingAt, aliveAt, startDue, foodStart, bodyAt, foodAt, snakeAt, stateOf, wellFormed}
 use Rattle.rules.specs.Facts.{Sound}
 use Rattle.rules.proofs.Facts.{sound}
+use Rattle.rules.proofs.Parts.{state-count, state-snake, state-body, body-long, food-long}
 
 number-back : (k : ℕ) → k ≤ 3 → numberOf (headingOf k) ≡ k
 number-back zero h = refl
@@ -44,39 +44,24 @@ module _ (w : List ℕ) (ok : Sound w) where
   abbrev n : ℕ
   n = snakesIn w
 
-  pub count-is : count (stateOf w) ≡ n
-  unfolding stateOf
-  count-is = each-long n (snakeAt w)
-
-  module _ (i : ℕ) (h : i < n) where
-    pub snake-at : snakeOf (stateOf w) i ≡ snakeAt w i
-    unfolding stateOf
-    snake-at = each-at n (snakeAt w) nobody i h
-
-    pub body-at : bodyOf (stateOf w) i ≡ bodyAt w i
-    body-at = ap (λ (z : Snake). z .body) snake-at
-
-    pub body-long : length (bodyAt w i) ≡ lengthAt w i
-    body-long = part-long w (startAt w i) (lengthAt w i) (let b = ok .bodies-in i h in omega (arith, ok .total))
-
   pub bodies-long : (i : ℕ) → i ≤ n → length (concatBelow i (bodyOf (stateOf w))) ≡ sumBelow i (lengthAt w)
   bodies-long i h =
-      concat-long i (bodyOf (stateOf w)) ∙ sum-ext i (λ j. length (bodyOf (stateOf w) j)) (lengthAt w) (λ j l. ap length (body-at j (omega arith)) ∙ body-long j (omega arith))
+      concat-long i (bodyOf (stateOf w)) ∙ sum-ext i (λ j. length (bodyOf (stateOf w) j)) (lengthAt w) (λ j l. ap length (state-body w j (omega arith)) ∙ body-long w ok j (omega arith))
 
   pub start-at : (i : ℕ) → i < n → startOf (stateOf w) i ≡ startAt w i
   start-at i h =
-      ap₂ (λ (m k : ℕ). front m + k) count-is (bodies-long i (omega arith)) ∙ sym (ok .starts i h)
+      ap₂ (λ (m k : ℕ). front m + k) (state-count w) (bodies-long i (omega arith)) ∙ sym (ok .starts i h)
 
   -- the four words of snake i
   record-is : (i : ℕ) → i < n → recordOf (stateOf w) i ≡ take 4 (drop (5 + 4 * i) w)
   record-is i h =
       let b = 5 + 4 * i in
-      let z = snake-at i h in
+      let z = state-snake w i h in
       let e : lengthAt w i ≡ word w (suc b) = ap (word w) (omega arith) in
       let f : headingAt w i ≡ word w (suc (suc b)) = ap (word w) (omega arith) in
       let g : aliveAt w i ≡ word w (suc (suc (suc b))) = ap (word w) (omega arith) in
       (λ j. start-at i h j
-      ∷ (ap length (body-at i h) ∙ body-long i h ∙ e) j
+      ∷ (ap length (state-body w i h) ∙ body-long w ok i h ∙ e) j
       ∷ (ap (λ (z : Snake). numberOf (z .heading)) z ∙ number-back (headingAt w i) (ok .headings i h) ∙ f) j
       ∷ (ap (λ (z : Snake). bit (z .alive)) z ∙ bit-of (aliveAt w i) (ok .flags i h) ∙ g) j
       ∷ [])
@@ -97,14 +82,13 @@ module _ (w : List ℕ) (ok : Sound w) where
   bodies-are (suc i) h =
       let k = sumBelow i (lengthAt w) in
       ap₂ (λ (x y : List ℕ). x ++ y) (bodies-are i (omega arith))
-      (body-at i h ∙ ap (λ (a : ℕ). take (lengthAt w i) (drop a w)) (ok .starts i h) ∙ ap (take (lengthAt w i)) (sym (drop-drop k (front n) w)))
+      (state-body w i h ∙ ap (λ (a : ℕ). take (lengthAt w i) (drop a w)) (ok .starts i h) ∙ ap (take (lengthAt w i)) (sym (drop-drop k (front n) w)))
       ∙ sym (take-add k (lengthAt w i) (drop (front n) w))
 
   contents-are : contentsOf (stateOf w) ≡ take 5 w
   unfolding stateOf
   contents-are =
-      let f : length (foodAt w) ≡ foodCountIn w = length-drop (foodStart w) w ∙ (let e = ok .total in omega arith) in
-      (λ j. count-is j ∷ sideIn w ∷ dueIn w ∷ bit-of (birthIn w) (ok .birth-max) j ∷ f j ∷ []) ∙ words-are w 0 5 (ok .five)
+      (λ j. state-count w j ∷ sideIn w ∷ dueIn w ∷ bit-of (birthIn w) (ok .birth-max) j ∷ food-long w ok j ∷ []) ∙ words-are w 0 5 (ok .five)
 
   food-are : concatBelow n (bodyOf (stateOf w)) ++ stateOf w .food ≡ drop (front n) w
   unfolding stateOf
@@ -120,7 +104,7 @@ module _ (w : List ℕ) (ok : Sound w) where
   unfolding imageOf
   image-of =
       let s = stateOf w in
-      ap₂ (λ (c : List ℕ) (k : ℕ). c ++ (concatBelow k (recordOf s) ++ (concatBelow k (bodyOf s) ++ s .food))) contents-are count-is
+      ap₂ (λ (c : List ℕ) (k : ℕ). c ++ (concatBelow k (recordOf s) ++ (concatBelow k (bodyOf s) ++ s .food))) contents-are (state-count w)
       ∙ ap (λ (l : List ℕ). take 5 w ++ l) rest-are
       ∙ take-append-drop 5 w
 

@@ -1,0 +1,30 @@
+use mathlib.Core.Path.{_≡_, sym, subst, _∙_}
+use mathlib.Core.Bool.{false, not}
+use lib.Dec.{T}
+use lib.Ieee.{Float, nan, inf, fin, ne, isNan}
+use lib.Ieee.Compare.{nan-differs}
+use borrow.Author.Needs.{needs}
+use Rattle.probe.proofs.rewards.bits_of.Statement.{statement}
+use Rattle.probe.proofs.rewards.bits_of.Tie as tie
+use Rattle.probe.proofs.rewards.bits_of.Reads as reads
+use Rattle.probe.proofs.rewards.bits_of.Lts as lts
+
+-- src/rewards.rt:24:9
+returns : tie.Need-returns
+returns c = search needs
+
+real : (x : Float) → ne x x ≡ false → T (not (isNan x))
+unfolding isNan
+real nan e = absurd (subst T (sym nan-differs ∙ e) tt)
+real (inf s) e = tt
+real (fin s m k) e = tt
+
+float-to-bits-result : tie.Need-float-to-bits-result
+float-to-bits-result c = real (c .before .args .x) (c .if1 .left)
+
+-- src/rewards.rt:22:1
+returns-2 : tie.Need-returns-2
+returns-2 c = search needs
+
+pub bits-of-spec : {M : Type 1} → statement M
+bits-of-spec = tie.close (tie.spec returns float-to-bits-result returns-2)

@@ -1,0 +1,96 @@
+// The chance calls: the count, the draw and the rank.
+use crate::buffers::fill;
+use crate::buffers::kept;
+use crate::fields::copy_words;
+use crate::fields::size;
+use crate::fields::value;
+use crate::text::answer_number;
+use crate::text::end;
+use crate::text::no_call;
+use crate::text::put;
+use crate::text::put_words;
+use crate::text::refuse;
+use rules::Answer;
+use rules::Number;
+
+fn put_result(text: &mut [u8], at: usize, number: Number) -> usize {
+    match number {
+        Number::Value(v) => answer_number(text, at, v),
+        Number::Refused(no) => refuse(text, at, no, true),
+    }
+}
+
+// `c W`
+pub fn count_line(words: &[u16], text: &mut [u8], at: usize) -> usize {
+    put_result(text, at, arena::count(words))
+}
+
+// `k K c1..cK W`: `cells` is what stands between K and W.
+pub fn rank_line(
+    cells: &[u64],
+    words: &[u16],
+    list: &mut [u16],
+    text: &mut [u8],
+    at: usize,
+) -> usize {
+    if !copy_words(cells, list) {
+        return no_call(text, at);
+    }
+    let k = cells.len();
+    if list.len() < k {
+        return no_call(text, at);
+    }
+    put_result(text, at, arena::rank(words, &list[0..k]))
+}
+
+fn put_draw(text: &mut [u8], at: usize, out: &[u16], n: usize, list: &[u16], k: usize) -> usize {
+    let a = put(text, at, b'a');
+    let b = put_words(text, a, out, n);
+    let c = put_words(text, b, list, k);
+    end(text, c, kept(out, n) & kept(list, k))
+}
+
+fn draw(
+    index: u64,
+    words: &[u16],
+    out: &mut [u16],
+    list: &mut [u16],
+    text: &mut [u8],
+    at: usize,
+) -> usize {
+    fill(out);
+    fill(list);
+    let drawn = arena::draw(words, index, out, list);
+    let answer = drawn.answer;
+    match answer {
+        Answer::Done(n) => put_draw(text, at, out, n, list, drawn.cells),
+        Answer::Refused(no) => refuse(text, at, no, kept(out, 0) & kept(list, 0)),
+    }
+}
+
+// `d cap capList INDEX W`
+pub fn draw_line(
+    values: &[u64],
+    words: &[u16],
+    out: &mut [u16],
+    list: &mut [u16],
+    text: &mut [u8],
+    at: usize,
+) -> usize {
+    let cap = size(values, 0);
+    let cap_list = size(values, 1);
+    if out.len() < cap {
+        return no_call(text, at);
+    }
+    if list.len() < cap_list {
+        return no_call(text, at);
+    }
+    draw(
+        value(values, 2),
+        words,
+        &mut out[0..cap],
+        &mut list[0..cap_list],
+        text,
+        at,
+    )
+}

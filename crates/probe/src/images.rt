@@ -1,0 +1,44 @@
+// The calls on an image alone: whether it is well-formed, and a snake's body.
+use crate::text::accept;
+use crate::text::put;
+use crate::text::put_number;
+use crate::text::put_words;
+use crate::text::refuse;
+
+// `x W`
+pub fn well_formed_line(words: &[u16], text: &mut [u8], at: usize) -> usize {
+    if arena::well_formed(words) {
+        return accept(text, at);
+    }
+    refuse(text, at, 20, true)
+}
+
+fn word(words: &[u16], k: usize) -> u64 {
+    if k < words.len() {
+        return words[k] as u64;
+    }
+    0
+}
+
+// The start word of a snake's record; 0 for a malformed image or no such snake.
+fn start_of(words: &[u16], snake: u64) -> u64 {
+    if !arena::well_formed(words) {
+        return 0;
+    }
+    if word(words, 0) <= snake {
+        return 0;
+    }
+    if 7 < snake {
+        return 0;
+    }
+    word(words, 5 + 4 * snake as usize)
+}
+
+// `b SNAKE W`
+pub fn body_line(snake: u64, words: &[u16], text: &mut [u8], at: usize) -> usize {
+    let a = put(text, at, b'a');
+    let b = put_number(text, a, start_of(words, snake));
+    let body = arena::body(words, snake as usize);
+    let c = put_words(text, b, body, body.len());
+    put(text, c, b'\n')
+}

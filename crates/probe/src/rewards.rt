@@ -1,0 +1,59 @@
+// The reward, whose floats stand in a line as bits.
+ghost use Prim.Native.Nat.{_≤_};
+ghost use lib.ListN.{length};
+use crate::fields::Told;
+use crate::fields::event_in;
+use crate::text::answer_number;
+use crate::text::no_call;
+use crate::text::refuse;
+use rules::Event;
+use rules::Reward;
+use rules::Weights;
+
+// The float of that pattern. A NaN's pattern has none: it is read as an infinity, which the reward refuses by 31 too.
+fn float_of(bits: u64) -> f64 {
+    if 9218868437227405312 < bits % 9223372036854775808 {
+        return 1.0 / 0.0;
+    }
+    f64::from_bits(bits)
+}
+
+// The pattern of a float that is no NaN, as no sum of finite weights is.
+fn bits_of(x: f64) -> u64 {
+    if x != x {
+        return 0;
+    }
+    f64::to_bits(x)
+}
+
+fn reward(weights: Weights, event: Event, text: &mut [u8], at: usize) -> usize {
+    match arena::reward(weights, event) {
+        Reward::Sum(x) => answer_number(text, at, bits_of(x)),
+        Reward::Refused(no) => refuse(text, at, no, true),
+    }
+}
+
+fn weights_in(w: &[u64]) -> Weights
+    requires { ⌜ 7 ≤ length (now w) ⌝ }
+{
+    Weights {
+        step: float_of(w[0]),
+        food: float_of(w[1]),
+        loss: float_of(w[2]),
+        draw: float_of(w[3]),
+        kill: float_of(w[4]),
+        win: float_of(w[5]),
+        survival: float_of(w[6]),
+    }
+}
+
+// `w B1..B7 E`
+pub fn reward_line(values: &[u64], text: &mut [u8], at: usize) -> usize {
+    if values.len() != 15 {
+        return no_call(text, at);
+    }
+    match event_in(&values[7..15]) {
+        Told::NoEvent => no_call(text, at),
+        Told::Tells(event) => reward(weights_in(values), event, text, at),
+    }
+}

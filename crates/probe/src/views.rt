@@ -1,0 +1,232 @@
+// What an agent sees and may do: observation, actor, legal actions, length cell, truncation, spaces and turns.
+use crate::buffers::fill_planes;
+use crate::buffers::planes_kept;
+use crate::fields::Side;
+use crate::fields::Told;
+use crate::fields::event_in;
+use crate::fields::side_of;
+use crate::fields::size;
+use crate::fields::value;
+use crate::marks::put_event;
+use crate::text::answer_number;
+use crate::text::end;
+use crate::text::no_call;
+use crate::text::put;
+use crate::text::put_flag;
+use crate::text::put_number;
+use crate::text::refuse;
+use rules::Actor;
+use rules::Answer;
+use rules::Event;
+use rules::Heading;
+use rules::Legal;
+use rules::LengthCell;
+use rules::RelativeAction;
+use rules::Space;
+use rules::Truncated;
+
+// A plane's number: 0 or 1, and `?` for any other.
+fn put_light(text: &mut [u8], at: usize, x: f32) -> usize {
+    let i = put(text, at, b' ');
+    if x == 0.0 {
+        return put(text, i, b'0');
+    }
+    if x == 1.0 {
+        return put(text, i, b'1');
+    }
+    put(text, i, b'?')
+}
+
+fn put_lights(text: &mut [u8], from: usize, planes: &[f32], n: usize) -> usize {
+    let mut at = from;
+    let mut k = 0;
+    while k < n {
+        if planes.len() <= k {
+            return at;
+        }
+        at = put_light(text, at, planes[k]);
+        k += 1;
+    }
+    at
+}
+
+fn put_planes(text: &mut [u8], at: usize, planes: &[f32], n: usize) -> usize {
+    let a = put(text, at, b'a');
+    let b = put_number(text, a, n as u64);
+    let c = put_lights(text, b, planes, n);
+    end(text, c, planes_kept(planes, n))
+}
+
+fn observe(words: &[u16], agent: u64, planes: &mut [f32], text: &mut [u8], at: usize) -> usize {
+    fill_planes(planes);
+    match arena::observe(words, agent, planes) {
+        Answer::Done(n) => put_planes(text, at, planes, n),
+        Answer::Refused(no) => refuse(text, at, no, planes_kept(planes, 0)),
+    }
+}
+
+// `o AGENT cap W`
+pub fn observe_line(
+    values: &[u64],
+    words: &[u16],
+    planes: &mut [f32],
+    text: &mut [u8],
+    at: usize,
+) -> usize {
+    let cap = size(values, 1);
+    if planes.len() < cap {
+        return no_call(text, at);
+    }
+    observe(words, value(values, 0), &mut planes[0..cap], text, at)
+}
+
+// `t W`
+pub fn actor_line(words: &[u16], text: &mut [u8], at: usize) -> usize {
+    match arena::actor(words) {
+        Actor::Chance => answer_number(text, at, 1),
+        Actor::Simultaneous => answer_number(text, at, 0),
+        Actor::Refused(no) => refuse(text, at, no, true),
+    }
+}
+
+fn put_actions(text: &mut [u8], at: usize) -> usize {
+    let a = put(text, at, b'a');
+    let b = put_number(text, a, 3);
+    let c = put_number(text, b, 0);
+    let d = put_number(text, c, 1);
+    let e = put_number(text, d, 2);
+    put(text, e, b'\n')
+}
+
+// `l AGENT W`
+pub fn legal_line(agent: u64, words: &[u16], text: &mut [u8], at: usize) -> usize {
+    match arena::legal_actions(words, agent) {
+        Legal::AnyAction => put_actions(text, at),
+        Legal::NoAction => answer_number(text, at, 0),
+        Legal::Refused(no) => refuse(text, at, no, true),
+    }
+}
+
+fn put_key(text: &mut [u8], at: usize, key: u64) -> usize {
+    let a = put(text, at, b'a');
+    let b = put_number(text, a, 1);
+    let c = put_number(text, b, key);
+    put(text, c, b'\n')
+}
+
+// `z W`
+pub fn length_cell_line(words: &[u16], text: &mut [u8], at: usize) -> usize {
+    match arena::length_cell(words) {
+        LengthCell::Key(key) => put_key(text, at, key),
+        LengthCell::NoKey => answer_number(text, at, 0),
+        LengthCell::Refused(no) => refuse(text, at, no, true),
+    }
+}
+
+fn put_mark(text: &mut [u8], at: usize, event: Event) -> usize {
+    let a = put(text, at, b'a');
+    let b = put_event(text, a, event);
+    put(text, b, b'\n')
+}
+
+fn truncation(words: &[u16], agent: u64, event: Event, text: &mut [u8], at: usize) -> usize {
+    match arena::truncation(words, agent, event) {
+        Truncated::Marked(marked) => put_mark(text, at, marked),
+        Truncated::Refused(no) => refuse(text, at, no, true),
+    }
+}
+
+// `u AGENT E W`
+pub fn truncation_line(values: &[u64], words: &[u16], text: &mut [u8], at: usize) -> usize {
+    if values.len() < 9 {
+        return no_call(text, at);
+    }
+    match event_in(&values[1..9]) {
+        Told::NoEvent => no_call(text, at),
+        Told::Tells(event) => truncation(words, values[0], event, text, at),
+    }
+}
+
+fn put_box(text: &mut [u8], at: usize, planes: usize, high: usize, wide: usize) -> usize {
+    let a = put(text, at, b'a');
+    let b = put_number(text, a, planes as u64);
+    let c = put_number(text, b, high as u64);
+    let d = put_number(text, c, wide as u64);
+    put(text, d, b'\n')
+}
+
+fn put_space(text: &mut [u8], at: usize, space: Space) -> usize {
+    match space {
+        Space::Box {
+            planes,
+            high,
+            wide,
+            low: _,
+            top: _,
+        } => put_box(text, at, planes, high, wide),
+        Space::Discrete(n) => answer_number(text, at, n as u64),
+        Space::Refused(no) => refuse(text, at, no, true),
+    }
+}
+
+// `p GRID`
+pub fn observation_space_line(values: &[u64], kinds: &[u8], text: &mut [u8], at: usize) -> usize {
+    if values.len() != 1 {
+        return no_call(text, at);
+    }
+    if kinds.len() == 0 {
+        return no_call(text, at);
+    }
+    match side_of(kinds[0], values[0]) {
+        Side::NoSide => no_call(text, at),
+        Side::Cells(grid) => put_space(text, at, arena::observation_space(grid)),
+    }
+}
+
+// `q`
+pub fn action_space_line(values: &[u64], text: &mut [u8], at: usize) -> usize {
+    if values.len() != 0 {
+        return no_call(text, at);
+    }
+    put_space(text, at, arena::action_space())
+}
+
+fn heading_of(v: u64) -> Heading {
+    match v {
+        0 => Heading::Up,
+        1 => Heading::Right,
+        2 => Heading::Down,
+        _ => Heading::Left,
+    }
+}
+
+fn action_of(v: u64) -> RelativeAction {
+    match v {
+        0 => RelativeAction::Forward,
+        1 => RelativeAction::TurnLeft,
+        _ => RelativeAction::TurnRight,
+    }
+}
+
+fn number_of(heading: Heading) -> u64 {
+    match heading {
+        Heading::Up => 0,
+        Heading::Right => 1,
+        Heading::Down => 2,
+        Heading::Left => 3,
+    }
+}
+
+// `h HEADING ACTION`
+pub fn turn_line(values: &[u64], text: &mut [u8], at: usize) -> usize {
+    if values.len() != 2 {
+        return no_call(text, at);
+    }
+    let heading = values[0];
+    let action = values[1];
+    if (3 < heading) | (2 < action) {
+        return no_call(text, at);
+    }
+    let turned = arena::relative_to_absolute(heading_of(heading), action_of(action));
+    answer_number(text, at, number_of(turned))
+}

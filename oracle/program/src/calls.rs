@@ -1,0 +1,218 @@
+//! Every public call: refused as the paper says, else answered by the published Rust. Where both know
+//! the answer they are held against each other, and a difference is a panic.
+
+use reinfors_core::game::{Actor, ChanceDist, Game};
+use reinfors_core::{Reward, Space, StateEncoder};
+
+use crate::paper::{self, Number, Setting, State};
+use crate::paper_rules;
+use crate::rust;
+use crate::snake::{self, EgocentricSnake, StepEvent};
+
+/// Whether `Snake::validate` computes a setting without overflow: its rows are 32-bit products.
+fn rows_fit(s: &Setting) -> bool {
+    let factor = if (3..=8).contains(&s.snakes) { s.snakes as i64 } else { 1 };
+    i32::try_from(factor * i64::from(s.grid)).is_ok()
+}
+
+/// Setting check: 1 to 12. On the domain the Rust's own message must mean the paper's number.
+pub fn check_setting(s: &Setting) -> Result<(), Number> {
+    let answer = paper::check_setting(s);
+    if s.grid <= 32 && rows_fit(s) {
+        let ruled = rust::game(s).validate().map_err(|message| rust::number_of_message(&message));
+        assert_eq!(answer, ruled, "the paper and validate differ on {s:?}");
+    }
+    answer
+}
+
+/// The image of an answer, which must be well-formed and read back as the same state.
+fn image(state: &State) -> Vec<u16> {
+    let words = paper::write_image(state);
+    assert_eq!(paper::read_image(&words).as_ref(), Some(state), "an answer is well-formed");
+    words
+}
+
+pub fn initial(s: &Setting) -> Result<State, Number> {
+    check_setting(s)?;
+    Ok(rust::from_rust(&rust::game(s).initial_state(), s.grid as u16))
+}
+
+pub fn initial_image(s: &Setting, room: u64) -> Result<Vec<u16>, Number> {
+    let words = image(&initial(s)?);
+    paper::check_room(room, words.len())?;
+    Ok(words)
+}
+
+pub struct Stepped {
+    pub terminal: bool,
+    pub events: Vec<StepEvent>,
+    pub next: State,
+}
+
+/// The step, for actions and an image that the paper lets through.
+fn step_state(s: &Setting, state: &State, actions: &[u64]) -> Stepped {
+    let usizes: Vec<usize> = actions.iter().map(|&a| a as usize).collect();
+    let ruled = rust::game(s).step(&rust::to_rust(state), &usizes);
+    let events: Vec<StepEvent> =
+        ruled.events.into_iter().map(|e| e.expect("a step tells each snake's event")).collect();
+    let next = rust::from_rust(&ruled.next_state, state.side);
+    let numbers = events.iter().map(rust::event_numbers).collect();
+    let read = paper_rules::step(s, state, actions);
+    assert_eq!(read, (ruled.terminal, numbers, next.clone()), "the paper and step differ");
+    Stepped { terminal: ruled.terminal, events, next }
+}
+
+pub fn step(s: &Setting, words: &[u16], actions: &[u64]) -> Result<Stepped, Number> {
+    check_setting(s)?;
+    let state = paper::check_step(s, words, actions)?;
+    Ok(step_state(s, &state, actions))
+}
+
+/// The step into a lent buffer: terminal, events and the words written.
+pub fn step_image(
+    s: &Setting,
+    words: &[u16],
+    actions: &[u64],
+    room: u64,
+) -> Result<(bool, Vec<StepEvent>, Vec<u16>), Number> {
+    let stepped = step(s, words, actions)?;
+    let next = image(&stepped.next);
+    paper::check_room(room, next.len())?;
+    Ok((stepped.terminal, stepped.events, next))
+}
+
+/// The Rust's count of a state with food due; it panics above 2^64 - 1.
+fn rust_count(state: &State) -> u64 {
+    match rust::game_of(state).chance_node(&rust::to_rust(state)) {
+        ChanceDist::Uniform(n) => n as u64,
+        other => panic!("a distribution that is not uniform: {other:?}"),
+    }
+}
+
+pub fn count(words: &[u16]) -> Result<u64, Number> {
+    let state = paper::read_image(words).ok_or(20)?;
+    let answer = paper::count(&state);
+    match answer {
+        Ok(n) => assert_eq!(n, rust_count(&state), "the paper and chance_node differ"),
+        Err(28) => assert!(rust::caught(|| rust_count(&state)).is_err(), "the Rust counts beyond 28"),
+        Err(_) => {}
+    }
+    answer
+}
+
+/// The draw of an index: the Rust's next state, and the paper's ordered list, which must lead to it.
+pub fn draw(words: &[u16], index: u64) -> Result<(State, Vec<u16>), Number> {
+    let state = paper::check_draw(words, index)?;
+    let ruled = rust::game_of(&state).apply_chance_node(&rust::to_rust(&state), index as usize);
+    assert!(!ruled.terminal && ruled.events.iter().all(Option::is_none), "a draw is silent");
+    let next = rust::from_rust(&ruled.next_state, state.side);
+    let list = paper::drawn(&state, index);
+    assert_eq!(paper::after_draw(&state, &list), next, "the paper and apply_chance_node differ");
+    Ok((next, list))
+}
+
+/// The draw into two lent buffers.
+pub fn draw_image(words: &[u16], index: u64, room: u64, list_room: u64) -> Result<(Vec<u16>, Vec<u16>), Number> {
+    let (state, list) = draw(words, index)?;
+    let next = image(&state);
+    paper::check_room(room, next.len())?;
+    paper::check_room(list_room, list.len())?;
+    Ok((next, list))
+}
+
+/// Rank, by the paper; the draw of the answer must give the list.
+pub fn rank(words: &[u16], list: &[u16]) -> Result<u64, Number> {
+    let state = paper::read_image(words).ok_or(20)?;
+    let index = paper::rank(&state, list)?;
+    assert_eq!(draw(words, index).expect("a rank is an index").1, list, "the rank's draw is another list");
+    Ok(index)
+}
+
+/// Observation: 5g² numbers, each 0.0 or 1.0.
+pub fn observation(words: &[u16], agent: u64, room: u64) -> Result<Vec<u8>, Number> {
+    let state = paper::check_agent(words, agent)?;
+    let ruled = rust::to_rust(&state);
+    let planes = snake::egocentric_parts(&ruled.snakes, &ruled.food, i32::from(state.side), agent as usize);
+    paper::check_room(room, planes.len())?;
+    let bit = |x: f32| match x.to_bits() {
+        0 => 0,
+        0x3f80_0000 => 1,
+        _ => panic!("an observation holds {x}"),
+    };
+    let planes: Vec<u8> = planes.into_iter().map(bit).collect();
+    let read = paper_rules::observation(&state, agent as usize);
+    assert_eq!(planes, read, "the paper and egocentric_parts differ");
+    Ok(planes)
+}
+
+/// Whether chance acts.
+pub fn actor(words: &[u16]) -> Result<bool, Number> {
+    let state = paper::read_image(words).ok_or(20)?;
+    let chance = match rust::game_of(&state).actor(&rust::to_rust(&state)) {
+        Actor::Chance => true,
+        Actor::Simultaneous => false,
+        Actor::Agent(_) => panic!("snakes never move alone"),
+    };
+    assert_eq!(chance, state.due > 0, "the paper and actor differ");
+    Ok(chance)
+}
+
+pub fn legal_actions(words: &[u16], agent: u64) -> Result<Vec<usize>, Number> {
+    let state = paper::check_agent(words, agent)?;
+    let actions = rust::game_of(&state).legal_actions(&rust::to_rust(&state), agent as usize);
+    let read = paper_rules::legal_actions(&state, agent as usize);
+    assert_eq!(actions, read, "the paper and legal_actions differ");
+    Ok(actions)
+}
+
+pub fn length_cell(words: &[u16]) -> Result<Option<u64>, Number> {
+    let state = paper::read_image(words).ok_or(20)?;
+    let cell = snake::snake_length_cell(&rust::to_rust(&state));
+    assert_eq!(cell, paper_rules::length_cell(&state), "the paper and snake_length_cell differ");
+    Ok(cell)
+}
+
+pub fn truncation(words: &[u16], agent: u64, event: StepEvent) -> Result<StepEvent, Number> {
+    let state = paper::check_agent(words, agent)?;
+    let read = paper_rules::truncation(&state, agent as usize, rust::event_numbers(&event));
+    let mut trace = vec![(agent as usize, event)];
+    rust::game_of(&state).mark_truncation(&rust::to_rust(&state), &mut trace);
+    let marked = trace.remove(0).1;
+    assert_eq!(rust::event_numbers(&marked), read, "the paper and mark_truncation differ");
+    Ok(marked)
+}
+
+pub fn reward(weights: &[f64], event: &StepEvent) -> Result<f64, Number> {
+    paper::check_weights(weights)?;
+    let sum = rust::reward_of(weights).step_reward(event, 0);
+    let read = paper_rules::reward(weights, &rust::event_numbers(event));
+    assert_eq!(sum.to_bits(), read.to_bits(), "the paper and step_reward differ");
+    Ok(sum)
+}
+
+/// The three sizes of the observation space, whose bounds must be 0.0 and 1.0.
+pub fn observation_space(grid: i32) -> Result<Vec<usize>, Number> {
+    paper::check_space(grid)?;
+    match (EgocentricSnake { grid_size: grid }).observation_space() {
+        Space::Box { shape, low, high } => {
+            assert!(low.to_bits() == 0 && high == 1.0, "bounds {low} and {high}");
+            Ok(shape)
+        }
+        Space::Discrete { .. } => panic!("an observation is a box"),
+    }
+}
+
+pub fn action_space() -> usize {
+    let any = Setting { snakes: 2, grid: 3, length: 1, play_to_last: false, lead: None, food: 0, max_ticks: None };
+    match rust::game(&any).action_space() {
+        Space::Discrete { n } => n,
+        Space::Box { .. } => panic!("actions are discrete"),
+    }
+}
+
+pub fn turn(heading: u16, action: usize) -> u16 {
+    let relative = snake::RELATIVE_ACTIONS[action];
+    let turned = rust::heading_number(snake::relative_to_absolute(rust::heading(heading), relative));
+    assert_eq!(turned, paper_rules::turn(heading, action as u64), "the paper and relative_to_absolute differ");
+    turned
+}

@@ -1,0 +1,463 @@
+//! Calls made from a seed: the probe's lines around every limit, rule and refusal of document 01.
+
+use crate::calls;
+use crate::images::{self, Player};
+use crate::paper::{self, Setting, State};
+use crate::random::Random;
+
+/// Letters drawn from when none are asked for; a letter comes as often as it stands here.
+pub const ALL: &str = "vvvissssssssccdddddkkkkkooobbtllzzuuwwwpqhxx";
+
+/// How long a line may be and which images are wanted.
+#[derive(Clone, Copy, PartialEq)]
+pub enum Size {
+    Any,
+    /// No line of more bytes.
+    UpTo(usize),
+    /// Only the largest image, of 9,253 words.
+    Full,
+}
+
+pub struct Generator {
+    rng: Random,
+    player: Player,
+    letters: Vec<u8>,
+    size: Size,
+}
+
+fn joined<T: ToString>(numbers: &[T]) -> String {
+    numbers.iter().map(|n| format!(" {}", n.to_string())).collect()
+}
+
+/// A count and the list after it, each after a space.
+fn listed<T: ToString>(list: &[T]) -> String {
+    format!(" {}{}", list.len(), joined(list))
+}
+
+impl Generator {
+    pub fn new(seed: u64, letters: &str, size: Size) -> Self {
+        let mut rng = Random::new(seed);
+        let player = Player::new(&mut rng);
+        Generator { rng, player, letters: letters.bytes().collect(), size }
+    }
+
+    /// The next line, without its newline.
+    pub fn line(&mut self) -> Vec<u8> {
+        loop {
+            let letter = *self.rng.pick(&self.letters);
+            let mut line = self.call(letter).into_bytes();
+            if self.rng.once_in(60) {
+                self.spoil(&mut line);
+            }
+            match self.size {
+                Size::UpTo(most) if line.len() > most => continue,
+                _ => return line,
+            }
+        }
+    }
+
+    fn call(&mut self, letter: u8) -> String {
+        match letter {
+            b'v' => format!("v {}", self.any_setting().print()),
+            b'i' => self.initial(),
+            b's' => self.step(),
+            b'c' => format!("c{}", listed(&self.image(true))),
+            b'd' => self.draw(),
+            b'k' => self.rank(),
+            b'o' => self.observation(),
+            b'b' => self.with_agent("b"),
+            b't' => format!("t{}", listed(&self.image(false))),
+            b'l' => self.with_agent("l"),
+            b'z' => self.length_cell(),
+            b'u' => self.truncation(),
+            b'w' => self.reward(),
+            b'p' => format!("p {}", self.any_grid()),
+            b'q' => "q".to_string(),
+            b'h' => self.turn(),
+            b'x' => self.well_formed(),
+            other => panic!("no call has the letter {}", char::from(other)),
+        }
+    }
+
+    // ---- images
+
+    fn state(&mut self, for_draw: bool) -> State {
+        let rng = &mut self.rng;
+        if self.size == Size::Full || (self.size == Size::Any && rng.once_in(1500)) {
+            let mut state = images::full_state(rng);
+            images::set_due(rng, &mut state, for_draw);
+            return state;
+        }
+        if rng.once_in(3) {
+            let mut state = self.player.next(rng).1;
+            if for_draw && state.due == 0 && !rng.once_in(10) {
+                images::set_due(rng, &mut state, true);
+            }
+            return state;
+        }
+        let (n, side) = (images::snake_count(rng), images::side(rng));
+        let mut state = images::any_state(rng, n, side);
+        images::set_due(rng, &mut state, for_draw);
+        state
+    }
+
+    /// The words of a state, one in eight with one fault or two.
+    fn perhaps_damaged(&mut self, state: &State, once_in: u64) -> Vec<u16> {
+        let mut words = paper::write_image(state);
+        if self.rng.once_in(once_in) {
+            for _ in 0..self.rng.between(1, 2) {
+                images::damage(&mut self.rng, &mut words);
+            }
+        } else if self.rng.once_in(150) {
+            let count = self.rng.below(20);
+            words = (0..count).map(|_| self.rng.below(40) as u16).collect();
+        } else if self.rng.once_in(3000) && self.size == Size::Any {
+            // as many words as a line may hold, or one more
+            let count = self.rng.between(16_383, 16_385) as usize;
+            words.resize(count, 1);
+        }
+        words
+    }
+
+    fn image(&mut self, for_draw: bool) -> Vec<u16> {
+        let state = self.state(for_draw);
+        self.perhaps_damaged(&state, 8)
+    }
+
+    /// A buffer's length around what is needed.
+    fn room(&mut self, needed: usize, most: u64) -> u64 {
+        let needed = needed as u64;
+        match self.rng.below(20) {
+            0..=10 => (needed + self.rng.below(20)).min(most),
+            11..=14 => needed.min(most),
+            15 => needed.saturating_sub(1).min(most),
+            16 => self.rng.below(needed + 1).min(most),
+            17 => *self.rng.pick(&[0, 1, 5]),
+            18 => most - self.rng.below(2),
+            _ => {
+                if self.rng.once_in(4) {
+                    most + 1
+                } else {
+                    most
+                }
+            }
+        }
+    }
+
+    fn agent(&mut self, words: &[u16]) -> u64 {
+        let n = u64::from(words.first().copied().unwrap_or(2)).min(8);
+        match self.rng.below(12) {
+            0 => n,
+            1 => *self.rng.pick(&[n + 1, 8, 9, 256, 65_536, 1 << 32, 1 << 63, u64::MAX]),
+            _ => self.rng.below(n.max(1)),
+        }
+    }
+
+    fn with_agent(&mut self, letter: &str) -> String {
+        let words = self.image(false);
+        let agent = self.agent(&words);
+        format!("{letter} {agent}{}", listed(&words))
+    }
+
+    fn length_cell(&mut self) -> String {
+        let long = self.rng.once_in(2) && self.size == Size::Any;
+        let mut state = if long { images::long_state(&mut self.rng) } else { self.state(false) };
+        if !self.rng.once_in(3) {
+            // all alive, where each has a cell
+            state.snakes.iter_mut().for_each(|s| s.alive = !s.body.is_empty());
+        }
+        let words = self.perhaps_damaged(&state, 10);
+        format!("z{}", listed(&words))
+    }
+
+    fn well_formed(&mut self) -> String {
+        let state = self.state(true);
+        let words = self.perhaps_damaged(&state, 2);
+        format!("x{}", listed(&words))
+    }
+
+    // ---- settings
+
+    fn any_grid(&mut self) -> i32 {
+        match self.rng.below(8) {
+            0 => {
+                *self.rng.pick(&[i32::MIN, i32::MIN + 1, -715_827_883, -268_435_457, -268_435_456, -46_341, -1_000])
+            }
+            1 => *self.rng.pick(&[i32::MAX, 46_340, 46_341, 65_536, 20_725, 1_000, 100]),
+            2 => self.rng.below(4) as i32 - 3,
+            3 => self.rng.between(30, 35) as i32,
+            _ => self.rng.between(1, 33) as i32,
+        }
+    }
+
+    /// One field put at or around a limit.
+    fn unsettle(&mut self, s: &mut Setting) {
+        let rng = &mut self.rng;
+        let cells = i64::from(s.grid).pow(2) as u64;
+        let used = s.length.saturating_mul(s.snakes);
+        match rng.below(12) {
+            0 => s.snakes = rng.between(0, 10),
+            1 => s.snakes = *rng.pick(&[0, 1, 9, 10, 258, (1 << 32) + 2, u64::MAX]),
+            2 => s.length = *rng.pick(&[0, 0, 1, u64::MAX, 1 << 32, (1 << 32) + 1, 10_000]),
+            3 => s.length = rng.between(0, 40),
+            4 => s.lead = *rng.pick(&[None, Some(0), Some(0), Some(1), Some(2), Some(u64::MAX)]),
+            5 | 6 => s.grid = self.any_grid(),
+            7 => s.food = (cells + rng.below(3)).saturating_sub(1),
+            8 => s.food = (cells.saturating_sub(used) + rng.below(5)).saturating_sub(2),
+            9 => s.food = *rng.pick(&[0, 1, 1_024, 1_025, 9_999, 10_000, 10_001, 1 << 53, u64::MAX]),
+            10 => s.food = rng.between(0, 9),
+            _ => s.max_ticks = *rng.pick(&[None, Some(0), Some(1), Some(u64::MAX)]),
+        }
+    }
+
+    /// A setting with up to three fields at a limit.
+    pub fn any_setting(&mut self) -> Setting {
+        let rng = &mut self.rng;
+        let n = images::snake_count(rng);
+        let mut s = Setting {
+            snakes: n,
+            grid: match rng.below(4) {
+                0..=1 => i32::from(images::side(rng)),
+                // where the product of n factors crosses 2^53
+                2 => rng.between(8, 22) as i32,
+                _ => rng.between(1, 32) as i32,
+            },
+            length: rng.between(1, 5),
+            play_to_last: rng.once_in(2),
+            lead: if n == 2 && rng.once_in(2) { Some(rng.between(1, 3)) } else { None },
+            food: rng.between(0, 8),
+            max_ticks: if rng.once_in(4) { Some(rng.below(50)) } else { None },
+        };
+        for _ in 0..self.rng.below(4) {
+            self.unsettle(&mut s);
+        }
+        s
+    }
+
+    fn initial(&mut self) -> String {
+        let s = if self.rng.once_in(3) { self.any_setting() } else { images::accepted(&mut self.rng) };
+        let needed = calls::initial_image(&s, u64::MAX).map_or(30, |words| words.len());
+        format!("i {} {}", s.print(), self.room(needed, 16_384))
+    }
+
+    // ---- step
+
+    /// A setting and a state that belong together.
+    fn position(&mut self) -> (Setting, State) {
+        let rng = &mut self.rng;
+        if self.size == Size::Full || (self.size == Size::Any && rng.once_in(1500)) {
+            let state = images::full_state(rng);
+            let s = images::setting_for(rng, 8, 32).expect("a large board has room");
+            return (s, state);
+        }
+        if rng.once_in(3) {
+            return self.player.next(rng);
+        }
+        let mut s = images::accepted(rng);
+        let mut state = images::any_state(rng, s.snakes, s.grid as u16);
+        images::set_due(rng, &mut state, false);
+        if s.lead.is_some() {
+            s.lead = Some(images::lead_near(rng, &state));
+        }
+        (s, state)
+    }
+
+    fn actions(&mut self, state: &State) -> Vec<u64> {
+        let rng = &mut self.rng;
+        let mut actions = if rng.once_in(3) {
+            images::sensible(rng, state)
+        } else {
+            state.snakes.iter().map(|_| if rng.once_in(2) { 0 } else { rng.below(3) }).collect()
+        };
+        for (action, snake) in actions.iter_mut().zip(&state.snakes) {
+            let odd = if snake.alive { rng.once_in(60) } else { rng.once_in(2) };
+            if odd {
+                *action = *rng.pick(&[3, 4, 255, 256, 65_536, 1 << 32, u64::MAX]);
+            }
+        }
+        if rng.once_in(15) {
+            let count = *rng.pick(&[0, 1, 2, 3, 7, 8, 9, 16, 63, 64, 65]);
+            actions.resize(count, 0);
+        }
+        actions
+    }
+
+    fn step(&mut self) -> String {
+        let (mut s, state) = self.position();
+        let words = self.perhaps_damaged(&state, 14);
+        let actions = self.actions(&state);
+        if self.rng.once_in(16) {
+            self.unsettle(&mut s);
+        } else if self.rng.once_in(20) {
+            // another accepted setting, seldom of the same board
+            s = images::accepted(&mut self.rng);
+        }
+        let needed = calls::step_image(&s, &words, &actions, u64::MAX).map_or(words.len(), |a| a.2.len());
+        let room = self.room(needed, 16_384);
+        format!("s {} {room}{}{}", s.print(), listed(&actions), listed(&words))
+    }
+
+    // ---- chance
+
+    fn draw(&mut self) -> String {
+        let words = self.image(true);
+        let count = calls::count(&words).unwrap_or(100);
+        let rng = &mut self.rng;
+        let index = match rng.below(12) {
+            0 => 0,
+            1 => count - 1,
+            2 => count,
+            3 => *rng.pick(&[count.saturating_add(1), u64::MAX, count.saturating_mul(3)]),
+            _ => rng.below(count),
+        };
+        let drawn = calls::draw(&words, index).map_or(1, |answer| answer.1.len());
+        let room = self.room(words.len() + drawn, 16_384);
+        let list_room = self.room(drawn, 16_384);
+        format!("d {room} {list_room} {index}{}", listed(&words))
+    }
+
+    fn rank(&mut self) -> String {
+        let mut state = self.state(true);
+        if state.due == 0 && !self.rng.once_in(6) {
+            images::set_due(&mut self.rng, &mut state, true);
+        }
+        let mut list = match paper::count(&state) {
+            Ok(count) => paper::drawn(&state, self.rng.below(count)),
+            Err(_) => {
+                let mut free = paper::free_cells(&state);
+                self.rng.shuffle(&mut free);
+                free.truncate(usize::from(state.due));
+                free
+            }
+        };
+        if self.rng.once_in(4) {
+            self.spoil_list(&mut list, &state);
+        }
+        let words = self.perhaps_damaged(&state, 14);
+        format!("k{}{}", listed(&list), listed(&words))
+    }
+
+    fn spoil_list(&mut self, list: &mut Vec<u16>, state: &State) {
+        let rng = &mut self.rng;
+        let cells = state.side * state.side;
+        let at = rng.below(list.len().max(1) as u64) as usize;
+        match rng.below(6) {
+            0 => drop(list.pop()),
+            1 => list.push(rng.below(u64::from(cells)) as u16),
+            2 if !list.is_empty() => list[at] = *rng.pick(&[cells, cells + 1, 65_535]),
+            3 if !list.is_empty() => list[at] = rng.below(u64::from(cells)) as u16,
+            4 if list.len() > 1 => list[at] = list[(at + 1) % list.len()],
+            5 if rng.once_in(40) => list.resize(rng.between(2_047, 2_049) as usize, 0),
+            _ => rng.shuffle(list),
+        }
+    }
+
+    // ---- the rest
+
+    fn observation(&mut self) -> String {
+        let words = self.image(false);
+        let agent = self.agent(&words);
+        let side = usize::from(words.get(1).copied().unwrap_or(1)).min(32);
+        let room = self.room(5 * side * side, 8_192);
+        format!("o {agent} {room}{}", listed(&words))
+    }
+
+    fn event(&mut self) -> Vec<u64> {
+        let none = self.rng.once_in(6);
+        (0..8)
+            .map(|i| match i {
+                _ if none => 0,
+                2 => self.rng.below(5),
+                _ => self.rng.below(2),
+            })
+            .collect()
+    }
+
+    fn truncation(&mut self) -> String {
+        let event = self.event();
+        let words = self.image(false);
+        let agent = self.agent(&words);
+        format!("u {agent}{}{}", joined(&event), listed(&words))
+    }
+
+    /// The bits of a decimal with three places between -1 and 1.
+    fn thousandths(&mut self) -> u64 {
+        ((self.rng.below(2001) as f64 - 1000.0) / 1000.0).to_bits()
+    }
+
+    fn weight(&mut self) -> u64 {
+        let rng = &mut self.rng;
+        let plain: [f64; 12] = [0.0, -0.0, 1.0, -1.0, 0.1, -0.01, 0.2, 0.3, 1e16, -1e16, 1e-300, 1e300];
+        let edges = [f64::MAX, f64::MIN, f64::MIN_POSITIVE, f64::EPSILON, -f64::MIN_POSITIVE];
+        match rng.below(40) {
+            0..=14 => rng.pick(&plain).to_bits(),
+            15..=21 => rng.pick(&edges).to_bits(),
+            // subnormal, either sign
+            22..=25 => (rng.below(2) << 63) | (rng.word() >> (12 + rng.below(52))),
+            26 => *rng.pick(&[
+                0x7ff0_0000_0000_0000,
+                0xfff0_0000_0000_0000,
+                0x7ff8_0000_0000_0000,
+                0xfff8_0000_0000_0000,
+                0x7ff0_0000_0000_0001,
+                0xffff_ffff_ffff_ffff,
+            ]),
+            27..=32 => self.thousandths(),
+            _ => rng.word(),
+        }
+    }
+
+    fn reward(&mut self) -> String {
+        // thousandths and large opposites show the order of adding; other weights show the limits
+        let weights: Vec<u64> = match self.rng.below(4) {
+            0 => (0..7).map(|_| self.thousandths()).collect(),
+            1 => (0..7).map(|_| self.rng.pick(&[1e16f64, -1e16, 1.0, -1.0, 0.5, 3.0]).to_bits()).collect(),
+            _ => (0..7).map(|_| self.weight()).collect(),
+        };
+        let event = self.event();
+        format!("w{}{}", joined(&weights), joined(&event))
+    }
+
+    fn turn(&mut self) -> String {
+        let most = if self.rng.once_in(6) { 6 } else { 3 };
+        let heading = self.rng.below(if most == 3 { 4 } else { most });
+        format!("h {heading} {}", self.rng.below(most))
+    }
+
+    /// Makes a line unreadable, mostly.
+    fn spoil(&mut self, line: &mut Vec<u8>) {
+        let rng = &mut self.rng;
+        let at = rng.below(line.len() as u64) as usize;
+        let spaces: Vec<usize> = (0..line.len()).filter(|&i| line[i] == b' ').collect();
+        let field = if spaces.is_empty() { 0 } else { *rng.pick(&spaces) + 1 };
+        match rng.below(14) {
+            0 => drop(line.remove(at)),
+            1 => line.insert(at, *rng.pick(b" 0-+9a\t\r.\x00\x7f\xff")),
+            2 => line.push(b' '),
+            3 => line.insert(0, b' '),
+            4 => line.extend(b" 0"),
+            5 => line.insert(field, b'0'),
+            6 => line.insert(field, b'-'),
+            7 => line.insert(field, b' '),
+            8 => line.truncate(at),
+            9 => line.clear(),
+            10 => line[0] = *rng.pick(b"aeyVSr0 "),
+            11 => drop(line.splice(field..field, *b"1844674407370955161")),
+            12 => {
+                let end = spaces.iter().copied().find(|&i| i > field).unwrap_or(line.len());
+                let big: &[&[u8]] = &[
+                    b"18446744073709551616",
+                    b"65536",
+                    b"16385",
+                    b"99999999999999999999999",
+                    b"18446744073709551615",
+                ];
+                let big = rng.pick(big).to_vec();
+                if field > 0 {
+                    line.splice(field..end, big);
+                }
+            }
+            _ => line.push(b'\r'),
+        }
+    }
+}
