@@ -2,24 +2,24 @@
 use Prim.Native.Nat.{ℕ, zero, suc, _+_, _*_, _-_, _<_, _≤_}
 use native.Mathlib.Nat.{le-refl, le-antisymm, mul-pos}
 use native.Mathlib.Omega.{arith}
-use mathlib.Core.Path.{_≡_, refl, sym, ap, ap₂, _∙_}
-use mathlib.Core.Bool.{Bool, true, false, not, _&&_, cond}
+use mathlib.Core.Path.{_≡_, refl, ap, _∙_}
+use mathlib.Core.Bool.{Bool, true, false, not}
 use mathlib.Core.Logic.{inl, inr}
 use mathlib.Core.List.{List, [], _∷_, _++_, map}
 use lib.Dec.{ltb, eqb}
-use lib.IntN.{ℤ, pos}
-use lib.ListN.{length, getD, length-append, length-map, List·getD-map}
-use borrow.Author.Tests.{ltb-false, ltb-true, lt-ltb}
+use lib.IntN.{pos}
+use lib.ListN.{length, getD}
+use borrow.Author.Tests.{ltb-false}
 use Rattle.lists.specs.Choice.{_if_else_}
-use Rattle.lists.specs.Below.{someBelow, sumBelow, concatBelow}
+use Rattle.lists.specs.Below.{sumBelow, concatBelow}
 use Rattle.lists.specs.Boards.{Under}
 use Rattle.lists.specs.Lists.{all, distinct}
 use Rattle.lists.proofs.Tests.{tell, both, and-left, and-right}
-use Rattle.lists.proofs.Below.{some-never, concat-long, sum-le, sum-ext}
+use Rattle.lists.proofs.Below.{some-never, concat-long, sum-ext}
 use Rattle.lists.proofs.Lists.{all-append}
 use Rattle.rules.specs.Places.{inside, cellOf}
-use Rattle.rules.specs.Placement.{tracing, even, traced, placed}
-use Rattle.rules.specs.Setting.{sideOf, badCell}
+use Rattle.rules.specs.Placement.{tracing, even, placed}
+use Rattle.rules.specs.Setting.{badCell}
 use Rattle.rules.specs.SettingParts.{startPlace, allOf, someShortOf, placeCheck, cellsOf}
 use Rattle.rules.specs.declared.Place.{Place}
 use Rattle.rules.proofs.Facts.{square-le}
