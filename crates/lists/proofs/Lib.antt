@@ -16,3 +16,4 @@ pub mod Flags
 pub mod Shorter
 pub mod Pigeonhole
 pub mod Distinct
+pub mod Repeats

@@ -11,6 +11,7 @@ use lib.ListN.{length, length-map}
 use Rattle.lists.specs.Choice.{bit}
 use Rattle.lists.specs.Below.{concatBelow}
 use Rattle.lists.specs.Lists.{all, distinct, ascending}
+use Rattle.lists.proofs.Repeats.{sum-same}
 use Rattle.lists.proofs.Below.{each-long, each-at, concat-ext, concat-long, sum-ext}
 use Rattle.lists.proofs.Distinct.{distinct-block}
 use Rattle.rules.specs.Places.{cellOf}
@@ -25,7 +26,7 @@ use Rattle.rules.specs.SettingFacts.{Accepts}
 use Rattle.rules.specs.declared.Setting.{Setting}
 use Rattle.rules.proofs.Facts.{square-le}
 use Rattle.rules.proofs.Holdable.{image-well-formed}
-use Rattle.rules.proofs.PlaceCheck.{sum-same, body-inside}
+use Rattle.rules.proofs.PlaceCheck.{body-inside}
 use Rattle.rules.proofs.SettingFacts.{accepts, cells-all}
 
 module _ (s : Setting) (a : Accepts s) where

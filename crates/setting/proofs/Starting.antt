@@ -11,6 +11,7 @@ use borrow.Author.Tests.{lt-ltb, le-ltb}
 use Rattle.lists.specs.Choice.{_if_else_, bit}
 use Rattle.lists.specs.Below.{concatBelow}
 use Rattle.lists.specs.Lists.{writeAt, overFront}
+use Rattle.lists.proofs.Repeats.{sum-same}
 use Rattle.lists.proofs.Below.{concat-long, sum-ext}
 use Rattle.lists.proofs.Concat.{blocks-long}
 use Rattle.lists.proofs.Writes.{write-front}
@@ -26,7 +27,6 @@ use Rattle.rules.specs.declared.Answer.the-variants.{Done, Refused}
 use Rattle.rules.specs.declared.Setting.{Setting}
 use Rattle.rules.proofs.Facts.{square-le}
 use Rattle.rules.proofs.InitialFacts.{cells-long, start-image}
-use Rattle.rules.proofs.PlaceCheck.{sum-same}
 use Rattle.rules.proofs.SettingFacts.{accepts}
 use Rattle.setting.specs.Starts.{Room}
 
