@@ -7,10 +7,10 @@ use native.Mathlib.Omega.{arith}
 use Prim.Native.Nat.{_-_}
 use mathlib.Core.Path.{_≡_}
 use borrow.Author.Needs.{needs}
-use Rattle.probe.proofs.fields.below.Statement.{statement}
-use Rattle.probe.proofs.fields.below.Tie as tie
-use Rattle.probe.proofs.fields.below.Reads as reads
-use Rattle.probe.proofs.fields.below.Lts as lts
+use Rattle.probe.proofs.settings.below.Statement.{statement}
+use Rattle.probe.proofs.settings.below.Tie as tie
+use Rattle.probe.proofs.settings.below.Reads as reads
+use Rattle.probe.proofs.settings.below.Lts as lts
 
 -- src/fields.rt:86:9
 returns : tie.Need-returns
