@@ -2,7 +2,6 @@
 use rules::Event;
 use rules::Reward;
 use rules::Weights;
-
 ghost use mathlib.Core.Path.{_≡_};
 ghost use lib.Ieee.Scale.{finite};
 ghost use Rattle.rules.specs.Reward.{allFinite, plus, rewardDead, rewardLiving};

@@ -1,6 +1,5 @@
 // The shapes of what is seen and of what is done.
 use rules::Space;
-
 ghost use Rattle.rules.specs.Promises.{ObservationSpace, ActionSpace};
 
 // Five planes of numbers from 0.0 to 1.0.

@@ -5,7 +5,6 @@ use rules::Heading;
 use rules::Legal;
 use rules::RelativeAction;
 use rules::Truncated;
-
 ghost use mathlib.Core.Path.{_≡_};
 ghost use Rattle.rules.specs.Headings.{clockwise, counterclockwise};
 ghost use Rattle.rules.specs.Promises.{Turns, ActsNext, Allows, Truncates};
