@@ -2,7 +2,7 @@
 use Prim.Native.Nat.{ℕ, _+_, _-_, _*_, _<_, _≤_}
 use native.Mathlib.Nat.{mul-le-mul, le-trans}
 use native.Mathlib.Omega.{arith}
-use mathlib.Core.Path.{_≡_, refl, sym, ap₂, _∙_}
+use mathlib.Core.Path.{_≡_, sym, ap₂, _∙_}
 use mathlib.Core.Bool.{Bool, true, not, _&&_, _||_}
 use mathlib.Core.List.{List, [], _∷_}
 use lib.Dec.{leb, ltb, eqb}
@@ -10,13 +10,12 @@ use lib.ListN.{length, getD, drop, length-drop}
 use lib.Seq.{getD-drop}
 use borrow.Author.Tests.{leb-true, ltb-true, eqb-true}
 use Rattle.lists.specs.Below.{allBelow}
-use Rattle.lists.specs.Lists.{all}
 use Rattle.lists.proofs.Tests.{every-at, and-left, and-right}
 use Rattle.lists.proofs.Below.{all-at, all-next, sum-le}
 use Rattle.lists.proofs.Lists.{all-cells}
 use Rattle.lists.proofs.Flags.{every-four}
 use Rattle.lists.proofs.Boards.{part-under}
-use Rattle.rules.specs.Image.{word, front, snakesIn, sideIn, areaIn, dueIn, birthIn, foodCountIn, startAt, lengthAt, headingAt, aliveAt, startDue, foodStart, between, longEnough, contentsFit, recordFits, rangesFit, startsFit, totalFits, cellsFit}
+use Rattle.rules.specs.Image.{word, front, snakesIn, sideIn, areaIn, dueIn, birthIn, foodCountIn, startAt, lengthAt, headingAt, aliveAt, startDue, foodStart, between, longEnough, contentsFit, recordFits, rangesFit, startsFit, cellsFit}
 use Rattle.rules.proofs.Facts.{square-le, start-next, start-mono}
 use Rattle.image.specs.Checked.{Long, Ranged, Laid, OnBoard}
 

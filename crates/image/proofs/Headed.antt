@@ -1,6 +1,6 @@
 -- A heading's word that is none of 0, 1 and 2. Assumes nothing.
 use Prim.Native.Nat.{ℕ, zero, suc, _≤_}
-use mathlib.Core.Path.{_≡_, refl, sym}
+use mathlib.Core.Path.{_≡_, refl}
 use native.Mathlib.Omega.{arith}
 use Rattle.rules.specs.Headings.{headingOf}
 use Rattle.rules.specs.declared.Heading.the-variants.{Left}

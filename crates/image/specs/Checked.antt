@@ -1,11 +1,10 @@
 -- What the tests of an image have shown so far, as facts for the tests that come after them. Assumes nothing.
 use Prim.Native.Nat.{ℕ, _+_, _<_, _≤_}
-use mathlib.Core.Path.{_≡_}
 use mathlib.Core.List.{List}
 use lib.ListN.{length}
 use Rattle.lists.specs.Boards.{Under}
-use Rattle.rules.specs.Image.{front, snakesIn, sideIn, areaIn, startAt, lengthAt, startDue, foodStart, bodyAt, startsFit}
-use Rattle.image.specs.declared.check.Layout.{Layout}
+use Rattle.rules.specs.Image.{front, snakesIn, sideIn, areaIn, startAt, lengthAt, foodStart, bodyAt, startsFit}
+use Rattle.image.specs.declared.contents.Layout.{Layout}
 
 -- the contents are there
 pub record Long (w : List ℕ) : Type 0 where

@@ -1,9 +1,12 @@
 // The state image in 16-bit words: which slices are well-formed, what their parts are, and how words are written.
+mod cells;
 mod check;
+mod contents;
 mod parts;
 mod table;
 mod words;
 
+pub use cells::stamps_once;
 pub use check::well_formed;
 pub use lists::Found;
 pub use lists::find;

@@ -3,6 +3,8 @@ pub mod Below
 pub mod Lists
 pub mod Writes
 pub mod Search
+pub mod Signs
+pub mod Missing
 pub mod Blocks
 pub mod Concat
 pub mod Members
@@ -15,3 +17,8 @@ pub mod Flags
 pub mod Squares
 pub mod Parts
 pub mod Insertion
+pub mod Shorter
+pub mod Pigeonhole
+pub mod Runs
+pub mod Distinct
+pub mod Insert

@@ -1,16 +1,17 @@
 -- Members of a list: of a longer list, of the list less one, by their places; lists with no number twice. Assumes nothing.
 use mathlib.Core.Path.{_≡_, refl, sym, ap, _∙_, subst}
 use mathlib.Core.Logic.{_⊎_, inl, inr, ⊎-elim}
-use mathlib.Core.Bool.{Bool, true, false, not, or-true, true≢false}
+use mathlib.Core.Bool.{Bool, true, false, not, _||_, or-true, true≢false}
 use mathlib.Core.List.{List, [], _∷_, _++_}
 use Prim.Native.Nat.{ℕ, zero, suc, _<_, suc-le-suc}
 use native.Mathlib.Nat.{zero-lt-suc, not-suc-le-zero, le-of-suc-le-suc, suc-inj, suc-ne-zero}
 use lib.Dec.{eqb}
 use lib.ListN.{length, getD}
 use borrow.Author.Tests.{eq-eqb, ne-eqb, not-true}
+use Rattle.lists.specs.Below.{someBelow, concatBelow}
 use Rattle.lists.specs.Lists.{all, member, distinct, without, place}
 use Rattle.lists.proofs.Tests.{compared, same, other, and-left, and-right, both}
-use Rattle.lists.proofs.Lists.{member-at}
+use Rattle.lists.proofs.Lists.{member-at, member-append}
 
 -- a test is not both; one that cannot hold fails
 pub clash : {b : Bool} → b ≡ true → b ≡ false → ⊥
@@ -177,3 +178,9 @@ covers (y ∷ l) s u f e x m = elim (compared x y) [
       (covers l (without y s) (distinct-rest y l u) (λ z k. in-without z y s (distinct-apart z y l u k) (f z (member-more z y l k)))
       (suc-inj (sym (length-without y s (f y (member-first y l))) ∙ e)) x (in-without x y s n m))
 ]
+
+-- a member of lists that stand one after the other is a member of some one
+pub member-concat : (x n : ℕ) (f : ℕ → List ℕ) → member x (concatBelow n f) ≡ someBelow n (λ i. member x (f i))
+unfolding concatBelow someBelow member
+member-concat x zero f = refl
+member-concat x (suc n) f = member-append x (concatBelow n f) (f n) ∙ ap (λ (b : Bool). b || member x (f n)) (member-concat x n f)

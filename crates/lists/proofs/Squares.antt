@@ -1,5 +1,5 @@
 -- Rows, columns and cells of a square of side g: cell = row · g + column. Assumes nothing.
-use Prim.Native.Nat.{ℕ, zero, suc, _+_, _-_, _*_, _/_, _%_, _≤_, _<_}
+use Prim.Native.Nat.{ℕ, zero, suc, _+_, _-_, _*_, _/_, _%_, _<_}
 use mathlib.Core.Path.{_≡_, sym, ap, _∙_}
 use native.Mathlib.Omega.{arith}
 use native.Mathlib.Nat.{mul-le-mul-right, suc-mul, add-mul, add-zero, mod-lt, mod-eq-of-lt, div-eq-of-lt, div-lt-iff-lt-mul, div-add-mod', mul-add-div-right, mul-add-mod-self-right}

@@ -5,3 +5,4 @@ pub mod Products
 pub mod Search
 pub mod Equal
 pub mod Boards
+pub mod Written

@@ -32,6 +32,14 @@ module _ (used : ℕ → Bool) where
     | inr e ↦ rw e (ascending-more a b (freeFrom used (suc b) n) l (from-ascending n (suc b) (suc b) (le-refl _)))
   ]
 
+  pub from-few : (n a : ℕ) → length (freeFrom used a n) ≤ n
+  unfolding freeFrom
+  from-few zero a = zero-le
+  from-few (suc n) a = elim (tell (used a)) [
+    | inl e ↦ rw e (let r = from-few n (suc a) in omega arith)
+    | inr e ↦ rw e (let r = from-few n (suc a) in omega arith)
+  ]
+
   -- what stands in the list is on the board and not used
   pub of-from : (n a c : ℕ) → member c (freeFrom used a n) ≡ true → (used c ≡ false) × (c < a + n)
   unfolding freeFrom

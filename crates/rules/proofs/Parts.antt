@@ -1,22 +1,22 @@
 -- What the parts of a sound image hold, so that no function above proves it again: bodies, food, and the state's snakes. Assumes nothing.
-use Prim.Native.Nat.{ℕ, zero, suc, _+_, _-_, _*_, _<_, _≤_}
+use Prim.Native.Nat.{ℕ, _+_, _-_, _<_, _≤_}
 use native.Mathlib.Nat.{mul-le-mul}
 use native.Mathlib.Omega.{arith}
-use mathlib.Core.Path.{_≡_, refl, sym, ap, _∙_}
-use mathlib.Core.Bool.{Bool, true}
+use mathlib.Core.Path.{_≡_, sym, ap, _∙_}
+use mathlib.Core.Bool.{true}
 use mathlib.Core.List.{List}
 use lib.Dec.{ltb}
-use lib.ListN.{length, getD, take, drop, length-drop}
+use lib.ListN.{length, getD, drop, length-drop}
 use lib.Seq.{getD-take, getD-drop}
 use borrow.Author.Tests.{lt-ltb}
-use Rattle.lists.specs.Lists.{all, member}
+use Rattle.lists.specs.Lists.{all}
 use Rattle.lists.specs.Boards.{Under}
 use Rattle.lists.proofs.Below.{each-at, each-long}
 use Rattle.lists.proofs.Lists.{part-long, all-each}
 use Rattle.lists.proofs.Boards.{part-under, rest-under}
-use Rattle.rules.specs.Image.{word, front, snakesIn, sideIn, foodCountIn, areaIn, startAt, lengthAt, aliveAt, startDue, foodStart, bodyAt, foodAt, snakeAt, stateOf}
+use Rattle.rules.specs.Image.{word, front, snakesIn, foodCountIn, areaIn, startAt, lengthAt, aliveAt, startDue, foodStart, bodyAt, foodAt, snakeAt, stateOf}
 use Rattle.rules.specs.Facts.{Sound}
-use Rattle.rules.specs.State.{Snake, State, count, snakeOf, nobody}
+use Rattle.rules.specs.State.{Snake, count, snakeOf, nobody}
 use Rattle.rules.proofs.Facts.{start-next}
 
 module _ (w : List ℕ) where

@@ -5,6 +5,8 @@ pub mod Image
 pub mod Facts
 pub mod Placement
 pub mod Setting
+pub mod SettingParts
+pub mod SettingFacts
 pub mod Events
 pub mod Step
 pub mod Chance

@@ -1,12 +1,11 @@
 -- What a public call says once its image and its agent are tested. Assumes nothing.
 use Prim.Native.Nat.{ℕ, _*_, _<_, _≤_}
-use mathlib.Core.Path.{_≡_, refl, sym, ap, ap₂, _∙_}
+use mathlib.Core.Path.{_≡_, refl}
 use mathlib.Core.Bool.{Bool, true, false, not, _&&_}
 use mathlib.Core.List.{List, [], _∷_}
 use lib.Dec.{eqb, ltb}
 use borrow.Author.Tests.{lt-ltb, le-ltb}
 use Rattle.lists.specs.Choice.{_if_else_}
-use Rattle.rules.specs.State.{Snake}
 use Rattle.rules.specs.Image.{snakesIn, dueIn, areaIn, aliveAt, stateOf, wellFormed}
 use Rattle.rules.specs.LengthKey.{lengthKey}
 use Rattle.rules.specs.Turns.{truncated}

@@ -3,3 +3,4 @@ pub mod Sizes
 pub mod Keys
 pub mod Shown
 pub mod Gates
+pub mod Theorems

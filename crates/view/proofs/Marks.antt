@@ -1,21 +1,17 @@
 -- What the writers of the planes need: a turn of each loop, and that nothing grows. Assumes nothing.
-use Prim.Native.Nat.{ℕ, zero, suc, _+_, _-_, _*_, _≤_, _<_}
-use mathlib.Core.Path.{_≡_, refl, sym, ap, _∙_}
-use mathlib.Core.Bool.{Bool, true, false}
-use mathlib.Core.List.{List, [], _∷_, _++_, map}
+use Prim.Native.Nat.{ℕ, suc, _+_, _-_, _*_, _≤_, _<_}
+use mathlib.Core.Path.{_≡_, refl, _∙_}
+use mathlib.Core.List.{List, [], _∷_, map}
 use native.Mathlib.Numerals.{add-one}
 use native.Mathlib.Nat.{mul-le-mul-right, suc-mul, not-suc-le-zero}
 use native.Mathlib.Omega.{arith}
-use lib.Dec.{eqb}
 use lib.Ieee.{Float}
 use lib.ListN.{length, getD, set, take, drop, length-set, length-append, length-drop, take-append-drop, drop-of-length-le}
 use lib.Seq.{drop-cons, length-take-le, take-all, getD-take, getD-drop}
 use borrow.Author.Tests.{eq-eqb, ne-eqb}
-use Rattle.lists.specs.Choice.{_if_else_}
 use Rattle.lists.proofs.Lists.{part-is, part-long}
 use Rattle.rules.specs.Image.{front, snakesIn, sideIn, foodCountIn, foodStart, foodAt}
 use Rattle.rules.specs.Facts.{Sound}
-use Rattle.rules.specs.View.{turnedCell}
 use Rattle.rules.specs.declared.Heading.{Heading}
 use Rattle.view.specs.Marks.{bright, OnGrid, marked, markedIn, withBody, withOthers}
 

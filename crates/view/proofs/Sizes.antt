@@ -1,14 +1,13 @@
 -- What the tests of a grid tell of its side. Assumes nothing.
-use Prim.Native.Nat.{ℕ, _≤_, _<_}
-use mathlib.Core.Path.{_≡_, refl}
-use mathlib.Core.Bool.{Bool, true, false, true≢false}
-use native.Mathlib.Omega.{arith}
+use Prim.Native.Nat.{_≤_}
+use mathlib.Core.Path.{_≡_}
+use mathlib.Core.Bool.{true, false, true≢false}
 use lib.Dec.{T}
 use lib.IntN.{ℤ, pos, negsuc, natAbs}
 use lib.Signed.{ltZ, nonNeg}
 use borrow.Author.Tests.{ltb-false}
 use Rattle.rules.specs.View.{lit}
-use Rattle.rules.specs.Says.{refuses, gives, Shape, box}
+use Rattle.rules.specs.Says.{refuses, gives, box}
 use Rattle.rules.specs.Calls.{spaceSays}
 
 module _ (g : ℤ) where

@@ -1,15 +1,15 @@
-use borrow.Author.Tests.{eq-eqb, ne-eqb}
+-- Starts, then the total; with both, each part is where it is due.
+use borrow.Author.Tests.{eq-eqb, ne-eqb, not-true, not-false}
 use Prim.Native.Nat.{_+_}
 use denote.Ref.{now}
 use lib.ListN.{length}
+use mathlib.Core.Path.{sym, ap, _∙_}
+use native.Mathlib.Omega.{arith}
+use borrow.Author.Needs.{needs}
+use Rattle.lists.proofs.Tests.{every-out, every-on}
 use Rattle.rules.specs.Image.{foodStart, foodCountIn, totalFits}
 use Rattle.image.proofs.Checked.{laid-of}
-use borrow.Author.Tests.{not-true, not-false}
-use mathlib.Core.Path.{_≡_, sym, ap, _∙_}
-use Rattle.lists.proofs.Tests.{every-out, every-on}
-use native.Mathlib.Omega.{arith}
-use Rattle.image.specs.declared.check.Layout.{Layout}
-use borrow.Author.Needs.{needs}
+use Rattle.image.specs.declared.contents.Layout.{Layout}
 use Rattle.image.proofs.check.layout_fits.Statement.{statement}
 use Rattle.image.proofs.check.layout_fits.Tie as tie
 
@@ -33,14 +33,14 @@ unfolding totalFits
 returns-2 c =
     let w = now (c .before .before .before .before .before .before .args .image) in
     let e = ap (λ (l : Layout). l .food) (c .before .before .before .before .laid-out .ensures) in
-    sym (every-on _ (sym (ap (λ (l : Layout). l .fits) (c .before .before .before .before .laid-out .ensures)) ∙ not-false _ (c .before .before .if1 .left)) ∙ every-out _ (ne-eqb (foodStart w + foodCountIn w) (length w) (λ q. c .if2 .taken (rw e q))))
+    sym (every-on _ (sym (ap (λ (l : Layout). l .fits) (c .before .before .before .before .laid-out .ensures)) ∙ not-false _ (c .before .before .if1 .left)) ∙ every-out _ (ne-eqb (foodStart w + foodCountIn w) (length w) (λ q. omega arith)))
 
 parts-fit-requires : tie.Need-parts-fit-requires
 parts-fit-requires c κs =
     let b = c .before .before .before .before .before .before in
     let w = now (b .args .image) in
     let e = ap (λ (l : Layout). l .food) (c .before .before .before .before .laid-out .ensures) in
-    (laid-of w (b .pre) (sym (ap (λ (l : Layout). l .fits) (c .before .before .before .before .laid-out .ensures)) ∙ not-false _ (c .before .before .if1 .left)) (rw (sym e) (c .if2 .left)), e)
+    (laid-of w (b .pre) (sym (ap (λ (l : Layout). l .fits) (c .before .before .before .before .laid-out .ensures)) ∙ not-false _ (c .before .before .if1 .left)) (omega arith), e)
 
 returns-3 : tie.Need-returns-3
 unfolding totalFits
@@ -48,7 +48,7 @@ returns-3 c =
     let w = now (c .before .before .before .before .before .before .before .args .image) in
     let e = ap (λ (l : Layout). l .food) (c .before .before .before .before .before .laid-out .ensures) in
     c .parts-fit .ensures
-    ∙ sym (every-on _ (sym (ap (λ (l : Layout). l .fits) (c .before .before .before .before .before .laid-out .ensures)) ∙ not-false _ (c .before .before .before .if1 .left)) ∙ every-on _ (eq-eqb (foodStart w + foodCountIn w) (length w) (rw (sym e) (c .before .if2 .left))))
+    ∙ sym (every-on _ (sym (ap (λ (l : Layout). l .fits) (c .before .before .before .before .before .laid-out .ensures)) ∙ not-false _ (c .before .before .before .if1 .left)) ∙ every-on _ (eq-eqb (foodStart w + foodCountIn w) (length w) (omega arith)))
 
 pub layout-fits-spec : {M : Type 1} → statement M
 layout-fits-spec =

@@ -1,9 +1,10 @@
+-- Each test that holds gives the facts that the next one requires.
 use borrow.Author.Tests.{not-true, not-false}
-use mathlib.Core.Path.{_≡_, sym, ap, _∙_}
+use mathlib.Core.Path.{sym, _∙_}
+use borrow.Author.Needs.{needs}
 use Rattle.lists.proofs.Tests.{every-out, every-on}
 use Rattle.rules.specs.Image.{wellFormed}
 use Rattle.image.proofs.Checked.{long-of, ranged-of}
-use borrow.Author.Needs.{needs}
 use Rattle.image.proofs.check.well_formed.Statement.{statement}
 use Rattle.image.proofs.check.well_formed.Tie as tie
 

@@ -1,11 +1,12 @@
+-- Malformed, no such snake, or the body: the words and their place.
 use native.Mathlib.Omega.{arith}
-use mathlib.Core.Path.{_≡_, sym, ap, _∙_}
+use mathlib.Core.Path.{sym, ap, _∙_}
 use denote.Ref.{now}
 use borrow.Author.Tests.{not-true, not-false}
+use borrow.Author.Needs.{needs}
 use Rattle.rules.proofs.Facts.{sound}
 use Rattle.image.specs.Memory.{wordPlace}
 use Rattle.image.proofs.Asked.{malformed, no-snake, is-there, parts-none, parts-body, start-none, start-body}
-use borrow.Author.Needs.{needs}
 use Rattle.image.proofs.parts.body.Statement.{statement}
 use Rattle.image.proofs.parts.body.Tie as tie
 
@@ -47,18 +48,18 @@ part-result-end-2 c = search needs
 returns-2 : tie.Need-returns-2
 returns-2 c =
     let a = c .before .before .before .before .before .before .args in
-    let n = no-snake (now (a .image)) (a .snake) (c .before .if2 .taken) in
+    let n = no-snake (now (a .image)) (a .snake) (omega arith) in
     (parts-none (now (a .image)) (a .snake) n, ap (wordPlace (a .image)) (start-none (now (a .image)) (a .snake) n))
 
 body-of-requires : tie.Need-body-of-requires
 body-of-requires c κs =
-    (sound _ (sym (c .before .before .before .well-formed .ensures .answer) ∙ not-false _ (c .before .before .if1 .left)), c .if2 .left)
+    (sound _ (sym (c .before .before .before .well-formed .ensures .answer) ∙ not-false _ (c .before .before .if1 .left)), omega arith)
 
 returns-3 : tie.Need-returns-3
 returns-3 c =
     let a = c .before .before .before .before .before .before .args in
     let w = now (a .image) in
-    let t = is-there w (a .snake) (sym (c .before .before .before .before .well-formed .ensures .answer) ∙ not-false _ (c .before .before .before .if1 .left)) (c .before .if2 .left) in
+    let t = is-there w (a .snake) (sym (c .before .before .before .before .well-formed .ensures .answer) ∙ not-false _ (c .before .before .before .if1 .left)) (omega arith) in
     (rw (c .body-of .ensures .0) (parts-body w (a .snake) t), c .body-of .ensures .1 ∙ ap (wordPlace (a .image)) (start-body w (a .snake) t))
 
 pub body-spec : {M : Type 1} → statement M

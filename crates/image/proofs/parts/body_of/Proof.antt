@@ -2,9 +2,9 @@ use native.Mathlib.Omega.{arith}
 use mathlib.Core.Path.{refl}
 use denote.Ref.{now}
 use Prim.Native.Nat.{_+_, _*_}
+use borrow.Author.Needs.{needs}
 use Rattle.lists.proofs.Lists.{part-is}
 use Rattle.rules.specs.Image.{startAt, lengthAt}
-use borrow.Author.Needs.{needs}
 use Rattle.image.proofs.parts.body_of.Statement.{statement}
 use Rattle.image.proofs.parts.body_of.Tie as tie
 

@@ -1,10 +1,10 @@
-use mathlib.Core.Path.{_≡_, sym, ap, _∙_}
+use mathlib.Core.Path.{ap, _∙_}
 use denote.Ref.{now}
 use mathlib.Core.List.{List}
 use Prim.Native.Nat.{ℕ}
+use borrow.Author.Needs.{needs}
 use Rattle.lists.specs.Search.{foundIn}
 use Rattle.lists.proofs.Lists.{part-is}
-use borrow.Author.Needs.{needs}
 use Rattle.image.proofs.parts.find_in.Statement.{statement}
 use Rattle.image.proofs.parts.find_in.Tie as tie
 

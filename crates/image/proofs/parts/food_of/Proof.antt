@@ -1,9 +1,9 @@
-use mathlib.Core.Path.{_≡_, sym, ap, _∙_}
+use mathlib.Core.Path.{ap, _∙_}
 use denote.Ref.{now}
 use Prim.Native.Nat.{ℕ}
 use lib.ListN.{drop}
-use Rattle.lists.proofs.Lists.{rest-is}
 use borrow.Author.Needs.{needs}
+use Rattle.lists.proofs.Lists.{rest-is}
 use Rattle.image.proofs.parts.food_of.Statement.{statement}
 use Rattle.image.proofs.parts.food_of.Tie as tie
 

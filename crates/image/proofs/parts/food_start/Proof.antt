@@ -1,10 +1,10 @@
 use native.Mathlib.Omega.{arith}
-use mathlib.Core.Path.{_≡_, sym, ap, _∙_}
+use mathlib.Core.Path.{sym}
 use denote.Ref.{now}
 use Prim.Native.Nat.{_+_, _*_, _-_}
+use borrow.Author.Needs.{needs}
 use Rattle.rules.specs.Image.{snakesIn}
 use Rattle.rules.proofs.Parts.{food-after}
-use borrow.Author.Needs.{needs}
 use Rattle.image.proofs.parts.food_start.Statement.{statement}
 use Rattle.image.proofs.parts.food_start.Tie as tie
 

@@ -1,8 +1,8 @@
-use mathlib.Core.Path.{_≡_, sym, ap, _∙_}
+use mathlib.Core.Path.{ap, _∙_}
 use denote.Ref.{now}
+use borrow.Author.Needs.{needs}
 use Rattle.lists.specs.Lists.{member}
 use Rattle.lists.proofs.Lists.{part-is}
-use borrow.Author.Needs.{needs}
 use Rattle.image.proofs.parts.holds_in.Statement.{statement}
 use Rattle.image.proofs.parts.holds_in.Tie as tie
 

@@ -3,9 +3,9 @@ use lib.Dec.{eqb}
 use mathlib.Core.Path.{ap}
 use native.Mathlib.Omega.{arith}
 use Prim.Native.Nat.{_+_, _*_}
+use borrow.Author.Needs.{needs}
 use Rattle.rules.specs.declared.Heading.{Heading}
 use Rattle.rules.specs.Image.{startAt, lengthAt, aliveAt}
-use borrow.Author.Needs.{needs}
 use Rattle.image.proofs.table.record_at.Statement.{statement}
 use Rattle.image.proofs.table.record_at.Tie as tie
 

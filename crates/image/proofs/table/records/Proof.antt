@@ -1,3 +1,4 @@
+-- The invariant: the first i places are filled.
 use denote.Ref.{now}
 use lib.ListN.{set}
 use mathlib.Core.List.{List}

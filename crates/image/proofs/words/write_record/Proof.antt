@@ -1,8 +1,8 @@
 use denote.Ref.{now}
 use mathlib.Core.List.{[], _∷_}
 use mathlib.Core.Path.{_∙_}
-use Rattle.lists.specs.Lists.{writeAt}
 use borrow.Author.Needs.{needs}
+use Rattle.lists.specs.Lists.{writeAt}
 use Rattle.image.proofs.words.write_record.Statement.{statement}
 use Rattle.image.proofs.words.write_record.Tie as tie
 

@@ -1,0 +1,159 @@
+-- The rank as a loop adds it up, cell by cell, and the test that each cell is there when its turn comes. Assumes nothing.
+use mathlib.Core.Path.{_≡_, refl, sym, ap, ap₂, _∙_}
+use mathlib.Core.Bool.{true, false, _&&_}
+use mathlib.Core.List.{List, [], _∷_}
+use Prim.Native.Nat.{ℕ, suc, _+_, _-_, _*_, _≤_, _<_, _^_}
+use native.Mathlib.Nat.{le-trans, lt-irrefl, mul-assoc, add-mul, zero-mul, zero-add}
+use native.Mathlib.Numerals.{add-one}
+use native.Mathlib.Omega.{arith}
+use lib.Arith.{digits-lt}
+use lib.ListN.{length, getD, set, drop, drop-of-length-le, length-drop}
+use lib.Seq.{drop-cons}
+use Rattle.lists.specs.Lists.{member, without, place}
+use Rattle.lists.specs.Products.{falling}
+use Rattle.lists.proofs.Tests.{both, and-left, and-right}
+use Rattle.lists.proofs.Members.{agree, clash, fails, length-without, place-lt}
+use Rattle.lists.proofs.Products.{falling-next, falling-first, falling-mono, falling-none}
+use Rattle.rules.specs.State.{State}
+use Rattle.rules.specs.Chance.{free, drawSize, rankIn, canRank}
+use Rattle.rules.proofs.FreeCells.{place-scan, of-from, free-distinct}
+use Rattle.rules.proofs.Draws.{InTurn, in-turn, turn-among, turn-distinct}
+use Rattle.rules.proofs.Fairness.{ranked-listed, listed-ranked}
+use Rattle.chance.specs.Marks.{marked, unmarked}
+use Rattle.chance.specs.Odds.{inTurn}
+use Rattle.chance.proofs.Scans.{mark-yes, mark-no, open-member, unmarked-set}
+
+-- ---- the test
+
+turn-true : (cells l : List ℕ) → inTurn cells l ≡ true → InTurn cells l
+unfolding inTurn
+turn-true cells [] h = tt
+turn-true cells (c ∷ l) h =
+    let r = inTurn (without c cells) l in
+    (and-left (member c cells) r h, turn-true (without c cells) l (and-right (member c cells) r h))
+
+true-turn : (cells l : List ℕ) → InTurn cells l → inTurn cells l ≡ true
+unfolding inTurn
+true-turn cells [] h = refl
+true-turn cells (c ∷ l) h = both (h .0) (true-turn (without c cells) l (h .1))
+
+-- a list of the right length can be ranked if and only if each cell is free when its turn comes
+pub can-rank : (t : State) (l : List ℕ) → length l ≡ drawSize t → canRank t l ≡ inTurn (free t) l
+can-rank t l e =
+    agree (canRank t l) (inTurn (free t) l)
+    (λ h. let r = ranked-listed t l h in true-turn (free t) l (in-turn (free t) l (r .among) (r .once)))
+    (λ h. let g = turn-true (free t) l h in
+    listed-ranked t l (record { long = e; among = turn-among (free t) l g; once = turn-distinct (free t) l (free-distinct t) g }))
+
+pub wrong-length : (t : State) (l : List ℕ) → (length l ≡ drawSize t → ⊥) → canRank t l ≡ false
+wrong-length t l n = fails (canRank t l) (λ h. n (ranked-listed t l h .long))
+
+-- ---- a turn of the loop, at cell j of the list
+
+module _ (cells l : List ℕ) (j : ℕ) where
+  pub turn-end : length l ≤ j → inTurn cells (drop j l) ≡ true
+  unfolding inTurn
+  turn-end h = rw (drop-of-length-le l h)
+
+  turn-left : j < length l → inTurn cells (drop j l) ≡ (member (getD l j 0) cells && inTurn (without (getD l j 0) cells) (drop (j + 1) l))
+  unfolding inTurn
+  turn-left h = rw (drop-cons l j 0 h, add-one j)
+
+  pub turn-fails : j < length l → member (getD l j 0) cells ≡ false → inTurn cells (drop j l) ≡ false
+  turn-fails h e = rw (turn-left h, e)
+
+  pub turn-next : j < length l → member (getD l j 0) cells ≡ true → inTurn cells (drop j l) ≡ inTurn (without (getD l j 0) cells) (drop (j + 1) l)
+  turn-next h e = rw (turn-left h, e)
+
+  pub rank-end : length l ≤ j → rankIn cells (drop j l) ≡ 0
+  unfolding rankIn
+  rank-end h = rw (drop-of-length-le l h)
+
+  rank-left : j < length l → rankIn cells (drop j l)
+      ≡ place (getD l j 0) cells * falling (length (without (getD l j 0) cells)) (length l - (j + 1)) + rankIn (without (getD l j 0) cells) (drop (j + 1) l)
+  unfolding rankIn
+  rank-left h = rw (drop-cons l j 0 h, add-one j, length-drop (suc j) l)
+
+-- the rank so far, r, times what the cells left can do, and their own rank
+abbrev pub rankLeft : List ℕ → List ℕ → ℕ → ℕ → ℕ
+rankLeft cells l j r = r * falling (length cells) (length l - j) + rankIn cells (drop j l)
+
+spread : (r m p f q : ℕ) → (r * m + p) * f + q ≡ r * (m * f) + (p * f + q)
+spread r m p f q = omega (arith, add-mul (r * m) p f, mul-assoc r m f)
+
+module _ (cells l : List ℕ) (j r : ℕ) (h : j < length l) (e : member (getD l j 0) cells ≡ true) where
+  pub rank-next : rankLeft (without (getD l j 0) cells) l (j + 1) (r * length cells + place (getD l j 0) cells) ≡ rankLeft cells l j r
+  rank-next =
+      let c = getD l j 0 in
+      let w = without c cells in
+      let k = length l - (j + 1) in
+      let s : length l - j ≡ suc k = omega arith in
+      let n : length cells - 1 ≡ length w = omega (arith, length-without c cells e) in
+      let f : falling (length cells) (length l - j) ≡ length cells * falling (length w) k =
+      ap (falling (length cells)) s ∙ falling-first (length cells) k ∙ ap (λ (m : ℕ). length cells * falling m k) n in
+      spread r (length cells) (place c cells) (falling (length w) k) (rankIn w (drop (j + 1) l))
+      ∙ ap₂ (λ (x y : ℕ). r * x + y) (sym f) (sym (rank-left cells l j h))
+
+-- the rank so far is below the product so far, so that it fits
+module _ (n j k r p : ℕ) (b : r < falling n j) (g : p < n - j) where
+  pub rank-below : r * (n - j) + p < falling n (j + 1)
+  rank-below = rw (falling-next n j) (digits-lt b g)
+
+  pub rank-fits : j < k → k ≤ n → falling n k < 2 ^ 64 → r * (n - j) + p < 2 ^ 64
+  rank-fits h m f = le-trans rank-below (le-trans (falling-mono n (j + 1) k (omega arith) m) (omega arith))
+
+-- ---- on the board
+
+module _ (b : List ℕ) (area c : ℕ) where
+  pub square-place : c < area → getD b c 0 ≡ 0 → place c (unmarked b area) ≡ length (unmarked b c)
+  unfolding unmarked
+  square-place h u = place-scan (marked b) area c h (mark-no b c u)
+
+  pub off-board : area ≤ c → member c (unmarked b area) ≡ false
+  unfolding unmarked
+  off-board h = fails (member c (unmarked b area)) (λ m. let r = of-from (marked b) area 0 c m .1 in lt-irrefl c (omega arith))
+
+  pub taken-square : (getD b c 0 ≡ 0 → ⊥) → member c (unmarked b area) ≡ false
+  unfolding unmarked
+  taken-square u = fails (member c (unmarked b area)) (λ m. clash (mark-yes b c u) (of-from (marked b) area 0 c m .0))
+
+-- ---- before the first cell, and after the last
+
+pub rank-start : (cells l : List ℕ) → rankLeft cells l 0 0 ≡ rankIn cells l
+rank-start cells l = ap (λ (k : ℕ). k + rankIn cells l) (zero-mul (falling (length cells) (length l - 0))) ∙ zero-add (rankIn cells l)
+
+pub rank-small : (n : ℕ) → 0 < falling n 0
+rank-small n = rw falling-none (omega arith)
+
+pub rank-done : (cells l : List ℕ) (j r : ℕ) → length l ≤ j → rankLeft cells l j r ≡ r
+rank-done cells l j r h =
+    let e : length l - j ≡ 0 = omega arith in
+    rw (e, falling-none, rank-end cells l j h) (omega arith)
+
+-- one cell ranked and marked
+module _ (b l : List ℕ) (area free j r p : ℕ) where
+  abbrev x : ℕ
+  x = getD l j 0
+
+  module _ (h : j < length l) (k : x < length b) (g : x < area) (u : getD b x 0 ≡ 0) (n : length (unmarked b area) + j ≡ free) (e : p ≡ length (unmarked b x)) where
+    pub here : member x (unmarked b area) ≡ true
+    here = open-member b x area g (mark-no b x u)
+
+    pub left-one : length (unmarked (set b x 1) area) + (j + 1) ≡ free
+    left-one = rw (unmarked-set b x area k) (let z = length-without x (unmarked b area) here in omega arith)
+
+    pub turn-one : inTurn (unmarked (set b x 1) area) (drop (j + 1) l) ≡ inTurn (unmarked b area) (drop j l)
+    turn-one = rw (unmarked-set b x area k) (sym (turn-next (unmarked b area) l j h here))
+
+    pub place-is : p ≡ place x (unmarked b area)
+    place-is = e ∙ sym (square-place b area x g u)
+
+    pub place-small : p < free - j
+    place-small = rw place-is (let z = place-lt x (unmarked b area) here in omega arith)
+
+    pub rank-one : rankLeft (unmarked (set b x 1) area) l (j + 1) (r * (free - j) + p) ≡ rankLeft (unmarked b area) l j r
+    rank-one =
+        let m : free - j ≡ length (unmarked b area) = omega arith in
+        ap (λ (c : List ℕ). rankLeft c l (j + 1) (r * (free - j) + p)) (unmarked-set b x area k)
+        ∙ ap₂ (λ (m q : ℕ). rankLeft (without x (unmarked b area)) l (j + 1) (r * m + q)) m place-is
+        ∙ rank-next (unmarked b area) l j r h here

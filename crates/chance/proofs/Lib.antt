@@ -1,0 +1,9 @@
+pub mod Scans
+pub mod Radix
+pub mod Growing
+pub mod Horner
+pub mod Marking
+pub mod NextImage
+pub mod Drawing
+pub mod Saying
+pub mod Gates

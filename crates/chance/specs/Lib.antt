@@ -1,0 +1,4 @@
+pub mod Marks
+pub mod Odds
+pub mod Next
+pub mod Answers

@@ -1,0 +1,55 @@
+// Chance (`chance_node`, `apply_chance_node` of the Rust): how many outcomes a draw has, what an index draws, and the index of a list.
+mod board;
+mod food;
+mod index;
+mod next;
+mod odds;
+mod ranks;
+
+use image::well_formed;
+use next::draw_due;
+use next::refused;
+use odds::count_due;
+use ranks::rank_due;
+use rules::Drawn;
+use rules::Number;
+ghost use Rattle.rules.specs.Promises.{Counts, Draws, Ranks};
+
+// Refusals 20, 23, 28.
+pub fn count(image: &[u16]) -> Number
+    ensures { λ r. ⌜ Counts (now (image .entry)) r ⌝ }
+{
+    if !well_formed(image) {
+        return Number::Refused(20);
+    }
+    if image[2] == 0 {
+        return Number::Refused(23);
+    }
+    count_due(image)
+}
+
+// Refusals 20, 23, 28, 27, 29. The next image goes to `out`, the cells in the order drawn to `list`.
+pub fn draw(image: &[u16], index: u64, out: &mut [u16], list: &mut [u16]) -> Drawn
+    ensures { λ r. ⌜ Draws (now (image .entry)) index (now (out .entry)) (now (out .exit)) (now (list .entry)) (now (list .exit)) r ⌝ }
+{
+    if !well_formed(image) {
+        return refused(20);
+    }
+    if image[2] == 0 {
+        return refused(23);
+    }
+    draw_due(image, index, out, list)
+}
+
+// Refusals 20, 23, 28, 30.
+pub fn rank(image: &[u16], list: &[u16]) -> Number
+    ensures { λ r. ⌜ Ranks (now (image .entry)) (now (list .entry)) r ⌝ }
+{
+    if !well_formed(image) {
+        return Number::Refused(20);
+    }
+    if image[2] == 0 {
+        return Number::Refused(23);
+    }
+    rank_due(image, list)
+}

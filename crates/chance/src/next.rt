@@ -1,0 +1,138 @@
+// The answer of a draw (`apply_chance_node`): the cells in the order drawn, and the next image.
+use crate::board::pick_cells;
+use crate::food::put_all;
+use crate::index::split;
+use crate::odds::Odds;
+use crate::odds::odds_of;
+use image::write_contents;
+use lists::write_at;
+use rules::Answer;
+use rules::Drawn;
+ghost use mathlib.Core.Path.{_≡_};
+ghost use mathlib.Core.Bool.{not, _&&_, _||_};
+ghost use Prim.Native.Nat.{_+_, _-_, _≤_, _<_};
+ghost use lib.Dec.{eqb};
+ghost use lib.ListN.{length};
+ghost use Rattle.lists.specs.Choice.{_if_else_};
+ghost use Rattle.lists.specs.Lists.{overFront};
+ghost use Rattle.rules.specs.Image.{dueIn, foodAt, stateOf};
+ghost use Rattle.rules.specs.Facts.{Sound};
+ghost use Rattle.rules.specs.Chance.{outcomes, drawnFrom};
+ghost use Rattle.rules.specs.Says.{gives};
+ghost use Rattle.chance.specs.Marks.{unmarked};
+ghost use Rattle.chance.specs.Odds.{Stands};
+ghost use Rattle.chance.specs.Next.{Fresh, nextWords};
+ghost use Rattle.chance.specs.Answers.{drawOf, dueSays, Answers, Refuses};
+
+pub fn refused(number: u8) -> Drawn
+    ensures { λ r. ⌜ Refuses number r ⌝ }
+{
+    Drawn {
+        answer: Answer::Refused(number),
+        cells: 0,
+    }
+}
+
+// The cells that the index draws, over the whole list.
+fn draw_list(list: &mut [u16], index: u64, free: usize, area: usize, board: &mut [u8; 1024])
+    requires { ⌜ (area ≤ 1024) × (length (now board) ≡ 1024) ⌝ }
+    requires { ⌜ (free ≡ length (unmarked (now board) area)) × (length (now list) ≤ free) ⌝ }
+    ensures { λ _. ⌜ now (list .exit) ≡ drawnFrom (unmarked (now (board .entry)) area) (length (now (list .entry))) index ⌝ }
+{
+    split(list, free, index);
+    pick_cells(list, area, board);
+}
+
+// A birth draw takes one apple from what is due, where a cell is free.
+fn due_after(due: usize, birth: bool, free: usize) -> usize
+    requires { ⌜ 0 < due ⌝ }
+    ensures { λ r. ⌜ r ≡ (due - 1 if birth && not (eqb free 0) else 0) ⌝ }
+{
+    if !birth {
+        return 0;
+    }
+    if free == 0 {
+        return 0;
+    }
+    due - 1
+}
+
+fn birth_after(due: usize, birth: bool, free: usize) -> bool
+    ensures { λ r. ⌜ r ≡ (birth && not (eqb free 0 || eqb due 1)) ⌝ }
+{
+    birth & !((free == 0) | (due == 1))
+}
+
+// The image copied, words 2 to 4 anew, and each cell put into the food.
+fn write_next(image: &[u16], due: usize, birth: bool, cells: &[u16], out: &mut [u16])
+    requires { ⌜ Sound (now image) ⌝ }
+    requires { ⌜ (due ≤ 1024) × (length (now cells) ≤ 1024) × (length (now image) + length (now cells) ≤ length (now out)) ⌝ }
+    requires { ⌜ Fresh (foodAt (now image)) (now cells) ⌝ }
+    ensures { λ _. ⌜ now (out .exit) ≡ overFront (nextWords (now (image .entry)) due birth (now (cells .entry))) (now (out .entry)) ⌝ }
+{
+    let foods = image[4] as usize;
+    let at = image.len() - foods;
+    write_at(out, 0, image);
+    write_contents(
+        out,
+        image[0] as usize,
+        image[1] as usize,
+        due,
+        birth,
+        foods + cells.len(),
+    );
+    put_all(&mut out[at..], foods, cells);
+}
+
+// The list, then the image, once both buffers have room.
+fn draw_into(
+    image: &[u16],
+    index: u64,
+    found: Odds,
+    board: &mut [u8; 1024],
+    out: &mut [u16],
+    list: &mut [u16],
+) -> Drawn
+    requires { ⌜ Sound (now image) ⌝ }
+    requires { ⌜ Stands (now image) (now board) found ⌝ }
+    requires { ⌜ (0 < dueIn (now image)) × (index < outcomes (stateOf (now image))) ⌝ }
+    requires { ⌜ (length (now image) + found .size ≤ length (now out)) × (found .size ≤ length (now list)) ⌝ }
+    ensures { λ r. ⌜ Answers (gives (drawOf (now (image .entry)) index)) (now (out .entry)) (now (out .exit)) (now (list .entry)) (now (list .exit)) r ⌝ }
+{
+    let size = found.size;
+    let free = found.free;
+    let g = image[1] as usize;
+    let due = image[2] as usize;
+    let birth = image[3] == 1;
+    draw_list(&mut list[0..size], index, free, g * g, board);
+    let left = due_after(due, birth, free);
+    let stays = birth_after(due, birth, free);
+    write_next(image, left, stays, &list[0..size], out);
+    Drawn {
+        answer: Answer::Done(image.len() + size),
+        cells: size,
+    }
+}
+
+// Refusals 28, 27, 29; nothing is written before the last of them.
+pub fn draw_due(image: &[u16], index: u64, out: &mut [u16], list: &mut [u16]) -> Drawn
+    requires { ⌜ Sound (now image) ⌝ }
+    requires { ⌜ 0 < dueIn (now image) ⌝ }
+    ensures { λ r. ⌜ Answers (dueSays (now (image .entry)) index (length (now (out .entry))) (length (now (list .entry)))) (now (out .entry)) (now (out .exit)) (now (list .entry)) (now (list .exit)) r ⌝ }
+{
+    let mut board = [0u8; 1024];
+    let found = odds_of(image, &mut board);
+    if found.count == 0 {
+        return refused(28);
+    }
+    if found.count <= index {
+        return refused(27);
+    }
+    if out.len() < image.len() + found.size {
+        return refused(29);
+    }
+    if list.len() < found.size {
+        return refused(29);
+    }
+    draw_into(image, index, found, &mut board, out, list)
+}

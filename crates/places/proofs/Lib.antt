@@ -1,0 +1,3 @@
+-- Laws on signed numbers that belong to no one function.
+pub mod Steps
+pub mod Bits

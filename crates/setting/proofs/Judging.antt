@@ -1,0 +1,145 @@
+-- From placed bodies to the number that is given: 9, 11, 12 or none. Assumes nothing.
+use Prim.Native.Nat.{ℕ, zero, suc, _+_, _-_, _*_, _<_, _≤_}
+use native.Mathlib.Nat.{mul-le-mul, sub-zero, suc-ne-zero}
+use native.Mathlib.Omega.{arith}
+use mathlib.Core.Path.{_≡_, refl, sym, ap, _∙_}
+use mathlib.Core.Bool.{Bool, true, false, not, _&&_, true≢false}
+use mathlib.Core.List.{List, _++_, map}
+use lib.Dec.{ltb}
+use lib.IntN.{ℤ, pos}
+use lib.ListN.{length, take, drop, getD, length-map}
+use lib.Seq.{take-append-seam}
+use borrow.Author.Tests.{not-true, not-false, lt-ltb, le-ltb}
+use Rattle.lists.specs.Choice.{_if_else_}
+use Rattle.lists.specs.Below.{concatBelow}
+use Rattle.lists.specs.Boards.{Under}
+use Rattle.lists.specs.Lists.{writeAt, overFront, distinct}
+use Rattle.lists.proofs.Tests.{ordered, less, more}
+use Rattle.lists.proofs.Writes.{write-front}
+use Rattle.rules.specs.Places.{cellOf}
+use Rattle.rules.specs.Setting.{sideOf, settingCheck}
+use Rattle.rules.specs.SettingParts.{firstOf, limitsCheck, allOf, someShortOf, placeCheck, cellsOf}
+use Rattle.rules.specs.Says.{Says, refuses, first}
+use Rattle.rules.specs.declared.Setting.{Setting}
+use Rattle.rules.proofs.SettingParts.{check-parts}
+use Rattle.rules.proofs.PlaceCheck.{all-cells, body-reach, cells-under, check-cells, body-long, all-long}
+use Rattle.setting.specs.Traces.{Ready, Placed, Judged}
+
+-- 'food above the free cells', without a difference
+free-less : (a t f : ℕ) → ltb (a - t) f ≡ (ltb 0 f && ltb a (f + t))
+free-less a t f = elim (ordered (a - t) f) [
+  | less l e ↦ rw (e, lt-ltb 0 f (omega arith), lt-ltb a (f + t) (omega arith))
+  | more l e ↦ elim (ordered 0 f) [
+    | less k d ↦ rw (e, d, le-ltb a (f + t) (omega arith))
+    | more k d ↦ rw (e, d)
+  ]
+]
+
+module _ (g n size f : ℕ) (old : List ℕ) (ready : Ready g n size old) (new : List ℕ) (b : Bool) (p : Placed g n size old new b) where
+  pub judge-short : not b ≡ true → Judged (placeCheck (pos g) n size f) (concatBelow n (cellsOf g n size)) old new 9
+  judge-short t =
+      let s : someShortOf (pos g) n size ≡ true = not-false (someShortOf (pos g) n size) (sym (p .says) ∙ not-true b t) in
+      record {
+        says = sym (check-cells g n size (ready .side-min) (ready .side-max) (ready .size-min) f ∙ rw s);
+        words = λ z. let y : _≡_ {A = ℕ} 9 0 = z in absurd (omega arith);
+      }
+
+  module _ (t : not b ≡ false) where
+    none : someShortOf (pos g) n size ≡ false
+    none = not-true (someShortOf (pos g) n size) (sym (p .says) ∙ not-false b t)
+
+    size-most : size ≤ 125
+    size-most =
+        omega (arith, body-long g n size (ready .side-min) (ready .side-max) (ready .size-min) none 0 (omega (arith, ready .snakes-min)), body-reach g n size (ready .side-min) (ready .side-max) (ready .size-min) 0 (omega (arith, ready .snakes-min)))
+
+    pub total-most : n * size ≤ 1000
+    total-most = mul-le-mul (ready .snakes-max) size-most
+
+    total-is : length (concatBelow n (cellsOf g n size)) ≡ n * size
+    total-is =
+        ap (λ (l : List ℕ). length l) (sym (all-cells g n size (ready .side-min) (ready .side-max) (ready .size-min)))
+        ∙ length-map (allOf (pos g) n size) (cellOf g)
+        ∙ all-long g n size (ready .side-min) (ready .side-max) (ready .size-min) none
+
+    words-are : new ≡ writeAt old 0 (concatBelow n (cellsOf g n size))
+    words-are = p .words (not-false b t)
+
+    pub part-cells : take (n * size - 0) new ≡ concatBelow n (cellsOf g n size)
+    unfolding overFront
+    part-cells =
+        ap (λ (k : ℕ). take k new) (sub-zero (n * size) ∙ sym total-is)
+        ∙ ap (take (length (concatBelow n (cellsOf g n size)))) (words-are ∙ write-front old (concatBelow n (cellsOf g n size)))
+        ∙ take-append-seam (concatBelow n (cellsOf g n size)) (drop (length (concatBelow n (cellsOf g n size))) old)
+
+    pub part-under : Under 1024 (take (n * size - 0) new)
+    part-under = rw part-cells (cells-under g n size (ready .side-min) (ready .side-max) (ready .size-min))
+
+    module _ (d : Bool) (e : d ≡ distinct (take (n * size - 0) new)) where
+      told : distinct (concatBelow n (cellsOf g n size)) ≡ d
+      told = ap distinct (sym part-cells) ∙ sym e
+
+      pub judge-twice : not d ≡ true → Judged (placeCheck (pos g) n size f) (concatBelow n (cellsOf g n size)) old new 11
+      judge-twice h =
+          record {
+            says = sym (check-cells g n size (ready .side-min) (ready .side-max) (ready .size-min) f ∙ rw (none, told, h));
+            words = λ z. let y : _≡_ {A = ℕ} 11 0 = z in absurd (omega arith);
+          }
+
+      last : not d ≡ false → (v : Bool) → (ltb 0 f && ltb (g * g) (f + n * size)) ≡ v → ltb (g * g - length (allOf (pos g) n size)) f ≡ v
+      last h v q = rw (all-long g n size (ready .side-min) (ready .side-max) (ready .size-min) none) (free-less (g * g) (n * size) f ∙ q)
+
+      pub judge-crowded : not d ≡ false → (ltb 0 f && ltb (g * g) (f + n * size)) ≡ true → Judged (placeCheck (pos g) n size f) (concatBelow n (cellsOf g n size)) old new 12
+      judge-crowded h q =
+          record {
+            says = sym (check-cells g n size (ready .side-min) (ready .side-max) (ready .size-min) f ∙ rw (none, told, h, last h true q));
+            words = λ z. let y : _≡_ {A = ℕ} 12 0 = z in absurd (omega arith);
+          }
+
+      pub judge-fine : not d ≡ false → (ltb 0 f && ltb (g * g) (f + n * size)) ≡ false → Judged (placeCheck (pos g) n size f) (concatBelow n (cellsOf g n size)) old new 0
+      judge-fine h q =
+          record {
+            says = sym (check-cells g n size (ready .side-min) (ready .side-max) (ready .size-min) f ∙ rw (none, told, h, last h false q));
+            words = λ _. words-are;
+          }
+
+-- ---- numbers that are not 0, and halves put together
+
+nine-or-ten : (b : Bool) → _≡_ {A = ℕ} (9 if b else 10) 0 → ⊥
+nine-or-ten true e = suc-ne-zero 8 e
+nine-or-ten false e = suc-ne-zero 9 e
+
+-- a grid that is too small for any setting
+pub judge-small : (number k reach : ℕ) (cells old new : List ℕ) (r : ℕ) → number ≡ (9 if ltb reach k else 10) → r ≡ (9 if ltb reach k else 10) → Judged number cells old new r
+judge-small number k reach cells old new r e q = record { says = q ∙ sym e; words = λ z. absurd (nine-or-ten (ltb reach k) (sym q ∙ z)) }
+
+first-some : (a b : ℕ) → (a ≡ 0 → ⊥) → firstOf a b ≡ a
+first-some zero b h = absurd (h refl)
+first-some (suc a) b h = refl
+
+pub judge-first : (s : Setting) (r : ℕ) (cells old new : List ℕ) → r ≡ limitsCheck s → (r ≡ 0 → ⊥) → Judged (settingCheck s) cells old new r
+judge-first s r cells old new e h =
+    record {
+      says = e ∙ sym (check-parts s ∙ first-some (limitsCheck s) (placeCheck (s .grid) (s .snakes) (s .size) (s .food)) (λ z. h (e ∙ z)));
+      words = λ z. absurd (h z);
+    }
+
+pub judge-second : (s : Setting) (k r : ℕ) (cells old new : List ℕ) → k ≡ limitsCheck s → k ≡ 0 → Judged (placeCheck (s .grid) (s .snakes) (s .size) (s .food)) cells old new r
+    → Judged (settingCheck s) cells old new r
+judge-second s k r cells old new e z j =
+    record {
+      says = j .says ∙ sym (check-parts s ∙ ap (λ (m : ℕ). firstOf m (placeCheck (s .grid) (s .snakes) (s .size) (s .food))) (sym e ∙ z));
+      words = j .words;
+    }
+
+-- the same of a grid and its side
+pub judge-side : (g : ℤ) (m n k f : ℕ) (old new : List ℕ) (r : ℕ) → m ≡ sideOf g → g ≡ pos (sideOf g)
+    → Judged (placeCheck (pos m) n k f) (concatBelow n (cellsOf m n k)) old new r → Judged (placeCheck g n k f) (concatBelow n (cellsOf (sideOf g) n k)) old new r
+judge-side g m n k f old new r e h j =
+    record {
+      says = j .says ∙ ap (λ (z : ℤ). placeCheck z n k f) (ap pos e ∙ sym h);
+      words = λ z. j .words z ∙ ap (λ (q : ℕ). writeAt old 0 (concatBelow n (cellsOf q n k))) e;
+    }
+
+pub first-refuses : (k : ℕ) (r : Says (Unit {0})) → (k ≡ 0 → ⊥) → refuses k ≡ first k r
+first-refuses zero r h = absurd (h refl)
+first-refuses (suc k) r h = refl

@@ -1,0 +1,6 @@
+pub mod Walks
+pub mod Going
+pub mod Laying
+pub mod Judging
+pub mod Written
+pub mod Starting

@@ -1,0 +1,119 @@
+-- From the words of the initial state to the promise of the call. Assumes nothing.
+use Prim.Native.Nat.{ℕ, zero, suc, _+_, _-_, _*_, _<_, _≤_}
+use native.Mathlib.Nat.{sub-zero}
+use native.Mathlib.Omega.{arith}
+use mathlib.Core.Path.{_≡_, refl, sym, ap, _∙_}
+use mathlib.Core.Bool.{true, false}
+use mathlib.Core.List.{List, [], _∷_, _++_}
+use lib.Dec.{ltb}
+use lib.ListN.{length, take, drop, length-append}
+use lib.Seq.{take-append-seam}
+use borrow.Author.Tests.{lt-ltb, le-ltb}
+use Rattle.lists.specs.Choice.{_if_else_, bit}
+use Rattle.lists.specs.Below.{concatBelow}
+use Rattle.lists.specs.Lists.{writeAt, overFront}
+use Rattle.lists.proofs.Below.{concat-long, sum-ext}
+use Rattle.lists.proofs.Concat.{blocks-long}
+use Rattle.lists.proofs.Writes.{write-front}
+use Rattle.rules.specs.State.{State}
+use Rattle.rules.specs.Image.{imageOf}
+use Rattle.rules.specs.Calls.{initialSays}
+use Rattle.rules.specs.Promises.{Starts}
+use Rattle.rules.specs.Says.{Says, refuses, gives, first, seen, lent, says}
+use Rattle.rules.specs.Setting.{sideOf, settingCheck, initialState, areaOf}
+use Rattle.rules.specs.SettingFacts.{Accepts}
+use Rattle.rules.specs.SettingParts.{cellsOf, startCells, startRecord, startContents}
+use Rattle.rules.specs.declared.Answer.{Answer}
+use Rattle.rules.specs.declared.Answer.the-variants.{Done, Refused}
+use Rattle.rules.specs.declared.Setting.{Setting}
+use Rattle.rules.proofs.Facts.{square-le}
+use Rattle.rules.proofs.InitialFacts.{cells-long, start-image}
+use Rattle.rules.proofs.PlaceCheck.{sum-same}
+use Rattle.rules.proofs.SettingFacts.{accepts}
+use Rattle.setting.specs.Starts.{Room}
+
+first-some : (k : ℕ) (r : Says State) → (k ≡ 0 → ⊥) → first k r ≡ refuses k
+first-some zero r h = absurd (h refl)
+first-some (suc k) r h = refl
+
+module _ (s : Setting) (old : List ℕ) where
+  refused : (new : List ℕ) (r : Answer) (k : ℕ) → initialSays s (length old) ≡ refuses k → new ≡ old → r ≡ Refused k → Starts s old new r
+  refused new r k e n q =
+      record {
+        answer = ap says q ∙ sym (ap (seen (λ t. length (imageOf t))) e);
+        words = n ∙ sym (ap (lent imageOf old) e);
+      }
+
+  pub starts-refused : (k : ℕ) → k ≡ settingCheck s → (k ≡ 0 → ⊥) → Starts s old old (Refused k)
+  unfolding initialSays
+  starts-refused k e h =
+      let r : Says State = refuses 29 if ltb (length old) (length (imageOf (initialState s))) else gives (initialState s) in
+      refused old (Refused k) k (ap (λ (j : ℕ). first j r) (sym e) ∙ first-some k r h) refl refl
+
+module _ (s : Setting) (e : settingCheck s ≡ 0) where
+  pub total-is : length (startCells s) ≡ s .snakes * s .size
+  total-is =
+      concat-long (s .snakes) (cellsOf (sideOf (s .grid)) (s .snakes) (s .size))
+      ∙ sum-ext (s .snakes) (λ i. length (cellsOf (sideOf (s .grid)) (s .snakes) (s .size) i)) (λ i. s .size) (cells-long s (accepts s e))
+      ∙ sum-same (s .snakes) (s .size)
+
+  pub total-most : s .snakes * s .size ≤ 1024
+  total-most = let a = accepts s e in omega (arith, a .food-free, square-le (sideOf (s .grid)) (a .side-max))
+
+  pub part-cells : (old new : List ℕ) → new ≡ writeAt old 0 (startCells s) → take (s .snakes * s .size - 0) new ≡ startCells s
+  unfolding overFront
+  part-cells old new q =
+      ap (λ (k : ℕ). take k new) (sub-zero (s .snakes * s .size) ∙ sym total-is)
+      ∙ ap (take (length (startCells s))) (q ∙ write-front old (startCells s))
+      ∙ take-append-seam (startCells s) (drop (length (startCells s)) old)
+
+  image-long : length (imageOf (initialState s)) ≡ 5 + 4 * s .snakes + length (startCells s)
+  image-long =
+      let f = startRecord (s .snakes) (s .size) in
+      let b : length (concatBelow (s .snakes) f) ≡ 4 * s .snakes = blocks-long f 4 (s .snakes) (λ _. refl) in
+      ap (λ (l : List ℕ). length l) (start-image s (accepts s e))
+      ∙ omega (arith, b, length-append (concatBelow (s .snakes) f) (startCells s))
+
+  pub fits : (cells out : List ℕ) (g : ℕ) → cells ≡ startCells s → g ≡ sideOf (s .grid) → 5 + 4 * s .snakes + length cells ≤ length out
+      → Room (s .snakes) g (s .food) (s .size) cells out
+  fits cells out g c q h =
+      let a = accepts s e in
+      let m = square-le (sideOf (s .grid)) (a .side-max) in
+      record {
+        snakes = a .snakes-max;
+        side = omega (arith, q, a .side-max);
+        due = omega (arith, a .food-free, m);
+        few = omega (arith, a .size-max, m);
+        words = h;
+      }
+
+  module _ (old cells : List ℕ) (c : cells ≡ startCells s) where
+    count-is : 5 + 4 * s .snakes + length cells ≡ length (imageOf (initialState s))
+    count-is = ap (λ (l : List ℕ). 5 + 4 * s .snakes + length l) c ∙ sym image-long
+
+    pub starts-short : length old < 5 + 4 * s .snakes + length cells → Starts s old old (Refused 29)
+    unfolding initialSays
+    starts-short h =
+        refused s old old (Refused 29) 29
+        (rw (e, lt-ltb (length old) (length (imageOf (initialState s))) (omega (arith, count-is))))
+        refl refl
+
+    given : 5 + 4 * s .snakes + length cells ≤ length old → initialSays s (length old) ≡ gives (initialState s)
+    unfolding initialSays
+    given h = rw (e, le-ltb (length old) (length (imageOf (initialState s))) (omega (arith, count-is)))
+
+    pub starts-done : (new : List ℕ) (g : ℕ) → g ≡ sideOf (s .grid) → 5 + 4 * s .snakes + length cells ≤ length old
+        → new ≡ writeAt old 0 ((s .snakes ∷ g ∷ s .food ∷ bit (ltb 0 (s .food)) ∷ 0 ∷ []) ++ (concatBelow (s .snakes) (startRecord (s .snakes) (s .size)) ++ cells))
+        → Starts s old new (Done (5 + 4 * s .snakes + length cells))
+    starts-done new g q h w =
+        let r = concatBelow (s .snakes) (startRecord (s .snakes) (s .size)) in
+        record {
+          answer = ap gives count-is ∙ sym (ap (seen (λ t. length (imageOf t))) (given h));
+          words =
+              w
+              ∙ ap (λ (k : ℕ). writeAt old 0 ((s .snakes ∷ k ∷ s .food ∷ bit (ltb 0 (s .food)) ∷ 0 ∷ []) ++ (r ++ cells))) q
+              ∙ ap (λ (l : List ℕ). writeAt old 0 (startContents s ++ (r ++ l))) c
+              ∙ ap (writeAt old 0) (sym (start-image s (accepts s e)))
+              ∙ write-front old (imageOf (initialState s))
+              ∙ sym (ap (lent imageOf old) (given h));
+        }

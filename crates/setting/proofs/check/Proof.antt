@@ -1,0 +1,34 @@
+use mathlib.Core.Path.{_≡_, refl, sym, ap, _∙_}
+use denote.Ref.{now}
+use Rattle.rules.proofs.SettingParts.{limited}
+use Rattle.setting.proofs.Judging.{judge-first, judge-second}
+use borrow.Author.Needs.{needs}
+use Rattle.setting.proofs.check.Statement.{statement}
+use Rattle.setting.proofs.check.Tie as tie
+use Rattle.setting.proofs.check.Reads as reads
+use Rattle.setting.proofs.check.Lts as lts
+use Rattle.setting.proofs.limits.limits.Reads as limits-reads
+use Rattle.setting.proofs.place.place_check.Reads as place-check-reads
+
+limits-requires : tie.Need-limits-requires
+limits-requires c κs = search needs
+
+returns : tie.Need-returns
+returns c = judge-first (c .before .before .before .args .setting) (c .before .limits .result) _ _ _ (c .before .limits .ensures) (c .if1 .taken)
+
+place-check-requires : tie.Need-place-check-requires
+place-check-requires c κs =
+    let b = c .before .before .before .before in
+    (limited (b .args .setting) (sym (c .before .before .limits .ensures) ∙ c .before .if1 .left), b .pre)
+
+same-length : tie.Need-same-length
+same-length c = search needs
+
+returns-2 : tie.Need-returns-2
+returns-2 c =
+    let b = c .before .before .before .before .before .before .before in
+    judge-second (b .args .setting) _ _ _ (now (b .args .cells)) _ (c .before .before .before .before .before .limits .ensures) (c .before .before .before .before .if1 .left) (c .before .before .place-check .ensures)
+
+pub check-spec : {M : Type 1} → statement M
+check-spec =
+    tie.close (tie.spec limits-requires returns place-check-requires same-length returns-2)

@@ -1,0 +1,51 @@
+use Prim.Native.Nat.{ℕ, _*_, _≤_, min}
+use native.Mathlib.Nat.{mul-le-mul, min-le-right, le-trans}
+use native.Mathlib.Omega.{arith}
+use mathlib.Core.Path.{_≡_, refl, sym, ap, _∙_}
+use mathlib.Core.Bool.{true, false}
+use lib.Dec.{ltb}
+use Rattle.lists.specs.Products.{falling}
+use borrow.Author.Tests.{lt-ltb, le-ltb}
+use Rattle.rules.proofs.Facts.{square-le}
+use borrow.Author.Needs.{needs}
+use Rattle.setting.proofs.limits.crowded.Statement.{statement}
+use Rattle.setting.proofs.limits.crowded.Tie as tie
+use Rattle.setting.proofs.limits.crowded.Reads as reads
+use Rattle.setting.proofs.limits.crowded.Lts as lts
+use Rattle.setting.proofs.limits.least.Reads as least-reads
+use Rattle.setting.proofs.limits.too_many.Reads as too-many-reads
+
+mul-area : tie.Need-mul-area
+mul-area c = record { fits = omega (arith, square-le (c .args .side) (c .pre)) }
+
+returns : tie.Need-returns
+returns c = simp (lt-ltb _ _ (c .if1 .taken))
+
+returns-2 : tie.Need-returns-2
+returns-2 c = simp (le-ltb _ _ (c .before .if1 .left), lt-ltb _ _ (c .if2 .taken))
+
+least-requires : tie.Need-least-requires
+least-requires c κs = search needs
+
+too-many-requires : tie.Need-too-many-requires
+too-many-requires c κs =
+    let a = c .before .before .before .args in
+    let m : c .least .result ≤ a .food = rw (c .least .ensures) (min-le-right (a .n) (a .food)) in
+    (square-le (a .side) (search needs), le-trans m (c .before .before .if1 .left))
+
+returns-3 : tie.Need-returns-3
+returns-3 c =
+    let b = c .before .before .before in
+    let t = sym (c .before .too-many .ensures ∙ ap (λ (k : ℕ). ltb 9007199254740992 (falling (b .before .before .args .side * b .before .before .args .side) k)) (c .before .before .least .ensures)) ∙ c .if3 .taken in
+    simp (le-ltb _ _ (b .before .if1 .left), le-ltb _ _ (b .if2 .left), t)
+
+returns-4 : tie.Need-returns-4
+returns-4 c =
+    let b = c .before .before .before in
+    let t = sym (c .before .too-many .ensures ∙ ap (λ (k : ℕ). ltb 9007199254740992 (falling (b .before .before .args .side * b .before .before .args .side) k)) (c .before .before .least .ensures)) ∙ c .if3 .left in
+    simp (le-ltb _ _ (b .before .if1 .left), le-ltb _ _ (b .if2 .left), t)
+
+pub crowded-spec : {M : Type 1} → statement M
+crowded-spec =
+    tie.close
+    (tie.spec mul-area returns returns-2 least-requires too-many-requires returns-3 returns-4)

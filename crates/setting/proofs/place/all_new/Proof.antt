@@ -1,0 +1,17 @@
+use denote.Ref.{now}
+use Rattle.lists.proofs.Boards.{board-blank}
+use borrow.Author.Needs.{needs}
+use Rattle.setting.proofs.place.all_new.Statement.{statement}
+use Rattle.setting.proofs.place.all_new.Tie as tie
+use Rattle.setting.proofs.place.all_new.Reads as reads
+use Rattle.setting.proofs.place.all_new.Lts as lts
+use Rattle.image.proofs.stamps_once.Reads as stamps-once-reads
+
+stamps-once-requires : tie.Need-stamps-once-requires
+stamps-once-requires c κs = (search needs, board-blank)
+
+returns : tie.Need-returns
+returns c = search needs
+
+pub all-new-spec : {M : Type 1} → statement M
+all-new-spec = tie.close (tie.spec stamps-once-requires returns)

@@ -1,0 +1,103 @@
+use Prim.Native.Nat.{ℕ, _≤_, _<_}
+use native.Mathlib.Omega.{arith}
+use mathlib.Core.Path.{_≡_, refl, sym, ap, _∙_}
+use mathlib.Core.Bool.{true, false}
+use lib.IntN.{ℤ, pos, natAbs}
+use lib.Signed.{ltZ}
+use mir.Syntax.{w32}
+use mir.Val.{toZ, ofZ}
+use denote.Ref.{now}
+use Rattle.rules.specs.Setting.{sideOf, areaOf}
+use Rattle.rules.proofs.Facts.{square-le}
+use Rattle.rules.proofs.SmallGrids.{small-two, small-less}
+use Rattle.rules.proofs.Starts.{grid-two, grid-side, side-three, side-small, side-plain-three, side-abs}
+use Rattle.setting.proofs.Judging.{judge-small, judge-side}
+use borrow.Author.Needs.{needs}
+use Rattle.setting.proofs.place.place_check.Statement.{statement}
+use Rattle.setting.proofs.place.place_check.Tie as tie
+use Rattle.setting.proofs.place.place_check.Reads as reads
+use Rattle.setting.proofs.place.place_check.Lts as lts
+use Rattle.places.proofs.plain.Reads as plain-reads
+use Rattle.setting.proofs.place.beyond.Reads as beyond-reads
+use Rattle.setting.proofs.place.judge.Reads as judge-reads
+
+beyond-requires : tie.Need-beyond-requires
+beyond-requires c κs = search needs
+
+returns : tie.Need-returns
+returns c =
+    let b = c .before .before .before .before in
+    let s = b .args .setting in
+    let p = b .pre .0 in
+    let e : toZ w32 (ofZ w32 (s .grid)) ≡ s .grid = search needs in
+    let h : ltZ (s .grid) (pos 2) ≡ true = rw e at (c .before .if1 .taken) in
+    judge-small _ (s .size) 1 _ _ _ _ (small-less (s .snakes) (s .food) (p .snakes-min) (p .snakes-max) (s .grid) (s .size) (p .size-min) h) (c .beyond .ensures)
+
+beyond-requires-2 : tie.Need-beyond-requires-2
+beyond-requires-2 c κs = search needs
+
+returns-2 : tie.Need-returns-2
+returns-2 c =
+    let b = c .before .before .before .before .before in
+    let s = b .args .setting in
+    let p = b .pre .0 in
+    let e : toZ w32 (ofZ w32 (s .grid)) ≡ s .grid = search needs in
+    let h : ltZ (s .grid) (pos 2) ≡ false = rw e at (c .before .before .if1 .left) in
+    let k : ltZ (s .grid) (pos 3) ≡ true = rw e at (c .before .if2 .taken) in
+    judge-small _ (s .size) 3 _ _ _ _ (small-two (s .snakes) (s .food) (p .snakes-min) (p .snakes-max) (s .grid) (s .size) (p .size-min) (grid-two (s .grid) h k)) (c .beyond2 .ensures)
+
+cast-n : tie.Need-cast-n
+cast-n c = search needs
+
+plain-requires : tie.Need-plain-requires
+plain-requires c κs =
+    let b = c .before .before .before .before .before .before in
+    let s = b .args .setting in
+    let e : toZ w32 (ofZ w32 (s .grid)) ≡ s .grid = search needs in
+    let k : ltZ (s .grid) (pos 3) ≡ false = rw e at (c .before .before .if2 .left) in
+    rw e (record { positive = side-plain-three (s .grid) k; small = omega (arith, side-abs (s .grid) k, side-small (s .grid) (b .pre .0 .grid-max)) })
+
+judge-requires : tie.Need-judge-requires
+judge-requires c κs =
+    let b = c .before .before .before .before .before .before .before in
+    let s = b .args .setting in
+    let p = b .pre .0 in
+    let e : toZ w32 (ofZ w32 (s .grid)) ≡ s .grid = search needs in
+    let k : ltZ (s .grid) (pos 3) ≡ false = rw e at (c .before .before .before .if2 .left) in
+    let m : c .plain .result ≡ sideOf (s .grid) = c .plain .ensures ∙ ap natAbs e ∙ side-abs (s .grid) k in (
+      record {
+        side-min = omega (arith, m, side-three (s .grid) k);
+        side-max = omega (arith, m, side-small (s .grid) (p .grid-max));
+        snakes-min = p .snakes-min;
+        snakes-max = p .snakes-max;
+        size-min = p .size-min;
+        room = b .pre .1;
+      },
+      omega (arith, p .food-max, square-le (sideOf (s .grid)) (side-small (s .grid) (p .grid-max))),
+    )
+
+same-length : tie.Need-same-length
+same-length c = search needs
+
+returns-3 : tie.Need-returns-3
+returns-3 c =
+    let b = c .before .before .before .before .before .before .before .before .before .before in
+    let s = b .args .setting in
+    let e : toZ w32 (ofZ w32 (s .grid)) ≡ s .grid = search needs in
+    let k : ltZ (s .grid) (pos 3) ≡ false = rw e at (c .before .before .before .before .before .before .if2 .left) in
+    let m : c .before .before .before .plain .result ≡ sideOf (s .grid) = c .before .before .before .plain .ensures ∙ ap natAbs e ∙ side-abs (s .grid) k in
+    judge-side (s .grid) _ (s .snakes) (s .size) (s .food) (now (b .args .cells)) _ _ m (grid-side (s .grid) k) (c .before .before .judge .ensures)
+
+pub place-check-spec : {M : Type 1} → statement M
+place-check-spec =
+    tie.close
+    (tie.spec
+    beyond-requires
+    returns
+    beyond-requires-2
+    returns-2
+    cast-n
+    plain-requires
+    judge-requires
+    same-length
+    returns-3)

@@ -1,0 +1,15 @@
+use Rattle.setting.proofs.Judging.{first-refuses}
+use borrow.Author.Needs.{needs}
+use Rattle.setting.proofs.verdict.Statement.{statement}
+use Rattle.setting.proofs.verdict.Tie as tie
+use Rattle.setting.proofs.verdict.Reads as reads
+use Rattle.setting.proofs.verdict.Lts as lts
+
+returns : tie.Need-returns
+returns c = search needs
+
+returns-2 : tie.Need-returns-2
+returns-2 c = first-refuses (c .before .args .number) _ (c .if1 .left)
+
+pub verdict-spec : {M : Type 1} → statement M
+verdict-spec = tie.close (tie.spec returns returns-2)

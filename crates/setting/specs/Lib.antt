@@ -1,0 +1,3 @@
+pub mod Traces
+pub mod Crowds
+pub mod Starts

@@ -1,0 +1,77 @@
+// Where the snakes start, the check of a setting (refusals 1 to 12), and the initial state.
+mod limits;
+mod place;
+mod start;
+mod trace;
+
+use limits::limits;
+use limits::side_of;
+use place::place_check;
+use rules::Answer;
+use rules::Setting;
+use rules::Verdict;
+use start::write_start;
+ghost use mathlib.Core.Path.{_≡_};
+ghost use lib.ListN.{length};
+ghost use Rattle.rules.specs.Setting.{settingCheck};
+ghost use Rattle.rules.specs.SettingParts.{startCells};
+ghost use Rattle.rules.specs.Says.{first, gives, saysVerdict};
+ghost use Rattle.rules.specs.Promises.{Validates, Starts};
+ghost use Rattle.setting.specs.Traces.{Judged};
+
+// 0 where the setting is accepted, and then the cells of all bodies stand at the front of `cells`.
+fn check(setting: Setting, cells: &mut [u16]) -> u8
+    requires { ⌜ length (now cells) ≡ 1024 ⌝ }
+    ensures { λ r. ⌜ Judged (settingCheck setting) (startCells setting) (now (cells .entry)) (now (cells .exit)) r ⌝ }
+{
+    let number = limits(setting);
+    if number != 0 {
+        return number;
+    }
+    place_check(setting, cells)
+}
+
+fn verdict(number: u8) -> Verdict
+    ensures { λ r. ⌜ saysVerdict r ≡ first number (gives tt) ⌝ }
+{
+    if number == 0 {
+        return Verdict::Accepted;
+    }
+    Verdict::Refused(number)
+}
+
+pub fn validate(setting: Setting) -> Verdict
+    ensures { λ r. ⌜ Validates setting r ⌝ }
+{
+    let mut cells = [0u16; 1024];
+    verdict(check(setting, &mut cells))
+}
+
+// The words of the initial state of an accepted setting; `cells` are the cells of its bodies.
+fn write_state(setting: Setting, cells: &[u16], out: &mut [u16]) -> Answer
+    requires { ⌜ settingCheck setting ≡ 0 ⌝ }
+    requires { ⌜ now cells ≡ startCells setting ⌝ }
+    ensures { λ r. ⌜ Starts setting (now (out .entry)) (now (out .exit)) r ⌝ }
+{
+    let n = setting.snakes as usize;
+    let size = setting.size as usize;
+    let words = 5 + 4 * n + cells.len();
+    if out.len() < words {
+        return Answer::Refused(29);
+    }
+    let g = side_of(setting.grid) as usize;
+    write_start(out, n, g, setting.food as usize, size, cells);
+    Answer::Done(words)
+}
+
+pub fn initial_state(setting: Setting, out: &mut [u16]) -> Answer
+    ensures { λ r. ⌜ Starts setting (now (out .entry)) (now (out .exit)) r ⌝ }
+{
+    let mut cells = [0u16; 1024];
+    let number = check(setting, &mut cells);
+    if number != 0 {
+        return Answer::Refused(number);
+    }
+    let total = setting.snakes as usize * setting.size as usize;
+    write_state(setting, &cells[0..total], out)
+}

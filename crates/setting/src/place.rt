@@ -1,0 +1,73 @@
+// Refusals 9 to 12: the bodies are placed, and only then is any cell judged.
+use crate::trace::place_snakes;
+use rules::Setting;
+ghost use mathlib.Core.Path.{_≡_};
+ghost use mathlib.Core.Bool.{true, false};
+ghost use lib.Dec.{ltb};
+ghost use lib.IntN.{ℤ, pos};
+ghost use lib.ListN.{length};
+ghost use Rattle.lists.specs.Choice.{_if_else_};
+ghost use Prim.Native.Nat.{_≤_};
+ghost use Rattle.lists.specs.Below.{concatBelow};
+ghost use Rattle.lists.specs.Boards.{Under};
+ghost use Rattle.lists.specs.Lists.{distinct};
+ghost use Rattle.rules.specs.SettingParts.{placeCheck, cellsOf, startCells, Limited};
+ghost use Rattle.setting.specs.Traces.{Ready, Judged};
+
+// No cell twice, by a board of all squares.
+fn all_new(cells: &[u16]) -> bool
+    requires { ⌜ Under 1024 (now cells) ⌝ }
+    ensures { λ r. ⌜ r ≡ distinct (now (cells .entry)) ⌝ }
+{
+    let mut board = [0u8; 1024];
+    image::stamps_once(cells, &mut board, 1)
+}
+
+// On a grid of 3 and more every start is inside, so that no cell is outside: 9, 11 or 12.
+fn judge(cells: &mut [u16], g: u16, n: u16, size: usize, food: usize) -> u8
+    requires { ⌜ Ready g n size (now cells) ⌝ }
+    requires { ⌜ food ≤ 1024 ⌝ }
+    ensures { λ r. ⌜ Judged (placeCheck (pos g) n size food) (concatBelow n (cellsOf g n size)) (now (cells .entry)) (now (cells .exit)) r ⌝ }
+{
+    if !place_snakes(cells, g, n, size) {
+        return 9;
+    }
+    let total = n as usize * size;
+    if !all_new(&cells[0..total]) {
+        return 11;
+    }
+    let area = g as usize * g as usize;
+    if (0 < food) & (area < food + total) {
+        return 12;
+    }
+    0
+}
+
+// Some body cannot be traced beyond `reach`; up to that length its first bad cell is outside.
+fn beyond(reach: u64, size: u64) -> u8
+    ensures { λ r. ⌜ r ≡ (9 if ltb reach size else 10) ⌝ }
+{
+    if reach < size {
+        return 9;
+    }
+    10
+}
+
+// On grids below 3 column g - g/3 is off the grid, so that none is accepted: a trace reaches 3 places on grid 2, else 1.
+pub fn place_check(setting: Setting, cells: &mut [u16]) -> u8
+    requires { ⌜ Limited setting ⌝ }
+    requires { ⌜ length (now cells) ≡ 1024 ⌝ }
+    ensures { λ r. ⌜ Judged (placeCheck (setting .grid) (setting .snakes) (setting .size) (setting .food)) (startCells setting) (now (cells .entry)) (now (cells .exit)) r ⌝ }
+{
+    let grid = setting.grid;
+    let size = setting.size;
+    if grid < 2 {
+        return beyond(1, size);
+    }
+    if grid < 3 {
+        return beyond(3, size);
+    }
+    let n = setting.snakes as u16;
+    let food = setting.food as usize;
+    judge(cells, places::plain(grid), n, size as usize, food)
+}

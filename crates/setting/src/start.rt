@@ -1,0 +1,50 @@
+// The initial state, written as an image.
+use rules::Heading;
+ghost use mathlib.Core.Path.{_≡_};
+ghost use mathlib.Core.List.{[], _∷_, _++_};
+ghost use Prim.Native.Nat.{_+_, _*_, _≤_};
+ghost use lib.Dec.{ltb};
+ghost use lib.ListN.{length};
+ghost use Rattle.lists.specs.Choice.{bit};
+ghost use Rattle.lists.specs.Below.{concatBelow};
+ghost use Rattle.lists.specs.Lists.{writeAt};
+ghost use Rattle.rules.specs.Placement.{startHeading};
+ghost use Rattle.rules.specs.SettingParts.{startRecord};
+ghost use Rattle.setting.specs.Starts.{Room};
+
+fn start_heading(i: usize) -> Heading
+    ensures { λ r. ⌜ r ≡ startHeading i ⌝ }
+{
+    if i % 2 == 0 {
+        return Heading::Right;
+    }
+    Heading::Left
+}
+
+fn write_records(out: &mut [u16], n: usize, size: usize)
+    requires { ⌜ (5 + 4 * n ≤ length (now out)) × (n ≤ 8) × (size ≤ 1024) ⌝ }
+    ensures { λ _. ⌜ now (out .exit) ≡ writeAt (now (out .entry)) 5 (concatBelow n (startRecord n size)) ⌝ }
+{
+    let mut i = 0;
+    while i < n {
+        image::write_record(
+            out,
+            5 + 4 * i,
+            5 + 4 * n + size * i,
+            size,
+            start_heading(i),
+            true,
+        );
+        i += 1;
+    }
+}
+
+// Words 0 to 4, the records, and the bodies.
+pub fn write_start(out: &mut [u16], n: usize, g: usize, food: usize, size: usize, cells: &[u16])
+    requires { ⌜ Room n g food size (now cells) (now out) ⌝ }
+    ensures { λ _. ⌜ now (out .exit) ≡ writeAt (now (out .entry)) 0 ((n ∷ g ∷ food ∷ bit (ltb 0 food) ∷ 0 ∷ []) ++ (concatBelow n (startRecord n size) ++ now (cells .entry))) ⌝ }
+{
+    image::write_contents(out, n, g, food, 0 < food, 0);
+    write_records(out, n, size);
+    lists::write_at(out, 5 + 4 * n, cells);
+}

@@ -1,0 +1,170 @@
+-- The refusals in their order: what the numbers say, and what is known of an image that none of them refuses. Assumes nothing.
+use Prim.Native.Nat.{ℕ, zero, suc, _<_}
+use mathlib.Core.Path.{_≡_, refl, sym, ap, _∙_}
+use mathlib.Core.Bool.{Bool, true, false, not, _&&_}
+use mathlib.Core.List.{List}
+use native.Mathlib.Omega.{arith}
+use lib.Dec.{ltb, eqb}
+use lib.ListN.{length, getD, replicate}
+use borrow.Author.Tests.{eqb-true, not-false}
+use Rattle.lists.specs.Choice.{_if_else_}
+use Rattle.lists.specs.Below.{someBelow}
+use Rattle.lists.proofs.Below.{some-ext}
+use Rattle.rules.specs.Setting.{settingCheck}
+use Rattle.rules.specs.State.{Snake, snakeOf}
+use Rattle.rules.specs.Image.{snakesIn, dueIn, aliveAt, stateOf, imageOf, wellFormed}
+use Rattle.rules.specs.Facts.{Sound}
+use Rattle.rules.specs.Says.{Says, refuses, gives, first, seen, beside, lent, says, saysVerdict}
+use Rattle.rules.specs.Events.{blank, eight}
+use Rattle.rules.specs.Promises.{Validates, Steps}
+use Rattle.rules.specs.Calls.{settingSays, differs, badAction, stepSays}
+use Rattle.rules.specs.Step.{Outcome, stepped}
+use Rattle.rules.specs.declared.Setting.{Setting}
+use Rattle.rules.specs.declared.Stepped.{Stepped}
+use Rattle.rules.specs.declared.Verdict.{Verdict}
+use Rattle.rules.specs.declared.Verdict.the-variants.{Accepted, Refused}
+use Rattle.rules.proofs.Facts.{sound}
+use Rattle.rules.proofs.Parts.{state-count, state-snake}
+use Rattle.step.specs.declared.Judged.{Judged}
+use Rattle.step.specs.World.{Judges}
+use Rattle.step.specs.Applied.{Ready, Applied, roomFor}
+use Rattle.step.specs.Asked.{numberIn, orNext, askedOf, asked, RefusedBy}
+use Rattle.step.proofs.Judging.{cause-judged}
+
+-- ---- numbers
+
+pub or-stays : (k r : ℕ) → (k ≡ 0 → ⊥) → k ≡ orNext k r
+or-stays zero r h = absurd (h refl)
+or-stays (suc k) r h = refl
+
+pub first-refuses : {A : Type 0} (k : ℕ) (r : Says A) → (k ≡ 0 → ⊥) → first k r ≡ refuses k
+first-refuses zero r h = absurd (h refl)
+first-refuses (suc k) r h = refl
+
+-- the number that a verdict says
+pub verdict-number : (v : Verdict) (k : ℕ) → saysVerdict v ≡ first k (gives tt) → numberIn v ≡ k
+verdict-number Accepted zero h = refl
+verdict-number Accepted (suc k) h = let z : _≡_ {A = ℕ} 0 1 = cc in absurd (omega arith)
+verdict-number (Refused n) zero h = let z : _≡_ {A = ℕ} 0 1 = cc in absurd (omega arith)
+verdict-number (Refused n) (suc k) h = cc
+
+pub validated : (s : Setting) (v : Verdict) → Validates s v → numberIn v ≡ settingCheck s
+unfolding settingSays
+validated s v p = verdict-number v (settingCheck s) (p .answer)
+
+module _ {A : Type 0} (r : Says A) where
+  or-first : (k n : ℕ) (x : Says A) → x ≡ first n r → first k x ≡ first (orNext k n) r
+  or-first zero n x h = h
+  or-first (suc k) n x h = refl
+
+  next-first : (b : Bool) (k n : ℕ) (x : Says A) → x ≡ first n r → (refuses (suc k) if b else x) ≡ first (suc k if b else n) r
+  next-first true k n x h = refl
+  next-first false k n x h = h
+
+-- a step says the first number that is asked, and else what the room allows
+pub step-says : (s : Setting) (w acts : List ℕ) (room : ℕ) → stepSays s w acts room ≡ first (asked s w acts) (roomFor (stepped s (stateOf w) acts) room)
+unfolding stepSays asked
+step-says s w acts room =
+    let r = roomFor (stepped s (stateOf w) acts) room in
+    or-first r (settingCheck s) _ _
+    (next-first r (not (wellFormed w)) 19 _ _
+    (next-first r (differs s w) 20 _ _
+    (next-first r (ltb 0 (dueIn w)) 21 _ _
+    (next-first r (not (eqb (length acts) (snakesIn w))) 23 _ _
+    (next-first r (badAction (stateOf w) acts) 24 _ _ refl)))))
+
+-- ---- where no number is given
+
+or-zero : (k r : ℕ) → orNext k r ≡ 0 → r ≡ 0
+or-zero zero r h = h
+or-zero (suc k) r h = absurd (omega arith)
+
+if-zero : (b : Bool) (k r : ℕ) → (suc k if b else r) ≡ 0 → (b ≡ false) × (r ≡ 0)
+if-zero true k r h = absurd (omega arith)
+if-zero false k r h = (refl, h)
+
+module _ (s : Setting) (w acts : List ℕ) (h : asked s w acts ≡ 0) where
+  image-asked : (not (wellFormed w) ≡ false) × (askedOf s w acts ≡ 0)
+  unfolding asked
+  image-asked = if-zero (not (wellFormed w)) 19 (askedOf s w acts) (or-zero (settingCheck s) _ h)
+
+  pub asked-sound : Sound w
+  asked-sound = sound w (not-false (wellFormed w) (image-asked .0))
+
+  pub asked-count : length acts ≡ snakesIn w
+  asked-count =
+      let a = if-zero (differs s w) 20 _ (image-asked .1) in
+      let b = if-zero (ltb 0 (dueIn w)) 21 _ (a .1) in
+      let c = if-zero (not (eqb (length acts) (snakesIn w))) 23 _ (b .1) in
+      eqb-true _ _ (not-false (eqb (length acts) (snakesIn w)) (c .0))
+
+-- ---- 25, by the image's words
+
+pub bad-words : (w acts : List ℕ) → someBelow (snakesIn w) (λ i. eqb (aliveAt w i) 1 && ltb 2 (getD acts i 0)) ≡ badAction (stateOf w) acts
+bad-words w acts =
+    some-ext (snakesIn w) (λ i. eqb (aliveAt w i) 1 && ltb 2 (getD acts i 0)) (λ i. snakeOf (stateOf w) i .alive && ltb 2 (getD acts i 0))
+    (λ i h. ap (λ (z : Snake). z .alive && ltb 2 (getD acts i 0)) (sym (state-snake w i h)))
+    ∙ ap (λ (n : ℕ). someBelow n (λ i. snakeOf (stateOf w) i .alive && ltb 2 (getD acts i 0))) (sym (state-count w))
+
+-- ---- the numbers by the tests made so far
+
+module _ (s : Setting) (w acts : List ℕ) where
+  pub asked-other : differs s w ≡ true → 21 ≡ askedOf s w acts
+  asked-other a = rw a
+
+  module _ (a : differs s w ≡ false) where
+    pub asked-due : ltb 0 (dueIn w) ≡ true → 22 ≡ askedOf s w acts
+    asked-due b = rw (a, b)
+
+    module _ (b : ltb 0 (dueIn w) ≡ false) where
+      pub asked-many : eqb (length acts) (snakesIn w) ≡ false → 24 ≡ askedOf s w acts
+      asked-many c = rw (a, b, c)
+
+      module _ (c : eqb (length acts) (snakesIn w) ≡ true) where
+        pub asked-bad : badAction (stateOf w) acts ≡ true → 25 ≡ askedOf s w acts
+        asked-bad d = rw (a, b, c, d)
+
+        pub asked-none : badAction (stateOf w) acts ≡ false → 0 ≡ askedOf s w acts
+        asked-none d = rw (a, b, c, d)
+
+  pub asked-setting : (k : ℕ) → k ≡ settingCheck s → (k ≡ 0 → ⊥) → k ≡ asked s w acts
+  unfolding asked
+  asked-setting k e h = or-stays k _ h ∙ ap (λ (n : ℕ). orNext n (20 if not (wellFormed w) else askedOf s w acts)) e
+
+  pub asked-malformed : settingCheck s ≡ 0 → wellFormed w ≡ false → 20 ≡ asked s w acts
+  unfolding asked
+  asked-malformed a b = rw (a, b)
+
+  pub asked-image : (k : ℕ) → settingCheck s ≡ 0 → wellFormed w ≡ true → k ≡ askedOf s w acts → k ≡ asked s w acts
+  unfolding asked
+  asked-image k a b e = rw (a, b) e
+
+-- ---- a judged array is ready to be applied
+
+pub judged-ready : (w acts : List ℕ) (all : List Judged) → Judges w acts all → Ready w all
+judged-ready w acts all j = record { causes = cause-judged w acts all j; parts = λ i h. j .parts i; short = λ i h. j .short i }
+
+-- ---- the promise, from either end
+
+module _ (s : Setting) (w acts old : List ℕ) where
+  pub steps-refused : (k : ℕ) (r : Stepped) → (k ≡ 0 → ⊥) → k ≡ asked s w acts → RefusedBy k r → Steps s w acts old old r
+  steps-refused k r h e q =
+      let p : stepSays s w acts (length old) ≡ refuses k =
+      step-says s w acts (length old) ∙ ap (λ (n : ℕ). first n (roomFor (stepped s (stateOf w) acts) (length old))) (sym e) ∙ first-refuses k _ h in
+      record {
+        answer = ap says (q .answer) ∙ sym (ap (seen (λ (o : Outcome). length (imageOf (o .next)))) p);
+        terminal = q .terminal ∙ sym (ap (beside (λ (o : Outcome). o .terminal) false) p);
+        events = q .events ∙ sym (ap (beside (λ (o : Outcome). eight (o .events)) (replicate 8 blank)) p);
+        words = sym (ap (lent (λ (o : Outcome). imageOf (o .next)) old) p);
+      }
+
+  pub steps-done : (new : List ℕ) (r : Stepped) → 0 ≡ asked s w acts → Applied (stepped s (stateOf w) acts) old new r → Steps s w acts old new r
+  steps-done new r e q =
+      let p : stepSays s w acts (length old) ≡ roomFor (stepped s (stateOf w) acts) (length old) =
+      step-says s w acts (length old) ∙ ap (λ (n : ℕ). first n (roomFor (stepped s (stateOf w) acts) (length old))) (sym e) in
+      record {
+        answer = q .answer ∙ sym (ap (seen (λ (o : Outcome). length (imageOf (o .next)))) p);
+        terminal = q .terminal ∙ sym (ap (beside (λ (o : Outcome). o .terminal) false) p);
+        events = q .events ∙ sym (ap (beside (λ (o : Outcome). eight (o .events)) (replicate 8 blank)) p);
+        words = q .words ∙ sym (ap (lent (λ (o : Outcome). imageOf (o .next)) old) p);
+      }

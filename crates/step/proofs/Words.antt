@@ -1,0 +1,140 @@
+-- The words that are written are the image of the next state. Assumes nothing.
+use Rattle.lists.proofs.Runs.{written-long, four-writes}
+use Rattle.lists.specs.Written.{Written}
+use mathlib.Core.Path.{_≡_, refl, sym, ap, _∙_}
+use mathlib.Core.Bool.{Bool, true, false}
+use mathlib.Core.List.{List, [], _∷_, _++_}
+use Prim.Native.Nat.{ℕ, zero, suc, _+_, _*_, _<_, _≤_}
+use native.Mathlib.Nat.{le-trans, le-refl}
+use native.Mathlib.Omega.{arith}
+use lib.ListN.{length, getD, drop, set, length-append, length-drop}
+use lib.Seq.{length-take-le}
+use Rattle.lists.specs.Choice.{_if_else_, bit}
+use Rattle.lists.specs.Below.{sumBelow, concatBelow}
+use Rattle.lists.specs.Lists.{writeAt}
+use Rattle.lists.proofs.Below.{sum-ext, sum-le, each-long, each-at, concat-ext, concat-long}
+use Rattle.lists.proofs.Writes.{write-none, length-write, sets-write}
+use Rattle.rules.specs.Headings.{numberOf}
+use Rattle.rules.specs.State.{Snake, State, nobody, snakeOf}
+use Rattle.rules.specs.Image.{front, bodyOf, recordOf, imageOf}
+use Rattle.step.specs.declared.after.After.{After}
+use Rattle.step.specs.After.{gone, part, later, snakes, sizeOf, sizes, Parts, Short}
+use Rattle.step.specs.Next.{recordIn, bodyIn, headOf, nextOf}
+use Rattle.step.proofs.Laws.{size-le}
+
+head-on : (l : Bool) (c : ℕ) (p : List ℕ) → (c ∷ p if l else p) ≡ (c ∷ [] if l else []) ++ p
+head-on true c p = refl
+head-on false c p = refl
+
+head-size : (l : Bool) (c k : ℕ) (p : List ℕ) → length p ≡ k → length (c ∷ p if l else p) ≡ k + bit l
+head-size true c k p e = omega arith
+head-size false c k p e = omega arith
+
+module _ (w : List ℕ) (a : After) where
+  -- a body is its head, where it lives, and the part of the image
+  pub body-is : later w a .body ≡ headOf a ++ part w a
+  body-is = head-on (a .lives) (a .cell) (part w a)
+
+  pub part-size : a .start + a .keep ≤ length w → length (part w a) ≡ a .keep
+  part-size h = length-take-le (a .keep) (drop (a .start) w) (omega (arith, length-drop (a .start) w))
+
+  pub body-size : a .start + a .keep ≤ length w → length (later w a .body) ≡ sizeOf a
+  body-size h = head-size (a .lives) (a .cell) (a .keep) (part w a) (part-size h)
+
+pub records-long : (n i : ℕ) (all : List After) → length (concatBelow i (recordIn n all)) ≡ 4 * i
+unfolding concatBelow
+records-long n zero all = refl
+records-long n (suc i) all = let e = records-long n i all in omega (arith, length-append (concatBelow i (recordIn n all)) (recordIn n all i))
+
+pub sizes-small : (all : List After) → Short all → (n : ℕ) → sumBelow n (sizes all) ≤ 1025 * n
+sizes-small all h n = sum-le (sizes all) 1025 n (λ i l. size-le all h i)
+
+module _ (w : List ℕ) (all : List After) (parts : Parts w all) where
+  pub bodies-long : (n : ℕ) → length (concatBelow n (bodyIn w all)) ≡ sumBelow n (sizes all)
+  bodies-long n = concat-long n (bodyIn w all) ∙ sum-ext n (λ i. length (bodyIn w all i)) (sizes all) (λ i l. body-size w (getD all i gone) (parts i))
+
+  module _ (n g due : ℕ) (food : List ℕ) where
+    abbrev next : State
+    next = nextOf w all n g due food
+
+    snake-is : (i : ℕ) → i < n → snakeOf next i ≡ snakes w all i
+    snake-is i l = each-at n (snakes w all) nobody i l
+
+    bodies-are : (i : ℕ) → i ≤ n → concatBelow i (bodyOf next) ≡ concatBelow i (bodyIn w all)
+    bodies-are i h = concat-ext i (bodyOf next) (bodyIn w all) (λ j l. ap (λ (z : Snake). z .body) (snake-is j (le-trans l h)))
+
+    record-is : (i : ℕ) → i < n → recordOf next i ≡ recordIn n all i
+    record-is i l =
+        let b : length (concatBelow i (bodyOf next)) ≡ sumBelow i (sizes all) = ap length (bodies-are i (omega arith)) ∙ bodies-long i in
+        let e = each-long n (snakes w all) in
+        let z = snake-is i l in
+        (λ k. (front (e k) + b k) ∷ length (z k .body) ∷ numberOf (z k .heading) ∷ bit (z k .alive) ∷ [])
+        ∙ ap (λ (s : ℕ). (front n + sumBelow i (sizes all)) ∷ s ∷ numberOf (getD all i gone .heading) ∷ bit (getD all i gone .lives) ∷ []) (body-size w (getD all i gone) (parts i))
+
+    pub image-is : imageOf next
+        ≡ (n ∷ g ∷ due ∷ 0 ∷ length food ∷ []) ++ (concatBelow n (recordIn n all) ++ (concatBelow n (bodyIn w all) ++ food))
+    unfolding imageOf
+    image-is =
+        let e = each-long n (snakes w all) in
+        (λ k. (e k ∷ g ∷ due ∷ 0 ∷ length food ∷ []) ++ (concatBelow (e k) (recordOf next) ++ (concatBelow (e k) (bodyOf next) ++ food)))
+        ∙ (λ k. (n ∷ g ∷ due ∷ 0 ∷ length food ∷ []) ++ (concat-ext n (recordOf next) (recordIn n all) record-is k ++ (bodies-are n (le-refl n) k ++ food)))
+
+    pub image-long : length (imageOf next) ≡ front n + sumBelow n (sizes all) + length food
+    image-long =
+        let t = concatBelow n (recordIn n all) in
+        let b = concatBelow n (bodyIn w all) in
+        omega (arith, ap length image-is, length-append t (b ++ food), length-append b food, records-long n n all, bodies-long n)
+
+-- ---- the writes
+
+head-by : (l : Bool) (c : ℕ) (b : Bool) → l ≡ b → (c ∷ [] if l else []) ≡ (c ∷ [] if b else [])
+head-by l c b e = ap (λ (b : Bool). c ∷ [] if b else []) e
+
+module _ (d : List ℕ) (at : ℕ) (a : After) where
+  pub head-written : at + length (headOf a) ≤ length d → a .lives ≡ true → Written d at (headOf a) (set d at (a .cell)) (at + 1)
+  head-written h e =
+      let p : headOf a ≡ a .cell ∷ [] = head-by (a .lives) (a .cell) true e in
+      record {
+        words = sets-write d at (a .cell ∷ []) (omega (arith, ap length p)) ∙ ap (writeAt d at) (sym p);
+        end = omega (arith, ap length p);
+      }
+
+  pub head-left : a .lives ≡ false → Written d at (headOf a) d at
+  head-left e =
+      let p : headOf a ≡ [] = head-by (a .lives) (a .cell) false e in
+      record {
+        words = sym (ap (writeAt d at) p ∙ write-none d at);
+        end = omega (arith, ap length p);
+      }
+
+-- the contents, the records, the bodies and the food, one after the other
+module _ (w : List ℕ) (all : List After) (parts : Parts w all) (n g due : ℕ) (food : List ℕ) (foods : ℕ) (d o p q r : List ℕ) (at : ℕ)
+    (counted : foods ≡ length food)
+    (room : front n + sumBelow n (sizes all) + foods ≤ length d)
+    (one : o ≡ writeAt d 0 (n ∷ g ∷ due ∷ 0 ∷ foods ∷ []))
+    (two : p ≡ writeAt o 5 (concatBelow n (recordIn n all))) where
+  pub two-long : length p ≡ length d
+  two-long =
+      let z = records-long n n all in
+      let e : length o ≡ length d = ap length one ∙ length-write d 0 (n ∷ g ∷ due ∷ 0 ∷ foods ∷ []) (omega arith) in
+      ap length two ∙ length-write o 5 (concatBelow n (recordIn n all)) (omega arith) ∙ e
+
+  module _ (three : Written p (front n) (concatBelow n (bodyIn w all)) q at) where
+    pub three-long : length q ≡ length d
+    three-long = written-long p (front n) (concatBelow n (bodyIn w all)) q at three (omega (arith, two-long, bodies-long w all parts n)) ∙ two-long
+
+    pub at-is : at ≡ front n + sumBelow n (sizes all)
+    at-is = omega (arith, three .end, bodies-long w all parts n)
+
+    pub state-written : r ≡ writeAt q at food → r ≡ writeAt d 0 (imageOf (nextOf w all n g due food))
+    state-written four =
+        let t = concatBelow n (recordIn n all) in
+        let b = concatBelow n (bodyIn w all) in
+        let h : List ℕ = n ∷ g ∷ due ∷ 0 ∷ foods ∷ [] in
+        four
+        ∙ ap (λ (l : List ℕ). writeAt l at food) (three .words)
+        ∙ ap (λ (l : List ℕ). writeAt (writeAt l (front n) b) at food) two
+        ∙ ap (λ (l : List ℕ). writeAt (writeAt (writeAt l 5 t) (front n) b) at food) one
+        ∙ four-writes d h t b food 5 (front n) at refl (omega (arith, records-long n n all)) (three .end)
+        ∙ ap (λ (k : ℕ). writeAt d 0 ((n ∷ g ∷ due ∷ 0 ∷ k ∷ []) ++ (t ++ (b ++ food)))) counted
+        ∙ ap (writeAt d 0) (sym (image-is w all parts n g due food))

@@ -1,0 +1,27 @@
+-- The judged array is the definition's world, and ready to be applied.
+use mathlib.Core.Path.{_≡_, subst}
+use mathlib.Core.List.{List}
+use Prim.Native.Nat.{ℕ}
+use denote.Ref.{now}
+use Rattle.rules.specs.Step.{Outcome}
+use Rattle.step.specs.Applied.{Applied}
+use Rattle.step.proofs.Asked.{judged-ready}
+use Rattle.step.proofs.Judging.{stepped-by}
+use borrow.Author.Needs.{needs}
+use Rattle.step.proofs.gate.go_on.Statement.{statement}
+use Rattle.step.proofs.gate.go_on.Tie as tie
+
+judge-requires : tie.Need-judge-requires
+judge-requires c κs = search needs
+
+apply-requires : tie.Need-apply-requires
+apply-requires c κs = (c .before .before .before .before .before .pre .0, judged-ready _ _ _ (c .before .judge .ensures))
+
+same-length : tie.Need-same-length
+same-length c = search needs
+
+returns : tie.Need-returns
+returns c = rw (← (stepped-by _ _ _ _ (c .before .before .before .before .judge .ensures))) at (c .before .before .apply .ensures)
+
+pub go-on-spec : {M : Type 1} → statement M
+go-on-spec = tie.close (tie.spec judge-requires apply-requires same-length returns)

@@ -1,0 +1,28 @@
+use mathlib.Core.Path.{refl, _∙_}
+use borrow.Author.Tests.{eq-eqb, ne-eqb, not-true, not-false}
+use denote.Ref.{now}
+use borrow.Author.Needs.{needs}
+use Rattle.step.proofs.Judging.{stops-by}
+use Rattle.step.proofs.judge.stops.Statement.{statement}
+use Rattle.step.proofs.judge.stops.Tie as tie
+
+returns : tie.Need-returns
+returns c =
+    let a = c .before .before .args in
+    stops-by (now (a .image)) (a .i) (a .j) (a .you) (a .cell) (eq-eqb _ _ (c .if1 .taken)) refl
+
+returns-2 : tie.Need-returns-2
+returns-2 c =
+    let a = c .before .before .before .before .args in
+    stops-by (now (a .image)) (a .i) (a .j) (a .you) (a .cell) (ne-eqb _ _ (c .before .before .if1 .left)) (not-true _ (c .if2 .taken))
+
+holds-in-requires : tie.Need-holds-in-requires
+holds-in-requires c κs = search needs
+
+returns-3 : tie.Need-returns-3
+returns-3 c =
+    let a = c .before .before .before .before .before .args in
+    c .holds-in .ensures ∙ stops-by (now (a .image)) (a .i) (a .j) (a .you) (a .cell) (ne-eqb _ _ (c .before .before .before .if1 .left)) (not-false _ (c .before .if2 .left))
+
+pub stops-spec : {M : Type 1} → statement M
+stops-spec = tie.close (tie.spec returns returns-2 holds-in-requires returns-3)

@@ -1,0 +1,31 @@
+-- What the applying half requires of the judging one, and what it promises. Assumes nothing.
+use Prim.Native.Nat.{ℕ, _+_, _<_, _≤_}
+use mathlib.Core.Bool.{false}
+use mathlib.Core.List.{List}
+use mathlib.Core.Path.{_≡_}
+use lib.Dec.{ltb}
+use lib.ListN.{length, replicate}
+use Rattle.lists.specs.Choice.{_if_else_}
+use Rattle.rules.specs.declared.Stepped.{Stepped}
+use Rattle.rules.specs.Events.{blank, eight}
+use Rattle.rules.specs.Image.{snakesIn, sideIn, imageOf}
+use Rattle.rules.specs.Says.{Says, refuses, gives, seen, beside, lent, says}
+use Rattle.rules.specs.Step.{causeOf, Outcome}
+use Rattle.step.specs.declared.Judged.{Judged}
+use Rattle.step.specs.World.{movesOf, causesOf, judgedWorld}
+
+-- a judged array: each cause is that of the world it holds, each rest is a part of the image, no longer than a body
+pub record Ready (w : List ℕ) (js : List Judged) : Type 0 where
+  pub causes : (i : ℕ) → i < snakesIn w → causesOf js i ≡ causeOf (sideIn w) (snakesIn w) (judgedWorld w js) i
+  pub parts : (i : ℕ) → i < snakesIn w → movesOf js i .start + movesOf js i .keep ≤ length w
+  pub short : (i : ℕ) → i < snakesIn w → movesOf js i .keep ≤ 1024
+
+-- 29 is the last refusal of a step
+abbrev pub roomFor : Outcome → ℕ → Says Outcome
+roomFor o room = refuses 29 if ltb room (length (imageOf (o .next))) else gives o
+
+pub record Applied (o : Outcome) (old new : List ℕ) (r : Stepped) : Type 0 where
+  pub answer : says (r .answer) ≡ seen (λ o. length (imageOf (o .next))) (roomFor o (length old))
+  pub terminal : r .terminal ≡ beside (λ o. o .terminal) false (roomFor o (length old))
+  pub events : r .events ≡ beside (λ o. eight (o .events)) (replicate 8 blank) (roomFor o (length old))
+  pub words : new ≡ lent (λ o. imageOf (o .next)) old (roomFor o (length old))

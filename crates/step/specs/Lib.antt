@@ -1,0 +1,8 @@
+pub mod World
+pub mod After
+pub mod Left
+pub mod Next
+pub mod Applied
+pub mod Moving
+pub mod Judging
+pub mod Asked
