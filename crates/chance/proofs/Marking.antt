@@ -2,18 +2,19 @@
 use mathlib.Core.Path.{_≡_, sym, ap, ap₂, _∙_, subst}
 use mathlib.Core.Bool.{true, false}
 use mathlib.Core.List.{List}
-use Prim.Native.Nat.{ℕ, _+_, _-_, _≤_, _<_, _^_, min}
-use native.Mathlib.Nat.{mul-pos, lt-irrefl}
+use Prim.Native.Nat.{ℕ, _-_, _≤_, _<_, _^_, min}
+use native.Mathlib.Nat.{lt-irrefl}
 use native.Mathlib.Omega.{arith}
 use lib.Dec.{eqb, ltb}
-use lib.ListN.{length, take, drop, List·getD-eq-default}
-use lib.Seq.{getD-drop}
+use lib.ListN.{length, take, drop}
 use borrow.Author.Tests.{ltb-false}
 use Rattle.lists.specs.Choice.{_if_else_}
 use Rattle.lists.specs.Boards.{Under}
 use Rattle.lists.specs.Products.{falling}
 use Rattle.lists.proofs.Tests.{ordered, less, more}
+use Rattle.lists.proofs.Boards.{rest-under}
 use Rattle.lists.proofs.Lists.{rest-is}
+use Rattle.rules.proofs.Parts.{area-min}
 use Rattle.lists.proofs.Products.{falling-pos}
 use Rattle.rules.specs.State.{State}
 use Rattle.rules.specs.Image.{front, snakesIn, dueIn, birthIn, areaIn, stateOf}
@@ -45,17 +46,8 @@ outcomes-some t = falling-pos (length (free t)) (drawSize t) (omega arith)
 -- ---- the words past the records
 
 module _ (w : List ℕ) (s : Sound w) where
-  pub area-some : 0 < areaIn w
-  area-some = mul-pos (s .side-min) (s .side-min)
-
   pub words-under : Under (areaIn w) (take (length w - front (snakesIn w)) (drop (front (snakesIn w)) w))
-  words-under k =
-      let f = front (snakesIn w) in
-      rw (rest-is w f, getD-drop f w k 0)
-      (elim (ordered (f + k) (length w)) [
-        | less l t ↦ s .cells (f + k) (omega arith) l
-        | more l t ↦ rw (List·getD-eq-default w 0 l) area-some
-      ])
+  words-under k = rw (rest-is w (front (snakesIn w))) (rest-under w (areaIn w) (front (snakesIn w)) (area-min w s) (s .cells) k)
 
   module _ (board : List ℕ) (r : Odds)
       (m : Marks (take (length w - front (snakesIn w)) (drop (front (snakesIn w)) w)) (areaIn w) board (r .free))

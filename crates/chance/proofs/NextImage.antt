@@ -22,15 +22,12 @@ use Rattle.rules.proofs.Facts.{start-first, start-mono}
 use Rattle.rules.proofs.Fairness.{listed}
 use Rattle.rules.proofs.Sets.{with-long}
 use Rattle.rules.proofs.Words.{image-of}
-use Rattle.rules.proofs.Parts.{state-count}
+use Rattle.rules.proofs.Parts.{state-count, food-long}
 use Rattle.chance.specs.Next.{Fresh, nextWords}
 
 module _ (w : List ℕ) (s : Sound w) where
   food-from : 5 ≤ foodStart w
   food-from = let a = start-mono w 0 (snakesIn w) (omega arith) in let b = start-first w in omega arith
-
-  pub food-long : length (foodAt w) ≡ foodCountIn w
-  food-long = length-drop (foodStart w) w ∙ (let e = s .total in omega arith)
 
   -- the records and bodies of the state's image
   abbrev table : List ℕ
@@ -48,7 +45,7 @@ module _ (w : List ℕ) (s : Sound w) where
       let whole : (table ++ bodies) ++ foodAt w ≡ drop 5 w = append-assoc table bodies (foodAt w) ∙ past-five in
       let l : length (table ++ bodies) ≡ foodStart w - 5 =
       let a = ap length whole in let t = s .total in let f = food-from in
-      omega (arith, length-append (table ++ bodies) (foodAt w), length-drop 5 w, food-long) in
+      omega (arith, length-append (table ++ bodies) (foodAt w), length-drop 5 w, food-long w s) in
       sym (ap (take (foodStart w - 5)) (sym whole) ∙ take-at (table ++ bodies) (foodAt w) (foodStart w - 5) l)
 
   module _ (i : ℕ) where
@@ -58,7 +55,7 @@ module _ (w : List ℕ) (s : Sound w) where
         let t = stateOf w in
         let cells = drawn t i in
         let f = withFood (foodAt w) cells in
-        let n : length f ≡ foodCountIn w + length cells = with-long cells (foodAt w) ∙ ap (λ (k : ℕ). k + length cells) food-long in
+        let n : length f ≡ foodCountIn w + length cells = with-long cells (foodAt w) ∙ ap (λ (k : ℕ). k + length cells) (food-long w s) in
         (λ j. state-count w j ∷ sideIn w ∷ afterDraw t i .due ∷ bit (afterDraw t i .birth) ∷ n j ∷ (table ++ (bodies ++ f)))
         ∙ ap (λ (r : List ℕ). snakesIn w ∷ sideIn w ∷ afterDraw t i .due ∷ bit (afterDraw t i .birth) ∷ (foodCountIn w + length cells) ∷ r)
         (sym (append-assoc table bodies f) ∙ ap (λ (m : List ℕ). m ++ f) middle)
@@ -69,7 +66,7 @@ module _ (w : List ℕ) (s : Sound w) where
       let f = food-from in
       let t = s .total in
       let a : length (take (foodStart w - 5) (drop 5 w)) ≡ foodStart w - 5 = length-take-le (foodStart w - 5) (drop 5 w) (omega (arith, length-drop 5 w)) in
-      omega (arith, length-append (take (foodStart w - 5) (drop 5 w)) (withFood (foodAt w) cells), with-long cells (foodAt w), food-long)
+      omega (arith, length-append (take (foodStart w - 5) (drop 5 w)) (withFood (foodAt w) cells), with-long cells (foodAt w), food-long w s)
 
   module _ (i : ℕ) (h : i < outcomes (stateOf w)) where
     pub next-long : length (imageOf (afterDraw (stateOf w) i)) ≡ length w + drawSize (stateOf w)

@@ -1,7 +1,7 @@
 -- A part of a list with no number twice has no number twice. Assumes nothing.
 use Prim.Native.Nat.{ℕ, _<_}
 use mathlib.Core.Path.{_≡_, refl, sym, ap, _∙_}
-use mathlib.Core.Bool.{Bool, true, false, not, _&&_, _||_}
+use mathlib.Core.Bool.{Bool, true, false, not, _||_}
 use mathlib.Core.List.{List, [], _∷_, _++_, append-nil}
 use Rattle.lists.specs.Below.{concatBelow}
 use Rattle.lists.specs.Lists.{member, distinct}

@@ -22,3 +22,4 @@ pub mod Pigeonhole
 pub mod Runs
 pub mod Distinct
 pub mod Insert
+pub mod Repeats

@@ -1,8 +1,8 @@
 -- Tests of order on integers, one from the other; how far a number is from zero. Assumes nothing.
 use mathlib.Core.Path.{_≡_, refl}
-use mathlib.Core.Bool.{Bool, true, false, true≢false, false≢true}
+use mathlib.Core.Bool.{true, false, true≢false, false≢true}
 use lib.IntN.{ℤ, pos, negsuc, sucℤ, predℤ}
-use Prim.Native.Nat.{ℕ, zero, suc, _≤_, _<_}
+use Prim.Native.Nat.{zero, suc, _≤_}
 use native.Mathlib.Omega.{arith}
 use lib.Signed.{leZ, ltZ, mag}
 use borrow.Author.Tests.{ltb-true, ltb-false, le-leb, lt-leb}

@@ -1,6 +1,6 @@
 -- One more and one less at an i32: the sum fits, and it is the next number. Assumes nothing.
 use mathlib.Core.Path.{_≡_, sym, ap, _∙_, subst}
-use Prim.Native.Nat.{ℕ, _<_, _^_}
+use Prim.Native.Nat.{_<_}
 use native.Mathlib.Omega.{arith}
 use lib.IntN.{ℤ, pos, sucℤ, predℤ, _+ℤ_, _-ℤ_, +ℤ-one, -ℤ-one}
 use lib.Signed.{mag}

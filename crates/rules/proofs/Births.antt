@@ -1,23 +1,21 @@
 -- 'A birth chain with p due ends after exactly min(p, n+1) draws', whatever indices below the counts it draws. Assumes nothing.
 use mathlib.Core.Path.{_≡_, refl, sym, ap, _∙_, subst}
 use mathlib.Core.Logic.{_⊎_, inl, inr}
-use mathlib.Core.Bool.{Bool, true, not, _||_, or-assoc}
-use mathlib.Core.List.{List, [], _∷_}
+use mathlib.Core.Bool.{true, not, _||_, or-assoc}
+use mathlib.Core.List.{[], _∷_}
 use Prim.Native.Nat.{ℕ, zero, suc, _+_, _-_, _<_, min}
 use native.Mathlib.Nat.{not-suc-le-zero, suc-inj, lt-irrefl, suc-ne-zero, zero-add}
 use native.Mathlib.Omega.{arith}
 use lib.Dec.{eqb}
 use lib.ListN.{length, getD}
 use borrow.Author.Tests.{eq-eqb, ne-eqb}
-use Rattle.lists.specs.Below.{someBelow}
 use Rattle.lists.specs.Lists.{member, without}
 use Rattle.lists.proofs.Lists.{member-at}
 use Rattle.lists.proofs.Members.{length-without}
 use Rattle.lists.proofs.Order.{member-insert}
 use Rattle.lists.proofs.Lowest.{lowest-is}
-use Rattle.rules.specs.State.{State, count, area}
-use Rattle.rules.specs.Image.{bodyOf}
-use Rattle.rules.specs.Chance.{taken, freeFrom, free, outcomes, drawn, withFood, afterDraw}
+use Rattle.rules.specs.State.{State, area}
+use Rattle.rules.specs.Chance.{taken, free, outcomes, drawn, withFood, afterDraw}
 use Rattle.rules.specs.Births.{afterDraws, chainDraws}
 use Rattle.rules.proofs.FreeCells.{free-ext, from-without}
 use Rattle.rules.proofs.Fairness.{born, born-full, birth-count}
@@ -36,10 +34,8 @@ pub free-born : (t : State) (i : ℕ) → t .birth ≡ true → i < length (free
 unfolding free afterDraw withFood
 free-born t i b h =
     let c = getD (free t) i 0 in
-    let bodies : ℕ → Bool = λ x. someBelow (count t) (λ j. member x (bodyOf t j)) in
     let e : drawn t i ≡ c ∷ [] = born t b i h .cell in
-    ap (λ (l : List ℕ). freeFrom (λ x. member x (withFood (t .food) l) || bodies x) 0 (area t)) e
-    ∙ free-ext _ (λ x. eqb x c || taken t x) (area t) 0 (λ x _ _. rw (member-insert c x (t .food)) (or-assoc (eqb x c) (member x (t .food)) (bodies x)))
+    free-ext (taken (afterDraw t i)) (λ x. eqb x c || taken t x) (area t) 0 (λ x _ _. rw (e, member-insert c x (t .food)) (or-assoc (eqb x c) (member x (t .food)) _))
     ∙ from-without (taken t) c (area t) 0
 
 born-left : (t : State) (i m : ℕ) → t .birth ≡ true → i < length (free t) → length (free t) ≡ suc m → length (free (afterDraw t i)) ≡ m

@@ -1,5 +1,5 @@
 -- The check at the ends of its numbers, and the readings of 01 that a porter slips on: each computes at once. Assumes nothing.
-use Prim.Native.Nat.{ℕ, _-_, _^_}
+use Prim.Native.Nat.{ℕ}
 use mathlib.Core.Path.{_≡_, refl}
 use mathlib.Core.Bool.{false}
 use lib.IntN.{ℤ, pos, negsuc}

@@ -1,31 +1,32 @@
 -- The initial state of an accepted setting: its snakes, its image, and that the image is well-formed. Assumes nothing.
-use Prim.Native.Nat.{ℕ, zero, suc, _+_, _*_, _<_, _≤_, zero-le}
+use Prim.Native.Nat.{ℕ, _+_, _*_, _<_, _≤_, zero-le}
 use native.Mathlib.Nat.{le-refl, mul-comm}
 use native.Mathlib.Omega.{arith}
 use mathlib.Core.Path.{_≡_, refl, sym, ap, ap₂, _∙_}
-use mathlib.Core.Bool.{Bool, true, false, not, _&&_}
+use mathlib.Core.Bool.{true}
 use mathlib.Core.List.{List, [], _∷_, _++_, map, append-nil}
 use lib.Dec.{ltb}
 use lib.IntN.{ℤ, pos}
-use lib.ListN.{length, length-map, length-append}
+use lib.ListN.{length, length-map}
 use Rattle.lists.specs.Choice.{bit}
-use Rattle.lists.specs.Below.{eachBelow, concatBelow}
-use Rattle.lists.specs.Lists.{all, member, distinct, ascending}
+use Rattle.lists.specs.Below.{concatBelow}
+use Rattle.lists.specs.Lists.{all, distinct, ascending}
+use Rattle.lists.proofs.Repeats.{sum-same}
 use Rattle.lists.proofs.Below.{each-long, each-at, concat-ext, concat-long, sum-ext}
 use Rattle.lists.proofs.Distinct.{distinct-block}
-use Rattle.rules.specs.Places.{inside, cellOf}
+use Rattle.rules.specs.Places.{cellOf}
 use Rattle.rules.specs.Headings.{numberOf}
-use Rattle.rules.specs.Placement.{placed, startHeading}
-use Rattle.rules.specs.State.{Snake, State, nobody, count, snakeOf, area}
-use Rattle.rules.specs.Image.{front, bodyOf, startOf, recordOf, contentsOf, imageOf, wellFormed}
+use Rattle.rules.specs.Placement.{placed}
+use Rattle.rules.specs.State.{Snake, nobody, count, snakeOf}
+use Rattle.rules.specs.Image.{front, bodyOf, startOf, recordOf, imageOf, wellFormed}
 use Rattle.rules.specs.Facts.{Holdable}
 use Rattle.rules.specs.Setting.{sideOf, areaOf, startSnake, initialState, settingCheck}
-use Rattle.rules.specs.SettingParts.{allOf, cellsOf, startCells, startRecord, startContents}
+use Rattle.rules.specs.SettingParts.{cellsOf, startCells, startRecord, startContents}
 use Rattle.rules.specs.SettingFacts.{Accepts}
 use Rattle.rules.specs.declared.Setting.{Setting}
 use Rattle.rules.proofs.Facts.{square-le}
 use Rattle.rules.proofs.Holdable.{image-well-formed}
-use Rattle.rules.proofs.PlaceCheck.{sum-same, body-inside}
+use Rattle.rules.proofs.PlaceCheck.{body-inside}
 use Rattle.rules.proofs.SettingFacts.{accepts, cells-all}
 
 module _ (s : Setting) (a : Accepts s) where

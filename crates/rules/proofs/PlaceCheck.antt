@@ -1,25 +1,25 @@
 -- Refusals 9 to 12 on a grid of 3 and more, where all places are inside: by how long the bodies are and whether a cell stands twice. Assumes nothing.
-use Prim.Native.Nat.{ℕ, zero, suc, _+_, _*_, _-_, _<_, _≤_}
-use native.Mathlib.Nat.{le-refl, le-antisymm, mul-pos}
+use Prim.Native.Nat.{ℕ, zero, suc, _*_, _-_, _<_, _≤_}
+use native.Mathlib.Nat.{le-antisymm, mul-pos}
 use native.Mathlib.Omega.{arith}
-use mathlib.Core.Path.{_≡_, refl, sym, ap, ap₂, _∙_}
-use mathlib.Core.Bool.{Bool, true, false, not, _&&_, cond}
+use mathlib.Core.Path.{_≡_, refl, ap, _∙_}
+use mathlib.Core.Bool.{Bool, true, false, not}
 use mathlib.Core.Logic.{inl, inr}
-use mathlib.Core.List.{List, [], _∷_, _++_, map}
+use mathlib.Core.List.{List, [], _∷_, map}
 use lib.Dec.{ltb, eqb}
-use lib.IntN.{ℤ, pos}
-use lib.ListN.{length, getD, length-append, length-map, List·getD-map}
-use borrow.Author.Tests.{ltb-false, ltb-true, lt-ltb}
+use lib.IntN.{pos}
+use lib.ListN.{length, getD}
+use borrow.Author.Tests.{ltb-false}
 use Rattle.lists.specs.Choice.{_if_else_}
-use Rattle.lists.specs.Below.{someBelow, sumBelow, concatBelow}
+use Rattle.lists.specs.Below.{concatBelow}
 use Rattle.lists.specs.Boards.{Under}
 use Rattle.lists.specs.Lists.{all, distinct}
-use Rattle.lists.proofs.Tests.{tell, both, and-left, and-right}
-use Rattle.lists.proofs.Below.{some-never, concat-long, sum-le, sum-ext}
-use Rattle.lists.proofs.Lists.{all-append}
+use Rattle.lists.proofs.Tests.{tell, and-left, and-right}
+use Rattle.lists.proofs.Repeats.{map-concat, all-concat, sum-same}
+use Rattle.lists.proofs.Below.{some-never, concat-long, sum-ext}
 use Rattle.rules.specs.Places.{inside, cellOf}
-use Rattle.rules.specs.Placement.{tracing, even, traced, placed}
-use Rattle.rules.specs.Setting.{sideOf, badCell}
+use Rattle.rules.specs.Placement.{tracing, even, placed}
+use Rattle.rules.specs.Setting.{badCell}
 use Rattle.rules.specs.SettingParts.{startPlace, allOf, someShortOf, placeCheck, cellsOf}
 use Rattle.rules.specs.declared.Place.{Place}
 use Rattle.rules.proofs.Facts.{square-le}
@@ -27,27 +27,6 @@ use Rattle.rules.proofs.Places.{cell-below}
 use Rattle.rules.proofs.Placement.{traced-short, traced-inside, traced-reach}
 use Rattle.rules.proofs.Starts.{start-inside}
 use Rattle.rules.proofs.Taken.{bad-repeats}
-
--- ---- lists one after the other
-
-pub map-append : {A B : Type 0} (f : A → B) (xs ys : List A) → map f (xs ++ ys) ≡ map f xs ++ map f ys
-map-append f [] ys = refl
-map-append f (x ∷ xs) ys = ap (λ (l : List _). f x ∷ l) (map-append f xs ys)
-
-pub map-concat : {A B : Type 0} (f : A → B) (n : ℕ) (h : ℕ → List A) → map f (concatBelow n h) ≡ concatBelow n (λ i. map f (h i))
-unfolding concatBelow
-map-concat f zero h = refl
-map-concat f (suc n) h = map-append f (concatBelow n h) (h n) ∙ ap (λ (l : List _). l ++ map f (h n)) (map-concat f n h)
-
-pub all-concat : {A : Type 0} (p : A → Bool) (n : ℕ) (h : ℕ → List A) → ((i : ℕ) → i < n → all p (h i) ≡ true) → all p (concatBelow n h) ≡ true
-unfolding concatBelow all
-all-concat p zero h k = refl
-all-concat p (suc n) h k = all-append p (concatBelow n h) (h n) ∙ both (all-concat p n h (λ i l. k i (omega arith))) (k n (le-refl _))
-
-pub sum-same : (n k : ℕ) → sumBelow n (λ i. k) ≡ n * k
-unfolding sumBelow
-sum-same zero k = omega arith
-sum-same (suc n) k = omega (arith, sum-same n k)
 
 -- the cells of places inside are below the area
 cells-below : (g : ℕ) (ps : List Place) → 1 ≤ g → all (inside (pos g)) ps ≡ true → (j : ℕ) → getD (map (cellOf g) ps) j 0 < g * g

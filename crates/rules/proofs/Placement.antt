@@ -1,16 +1,14 @@
 -- Laws of a trace: what its next place is, that it stays inside, that it is no longer than asked for and never long. Assumes nothing.
-use Prim.Native.Nat.{ℕ, zero, suc, _+_, _*_, _-_, _<_, _≤_, zero-le, suc-le-suc}
+use Prim.Native.Nat.{ℕ, zero, suc, _+_, _*_, _-_, _≤_, zero-le, suc-le-suc}
 use native.Mathlib.Omega.{arith}
-use native.Mathlib.Nat.{le-refl, le-trans}
-use mathlib.Core.Path.{_≡_, refl, sym, ap, _∙_}
-use mathlib.Core.Bool.{Bool, true, false, _&&_, cond, false≢true}
+use mathlib.Core.Path.{_≡_, refl}
+use mathlib.Core.Bool.{true, false, false≢true}
 use mathlib.Core.Logic.{inl, inr}
 use mathlib.Core.List.{List, [], _∷_}
-use lib.Dec.{leb, ltb}
 use lib.IntN.{ℤ, pos, negsuc, sucℤ, predℤ, natAbs}
 use lib.ListN.{length}
 use Rattle.lists.specs.Lists.{all}
-use Rattle.lists.proofs.Tests.{tell, both, and-left, and-right}
+use Rattle.lists.proofs.Tests.{tell, both}
 use Rattle.rules.specs.Places.{ahead, within, inside}
 use Rattle.rules.specs.Placement.{unblocked, trail, traced}
 use Rattle.rules.specs.declared.Place.{Place}

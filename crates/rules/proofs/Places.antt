@@ -1,16 +1,16 @@
 -- Places inside the grid and cells: one for one. Assumes nothing.
-use Prim.Native.Nat.{ℕ, zero, suc, _+_, _*_, _/_, _%_, _<_, _≤_, zero-le}
+use Prim.Native.Nat.{ℕ, suc, _+_, _*_, _/_, _%_, _<_, _≤_, zero-le}
 use native.Mathlib.Omega.{arith}
 use native.Mathlib.Nat.{mul-le-mul-right, add-comm, add-mul-div-right, add-mul-mod-self-right, div-eq-of-lt, mod-eq-of-lt}
-use mathlib.Core.Path.{_≡_, refl, sym, ap, ap₂, subst, _∙_}
-use mathlib.Core.Bool.{Bool, true, false, _&&_, true≢false, false≢true}
+use mathlib.Core.Path.{_≡_, sym, ap, ap₂, _∙_}
+use mathlib.Core.Bool.{true, false, false≢true}
 use lib.Dec.{T, leb, ltb, eqb}
 use lib.IntN.{ℤ, pos, negsuc, natAbs}
-use lib.Signed.{leZ, ltZ, nonNeg}
-use borrow.Author.Tests.{le-leb, ltb-true, lt-ltb, eqb-true, eq-eqb, ne-eqb}
+use lib.Signed.{nonNeg}
+use borrow.Author.Tests.{le-leb, ltb-true, lt-ltb, eqb-true, eq-eqb}
 use Rattle.lists.proofs.Tests.{and-left, and-right, both}
 use Rattle.lists.proofs.Members.{agree}
-use Rattle.rules.specs.Places.{within, inside, sameZ, same, cellOf, placeOf}
+use Rattle.rules.specs.Places.{within, inside, sameZ, same, cellOf}
 use Rattle.rules.specs.declared.Place.{Place}
 
 -- ---- one coordinate

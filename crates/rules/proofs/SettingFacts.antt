@@ -1,25 +1,25 @@
 -- An accepted setting has the facts of its tests; no grid below 3 is accepted. Assumes nothing.
-use Prim.Native.Nat.{ℕ, zero, suc, _+_, _*_, _-_, _<_, _≤_}
+use Prim.Native.Nat.{ℕ, zero, suc, _+_, _*_, _-_, _≤_}
 use native.Mathlib.Nat.{suc-ne-zero, le-refl, le-trans, mul-le-mul}
 use native.Mathlib.Omega.{arith}
 use mathlib.Core.Path.{_≡_, refl, sym, ap, _∙_}
-use mathlib.Core.Bool.{Bool, true, false, not, _&&_, true≢false, false≢true}
+use mathlib.Core.Bool.{Bool, true, false, not, _&&_, true≢false}
 use mathlib.Core.Logic.{inl, inr}
 use mathlib.Core.List.{List, [], _∷_, map}
 use lib.Dec.{ltb, eqb}
 use lib.IntN.{ℤ, pos}
 use lib.ListN.{length, length-map}
 use lib.Signed.{ltZ}
-use borrow.Author.Tests.{ltb-false, lt-ltb, eqb-true, eq-eqb, not-false}
+use borrow.Author.Tests.{ltb-false, lt-ltb, eqb-true, not-false}
 use Rattle.lists.specs.Choice.{_if_else_}
 use Rattle.lists.specs.Below.{concatBelow}
 use Rattle.lists.specs.Lists.{all, distinct}
-use Rattle.lists.proofs.Tests.{tell, and-left, and-right, both, or-false-left}
+use Rattle.lists.proofs.Tests.{tell, and-left, and-right, both}
 use Rattle.lists.proofs.Pigeonhole.{cells-short}
 use Rattle.rules.specs.Places.{inside, cellOf}
 use Rattle.rules.specs.Placement.{placed}
-use Rattle.rules.specs.Setting.{isSet, isZero, sideOf, areaOf, bodyPlaced, allPlaced, settingCheck}
-use Rattle.rules.specs.SettingParts.{allOf, someShortOf, limitsCheck, Limited, placeCheck, cellsOf, startCells}
+use Rattle.rules.specs.Setting.{isSet, isZero, sideOf, settingCheck}
+use Rattle.rules.specs.SettingParts.{allOf, someShortOf, Limited, placeCheck, cellsOf}
 use Rattle.rules.specs.SettingFacts.{Accepts}
 use Rattle.rules.specs.declared.Place.{Place}
 use Rattle.rules.specs.declared.Setting.{Setting}

@@ -1,11 +1,11 @@
 -- The check of a setting is its first half, and its second where the first finds nothing. Assumes nothing.
-use Prim.Native.Nat.{ℕ, zero, suc, _≤_, _<_, _^_}
+use Prim.Native.Nat.{ℕ, zero, suc, _≤_, _^_}
 use native.Mathlib.Nat.{suc-ne-zero}
 use native.Mathlib.Omega.{arith}
-use mathlib.Core.Path.{_≡_, refl, sym, ap, _∙_}
+use mathlib.Core.Path.{_≡_, refl, sym, _∙_}
 use mathlib.Core.Bool.{Bool, true, false, not, _&&_, _||_}
 use lib.Dec.{ltb, eqb}
-use lib.IntN.{ℤ, pos}
+use lib.IntN.{pos}
 use lib.Signed.{ltZ}
 use borrow.Author.Tests.{ltb-false, eqb-false}
 use Rattle.lists.specs.Choice.{_if_else_}

@@ -1,16 +1,15 @@
 -- Where snakes start on a grid that is not negative, in plain numbers; from side 3 on every start is inside. Assumes nothing.
-use Prim.Native.Nat.{ℕ, zero, suc, _+_, _*_, _-_, _/_, _%_, _<_, _≤_, suc-le-suc}
+use Prim.Native.Nat.{ℕ, zero, suc, _*_, _-_, _/_, _<_, _≤_, suc-le-suc}
 use native.Mathlib.Nat.{div-le-self, div-lt-iff-lt-mul, mul-comm, mul-lt-mul-of-pos-right, zero-lt-suc}
 use mathlib.Core.Logic.{inl, inr}
 use native.Mathlib.Omega.{arith}
 use mathlib.Core.Path.{_≡_, refl, sym, ap, _∙_}
-use mathlib.Core.Bool.{Bool, true, false, cond, true≢false, false≢true}
-use lib.Dec.{T, ltb, eqb}
-use lib.IntN.{ℤ, pos, negsuc, negℤ, subℕ, natAbs, _+ℤ_, _-ℤ_}
-use lib.Signed.{ltZ, nonNeg, quotZ}
+use mathlib.Core.Bool.{true, false, true≢false, false≢true}
+use lib.Dec.{T, eqb}
+use lib.IntN.{ℤ, pos, negsuc, natAbs, _-ℤ_}
+use lib.Signed.{ltZ, nonNeg}
 use borrow.Author.Tests.{le-ltb, ltb-false, ltb-true}
-use Rattle.lists.specs.Choice.{_if_else_}
-use Rattle.lists.proofs.Tests.{both, compared, same, other, tell}
+use Rattle.lists.proofs.Tests.{both, tell}
 use Rattle.rules.specs.Places.{within, inside}
 use Rattle.rules.specs.Placement.{rowOf, even, colOf}
 use Rattle.rules.specs.Setting.{sideOf}

@@ -1,7 +1,7 @@
 -- The check of a setting in two halves, numbers and places, as code goes about it; each over just what it depends on. Assumes nothing.
-use Prim.Native.Nat.{ℕ, zero, suc, _+_, _*_, _-_, _^_, _<_, _≤_, min}
+use Prim.Native.Nat.{ℕ, zero, suc, _+_, _*_, _-_, _^_, _≤_}
 use mathlib.Core.Path.{_≡_}
-use mathlib.Core.Bool.{Bool, true, false, not, _&&_, _||_}
+use mathlib.Core.Bool.{Bool, false, not, _&&_, _||_}
 use mathlib.Core.List.{List, [], _∷_, map}
 use lib.Dec.{ltb, eqb}
 use lib.ListN.{length}
@@ -9,7 +9,6 @@ use lib.IntN.{ℤ, pos}
 use lib.Signed.{ltZ}
 use Rattle.lists.specs.Choice.{_if_else_, bit}
 use Rattle.lists.specs.Below.{someBelow, concatBelow}
-use Rattle.lists.specs.Products.{falling}
 use Rattle.rules.specs.Places.{cellOf}
 use Rattle.rules.specs.Headings.{numberOf}
 use Rattle.rules.specs.Image.{front}

@@ -1,5 +1,5 @@
 -- What the loop that traces a body keeps: the cells of the places so far are written, and what is to come is the rest of the body. Assumes nothing.
-use Prim.Native.Nat.{ℕ, zero, suc, _+_, _-_, _*_, _<_, _≤_}
+use Prim.Native.Nat.{ℕ, _+_, _-_, _<_, _≤_}
 use native.Mathlib.Nat.{le-refl, sub-zero}
 use native.Mathlib.Omega.{arith}
 use mathlib.Core.Path.{_≡_, refl, sym, ap, _∙_}
@@ -7,7 +7,7 @@ use mathlib.Core.Bool.{Bool, true}
 use mathlib.Core.List.{List, map}
 use lib.IntN.{ℤ, pos, negsuc, natAbs}
 use lib.Signed.{mag}
-use lib.ListN.{length, getD, drop, set, length-set, length-map}
+use lib.ListN.{length, drop, set, length-set, length-map}
 use lib.Seq.{paste, paste-zero}
 use Rattle.rules.specs.Places.{inside, cellOf}
 use Rattle.rules.specs.Placement.{traced}

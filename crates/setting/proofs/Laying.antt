@@ -1,21 +1,20 @@
 -- What the loop that places the snakes keeps: the bodies so far stand one after the other, and none of them is short. Assumes nothing.
-use Prim.Native.Nat.{ℕ, zero, suc, _+_, _-_, _*_, _%_, _<_, _≤_}
+use Prim.Native.Nat.{ℕ, _+_, _<_, _≤_}
 use native.Mathlib.Omega.{arith}
-use native.Mathlib.Nat.{le-refl}
 use mathlib.Core.Path.{_≡_, refl, sym, ap, ap₂, _∙_}
 use mathlib.Core.Bool.{Bool, true, false, not, false≢true, _||_}
-use mathlib.Core.List.{List, [], map}
-use lib.Dec.{ltb, eqb}
-use lib.IntN.{ℤ, pos}
+use mathlib.Core.List.{List, map}
+use lib.Dec.{ltb}
+use lib.IntN.{pos}
 use lib.ListN.{length, length-map}
 use borrow.Author.Tests.{lt-ltb, le-ltb}
 use Rattle.lists.specs.Below.{someBelow, concatBelow}
 use Rattle.lists.specs.Lists.{writeAt}
-use Rattle.lists.proofs.Below.{some-none, some-next, some-found, concat-none, concat-long, sum-le}
-use Rattle.lists.proofs.Writes.{write-none, turn-start, turn-start-at, turn-next, turn-next-at, length-write}
+use Rattle.lists.proofs.Below.{some-none, some-next, some-found, concat-long, sum-le}
+use Rattle.lists.proofs.Writes.{turn-start, turn-start-at, turn-next, turn-next-at, length-write}
 use Rattle.rules.specs.Places.{cellOf}
 use Rattle.rules.specs.Placement.{even, traced, placed}
-use Rattle.rules.specs.SettingParts.{startPlace, someShortOf, cellsOf}
+use Rattle.rules.specs.SettingParts.{startPlace, cellsOf}
 use Rattle.rules.specs.declared.Place.{Place}
 use Rattle.rules.proofs.PlaceCheck.{body-reach}
 use Rattle.setting.specs.Traces.{turnsOf, Wrote, Placed, Ready}

@@ -3,7 +3,6 @@ use Prim.Native.Nat.{ℕ, zero, suc, _+_, _-_, _*_, _<_, _≤_}
 use native.Mathlib.Nat.{sub-zero}
 use native.Mathlib.Omega.{arith}
 use mathlib.Core.Path.{_≡_, refl, sym, ap, _∙_}
-use mathlib.Core.Bool.{true, false}
 use mathlib.Core.List.{List, [], _∷_, _++_}
 use lib.Dec.{ltb}
 use lib.ListN.{length, take, drop, length-append}
@@ -12,6 +11,7 @@ use borrow.Author.Tests.{lt-ltb, le-ltb}
 use Rattle.lists.specs.Choice.{_if_else_, bit}
 use Rattle.lists.specs.Below.{concatBelow}
 use Rattle.lists.specs.Lists.{writeAt, overFront}
+use Rattle.lists.proofs.Repeats.{sum-same}
 use Rattle.lists.proofs.Below.{concat-long, sum-ext}
 use Rattle.lists.proofs.Concat.{blocks-long}
 use Rattle.lists.proofs.Writes.{write-front}
@@ -20,15 +20,13 @@ use Rattle.rules.specs.Image.{imageOf}
 use Rattle.rules.specs.Calls.{initialSays}
 use Rattle.rules.specs.Promises.{Starts}
 use Rattle.rules.specs.Says.{Says, refuses, gives, first, seen, lent, says}
-use Rattle.rules.specs.Setting.{sideOf, settingCheck, initialState, areaOf}
-use Rattle.rules.specs.SettingFacts.{Accepts}
+use Rattle.rules.specs.Setting.{sideOf, settingCheck, initialState}
 use Rattle.rules.specs.SettingParts.{cellsOf, startCells, startRecord, startContents}
 use Rattle.rules.specs.declared.Answer.{Answer}
 use Rattle.rules.specs.declared.Answer.the-variants.{Done, Refused}
 use Rattle.rules.specs.declared.Setting.{Setting}
 use Rattle.rules.proofs.Facts.{square-le}
 use Rattle.rules.proofs.InitialFacts.{cells-long, start-image}
-use Rattle.rules.proofs.PlaceCheck.{sum-same}
 use Rattle.rules.proofs.SettingFacts.{accepts}
 use Rattle.setting.specs.Starts.{Room}
 

@@ -1,6 +1,5 @@
 -- Refusals 6 to 8 over just what they depend on. Assumes nothing.
 use Prim.Native.Nat.{ℕ, _*_, _^_, min}
-use mathlib.Core.Bool.{true, false}
 use lib.Dec.{ltb}
 use Rattle.lists.specs.Choice.{_if_else_}
 use Rattle.lists.specs.Products.{falling}

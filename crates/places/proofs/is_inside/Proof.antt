@@ -1,11 +1,10 @@
-use mathlib.Core.Path.{_≡_, refl, sym, ap, _∙_}
+use mathlib.Core.Path.{_≡_}
 use mathlib.Core.Bool.{true, false}
-use lib.IntN.{ℤ, pos}
-use lib.Signed.{ltZ, leZ}
+use lib.IntN.{pos}
+use lib.Signed.{ltZ}
 use mir.Syntax.{w32}
 use mir.Val.{toZ, ofZ}
-use mir.Facts.{toZ-ofZ}
-use borrow.Author.Needs.{needs, sfits-of}
+use borrow.Author.Needs.{needs}
 use Rattle.lists.proofs.Signs.{lt-not-le, not-lt-le}
 use Rattle.places.proofs.is_inside.Statement.{statement}
 use Rattle.places.proofs.is_inside.Tie as tie

@@ -1,5 +1,5 @@
-use mathlib.Core.Path.{_≡_, refl, ap}
-use lib.IntN.{ℤ, natAbs}
+use mathlib.Core.Path.{_≡_, ap}
+use lib.IntN.{natAbs}
 use mir.Syntax.{w32}
 use mir.Val.{toZ, ofZ}
 use borrow.Author.Needs.{needs}

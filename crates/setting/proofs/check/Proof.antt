@@ -1,14 +1,10 @@
-use mathlib.Core.Path.{_≡_, refl, sym, ap, _∙_}
+use mathlib.Core.Path.{sym, _∙_}
 use denote.Ref.{now}
 use Rattle.rules.proofs.SettingParts.{limited}
 use Rattle.setting.proofs.Judging.{judge-first, judge-second}
 use borrow.Author.Needs.{needs}
 use Rattle.setting.proofs.check.Statement.{statement}
 use Rattle.setting.proofs.check.Tie as tie
-use Rattle.setting.proofs.check.Reads as reads
-use Rattle.setting.proofs.check.Lts as lts
-use Rattle.setting.proofs.limits.limits.Reads as limits-reads
-use Rattle.setting.proofs.place.place_check.Reads as place-check-reads
 
 limits-requires : tie.Need-limits-requires
 limits-requires c κs = search needs

@@ -1,16 +1,11 @@
-use Prim.Native.Nat.{ℕ, _+_, _*_, _≤_, _<_}
 use native.Mathlib.Omega.{arith}
-use mathlib.Core.Path.{_≡_, refl, sym, ap, _∙_}
+use mathlib.Core.Path.{_≡_, sym, _∙_}
 use denote.Ref.{now}
 use Rattle.rules.specs.Setting.{settingCheck}
 use Rattle.setting.proofs.Starting.{total-most, part-cells, starts-refused}
 use borrow.Author.Needs.{needs}
 use Rattle.setting.proofs.initial_state.Statement.{statement}
 use Rattle.setting.proofs.initial_state.Tie as tie
-use Rattle.setting.proofs.initial_state.Reads as reads
-use Rattle.setting.proofs.initial_state.Lts as lts
-use Rattle.setting.proofs.check.Reads as check-reads
-use Rattle.setting.proofs.write_state.Reads as write-state-reads
 
 slice-aggregate-check : tie.Need-slice-aggregate-check
 slice-aggregate-check c = search needs

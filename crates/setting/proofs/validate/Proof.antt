@@ -1,14 +1,10 @@
-use mathlib.Core.Path.{_≡_, refl, sym, ap, _∙_}
+use mathlib.Core.Path.{ap, _∙_}
 use Prim.Native.Nat.{ℕ}
 use Rattle.rules.specs.Calls.{settingSays}
 use Rattle.rules.specs.Says.{first, gives}
 use borrow.Author.Needs.{needs}
 use Rattle.setting.proofs.validate.Statement.{statement}
 use Rattle.setting.proofs.validate.Tie as tie
-use Rattle.setting.proofs.validate.Reads as reads
-use Rattle.setting.proofs.validate.Lts as lts
-use Rattle.setting.proofs.check.Reads as check-reads
-use Rattle.setting.proofs.verdict.Reads as verdict-reads
 
 slice-aggregate-check : tie.Need-slice-aggregate-check
 slice-aggregate-check c = search needs

@@ -2,8 +2,6 @@ use Rattle.setting.proofs.Judging.{first-refuses}
 use borrow.Author.Needs.{needs}
 use Rattle.setting.proofs.verdict.Statement.{statement}
 use Rattle.setting.proofs.verdict.Tie as tie
-use Rattle.setting.proofs.verdict.Reads as reads
-use Rattle.setting.proofs.verdict.Lts as lts
 
 returns : tie.Need-returns
 returns c = search needs

@@ -1,6 +1,6 @@
-use Prim.Native.Nat.{ℕ, _+_, _*_, _≤_, _<_}
+use Prim.Native.Nat.{_≤_}
 use native.Mathlib.Omega.{arith}
-use mathlib.Core.Path.{_≡_, refl, sym, ap, _∙_}
+use mathlib.Core.Path.{_≡_, ap, _∙_}
 use lib.ListN.{length}
 use mir.Syntax.{w32}
 use mir.Val.{toZ, ofZ}
@@ -12,10 +12,6 @@ use Rattle.setting.proofs.Starting.{total-is, total-most, fits, starts-
 use borrow.Author.Needs.{needs}
 use Rattle.setting.proofs.write_state.Statement.{statement}
 use Rattle.setting.proofs.write_state.Tie as tie
-use Rattle.setting.proofs.write_state.Reads as reads
-use Rattle.setting.proofs.write_state.Lts as lts
-use Rattle.setting.proofs.limits.side_of.Reads as side-of-reads
-use Rattle.setting.proofs.start.write_start.Reads as write-start-reads
 
 mul-words : tie.Need-mul-words
 mul-words c =

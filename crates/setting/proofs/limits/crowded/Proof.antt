@@ -1,8 +1,7 @@
-use Prim.Native.Nat.{ℕ, _*_, _≤_, min}
-use native.Mathlib.Nat.{mul-le-mul, min-le-right, le-trans}
+use Prim.Native.Nat.{ℕ, _*_, _≤_}
+use native.Mathlib.Nat.{min-le-right, le-trans}
 use native.Mathlib.Omega.{arith}
-use mathlib.Core.Path.{_≡_, refl, sym, ap, _∙_}
-use mathlib.Core.Bool.{true, false}
+use mathlib.Core.Path.{sym, ap, _∙_}
 use lib.Dec.{ltb}
 use Rattle.lists.specs.Products.{falling}
 use borrow.Author.Tests.{lt-ltb, le-ltb}
@@ -10,10 +9,6 @@ use Rattle.rules.proofs.Facts.{square-le}
 use borrow.Author.Needs.{needs}
 use Rattle.setting.proofs.limits.crowded.Statement.{statement}
 use Rattle.setting.proofs.limits.crowded.Tie as tie
-use Rattle.setting.proofs.limits.crowded.Reads as reads
-use Rattle.setting.proofs.limits.crowded.Lts as lts
-use Rattle.setting.proofs.limits.least.Reads as least-reads
-use Rattle.setting.proofs.limits.too_many.Reads as too-many-reads
 
 mul-area : tie.Need-mul-area
 mul-area c = record { fits = omega (arith, square-le (c .args .side) (c .pre)) }

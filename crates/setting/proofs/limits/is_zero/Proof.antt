@@ -1,8 +1,6 @@
 use borrow.Author.Needs.{needs}
 use Rattle.setting.proofs.limits.is_zero.Statement.{statement}
 use Rattle.setting.proofs.limits.is_zero.Tie as tie
-use Rattle.setting.proofs.limits.is_zero.Reads as reads
-use Rattle.setting.proofs.limits.is_zero.Lts as lts
 
 enum-told : tie.Need-enum-told
 enum-told c = search needs

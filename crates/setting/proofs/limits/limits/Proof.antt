@@ -1,7 +1,7 @@
-use Prim.Native.Nat.{ℕ, _≤_}
-use mathlib.Core.Path.{_≡_, refl, sym, ap, _∙_}
-use mathlib.Core.Bool.{true, false, not}
-use lib.IntN.{ℤ, pos}
+use Prim.Native.Nat.{ℕ}
+use mathlib.Core.Path.{_≡_, sym, ap, _∙_}
+use mathlib.Core.Bool.{true, false}
+use lib.IntN.{pos}
 use lib.Signed.{ltZ}
 use mir.Syntax.{w32}
 use mir.Val.{toZ, ofZ}
@@ -13,12 +13,6 @@ use Rattle.rules.proofs.Starts.{side-small}
 use Rattle.setting.specs.Crowds.{crowdCheck}
 use Rattle.setting.proofs.limits.limits.Statement.{statement}
 use Rattle.setting.proofs.limits.limits.Tie as tie
-use Rattle.setting.proofs.limits.limits.Reads as reads
-use Rattle.setting.proofs.limits.limits.Lts as lts
-use Rattle.setting.proofs.limits.crowded.Reads as crowded-reads
-use Rattle.setting.proofs.limits.is_set.Reads as is-set-reads
-use Rattle.setting.proofs.limits.is_zero.Reads as is-zero-reads
-use Rattle.setting.proofs.limits.side_of.Reads as side-of-reads
 
 returns : tie.Need-returns
 unfolding limitsCheck

@@ -1,17 +1,15 @@
 use borrow.Author.Needs.{needs}
-use Prim.Native.Nat.{ℕ, _<_}
+use Prim.Native.Nat.{_<_}
 use native.Mathlib.Omega.{arith}
 use mathlib.Core.Path.{_≡_, sym}
 use mathlib.Core.Bool.{true, false}
-use lib.IntN.{ℤ, pos, natAbs}
+use lib.IntN.{pos}
 use lib.Signed.{ltZ, mag, natAbs-le}
 use mir.Syntax.{w32}
 use mir.Val.{toZ, ofZ}
 use Rattle.rules.proofs.Starts.{side-negative, side-plain, plain-grid}
 use Rattle.setting.proofs.limits.side_of.Statement.{statement}
 use Rattle.setting.proofs.limits.side_of.Tie as tie
-use Rattle.setting.proofs.limits.side_of.Reads as reads
-use Rattle.setting.proofs.limits.side_of.Lts as lts
 
 returns : tie.Need-returns
 returns c =

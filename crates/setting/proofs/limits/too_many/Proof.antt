@@ -1,15 +1,13 @@
 -- The product of the first j factors, never above 2^53 where the loop goes on; more factors never make it smaller.
-use Prim.Native.Nat.{ℕ, _+_, _-_, _*_, _≤_, _<_, _^_}
-use native.Mathlib.Nat.{mul-le-mul, le-refl, lt-of-lt-of-le}
+use Prim.Native.Nat.{ℕ, _+_, _-_, _*_, _≤_}
+use native.Mathlib.Nat.{mul-le-mul}
 use native.Mathlib.Omega.{arith}
-use mathlib.Core.Path.{_≡_, refl, sym, ap, subst, _∙_}
+use mathlib.Core.Path.{_≡_, sym, ap, _∙_}
 use borrow.Author.Tests.{lt-ltb, le-ltb}
 use Rattle.lists.specs.Products.{falling}
 use Rattle.lists.proofs.Products.{falling-none, falling-next, falling-mono}
 use Rattle.setting.proofs.limits.too_many.Statement.{statement}
 use Rattle.setting.proofs.limits.too_many.Tie as tie
-use Rattle.setting.proofs.limits.too_many.Reads as reads
-use Rattle.setting.proofs.limits.too_many.Lts as lts
 
 abbrev Inv-loop : tie.InvT-loop
 Inv-loop area k product₀ j₀ product j = (j ≤ k) × (product ≡ falling area j) × (product ≤ 9007199254740992)

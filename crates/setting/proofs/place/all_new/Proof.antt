@@ -1,11 +1,7 @@
-use denote.Ref.{now}
 use Rattle.lists.proofs.Boards.{board-blank}
 use borrow.Author.Needs.{needs}
 use Rattle.setting.proofs.place.all_new.Statement.{statement}
 use Rattle.setting.proofs.place.all_new.Tie as tie
-use Rattle.setting.proofs.place.all_new.Reads as reads
-use Rattle.setting.proofs.place.all_new.Lts as lts
-use Rattle.image.proofs.stamps_once.Reads as stamps-once-reads
 
 stamps-once-requires : tie.Need-stamps-once-requires
 stamps-once-requires c κs = (search needs, board-blank)

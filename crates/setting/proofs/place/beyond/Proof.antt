@@ -1,9 +1,6 @@
-use mathlib.Core.Path.{refl}
 use borrow.Author.Tests.{lt-ltb, le-ltb}
 use Rattle.setting.proofs.place.beyond.Statement.{statement}
 use Rattle.setting.proofs.place.beyond.Tie as tie
-use Rattle.setting.proofs.place.beyond.Reads as reads
-use Rattle.setting.proofs.place.beyond.Lts as lts
 
 returns : tie.Need-returns
 returns c = simp (lt-ltb _ _ (c .if1 .taken))

@@ -1,6 +1,5 @@
-use Prim.Native.Nat.{ℕ, _+_, _*_, _≤_, _<_}
 use native.Mathlib.Omega.{arith}
-use mathlib.Core.Path.{_≡_, refl, sym, ap, _∙_}
+use mathlib.Core.Path.{_≡_}
 use lib.ListN.{length}
 use denote.Ref.{now}
 use Rattle.rules.proofs.Facts.{square-le}
@@ -8,10 +7,6 @@ use Rattle.setting.proofs.Judging.{judge-short, total-most, part-under,
 use borrow.Author.Needs.{needs}
 use Rattle.setting.proofs.place.judge.Statement.{statement}
 use Rattle.setting.proofs.place.judge.Tie as tie
-use Rattle.setting.proofs.place.judge.Reads as reads
-use Rattle.setting.proofs.place.judge.Lts as lts
-use Rattle.setting.proofs.place.all_new.Reads as all-new-reads
-use Rattle.setting.proofs.trace.place_snakes.Reads as place-snakes-reads
 
 place-snakes-requires : tie.Need-place-snakes-requires
 place-snakes-requires c κs = search needs

@@ -1,13 +1,12 @@
-use Prim.Native.Nat.{ℕ, _≤_, _<_}
 use native.Mathlib.Omega.{arith}
-use mathlib.Core.Path.{_≡_, refl, sym, ap, _∙_}
+use mathlib.Core.Path.{_≡_, ap, _∙_}
 use mathlib.Core.Bool.{true, false}
-use lib.IntN.{ℤ, pos, natAbs}
+use lib.IntN.{pos, natAbs}
 use lib.Signed.{ltZ}
 use mir.Syntax.{w32}
 use mir.Val.{toZ, ofZ}
 use denote.Ref.{now}
-use Rattle.rules.specs.Setting.{sideOf, areaOf}
+use Rattle.rules.specs.Setting.{sideOf}
 use Rattle.rules.proofs.Facts.{square-le}
 use Rattle.rules.proofs.SmallGrids.{small-two, small-less}
 use Rattle.rules.proofs.Starts.{grid-two, grid-side, side-three, side-small, side-plain-three, side-abs}
@@ -15,11 +14,6 @@ use Rattle.setting.proofs.Judging.{judge-small, judge-side}
 use borrow.Author.Needs.{needs}
 use Rattle.setting.proofs.place.place_check.Statement.{statement}
 use Rattle.setting.proofs.place.place_check.Tie as tie
-use Rattle.setting.proofs.place.place_check.Reads as reads
-use Rattle.setting.proofs.place.place_check.Lts as lts
-use Rattle.places.proofs.plain.Reads as plain-reads
-use Rattle.setting.proofs.place.beyond.Reads as beyond-reads
-use Rattle.setting.proofs.place.judge.Reads as judge-reads
 
 beyond-requires : tie.Need-beyond-requires
 beyond-requires c κs = search needs

@@ -1,9 +1,6 @@
-use mathlib.Core.Path.{refl}
 use borrow.Author.Tests.{eq-eqb, ne-eqb}
 use Rattle.setting.proofs.start.start_heading.Statement.{statement}
 use Rattle.setting.proofs.start.start_heading.Tie as tie
-use Rattle.setting.proofs.start.start_heading.Reads as reads
-use Rattle.setting.proofs.start.start_heading.Lts as lts
 
 returns : tie.Need-returns
 returns c = simp (eq-eqb _ _ (c .if1 .taken))

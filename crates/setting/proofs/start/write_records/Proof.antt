@@ -2,7 +2,7 @@
 use Prim.Native.Nat.{ℕ, _+_, _-_, _*_, _≤_, _<_}
 use native.Mathlib.Nat.{mul-le-mul}
 use native.Mathlib.Omega.{arith}
-use mathlib.Core.Path.{_≡_, refl, sym, ap, _∙_}
+use mathlib.Core.Path.{_≡_, refl, ap, _∙_}
 use mathlib.Core.List.{List, [], _∷_}
 use lib.ListN.{length}
 use denote.Ref.{now}
@@ -12,15 +12,10 @@ use Rattle.lists.specs.Lists.{writeAt}
 use Rattle.lists.proofs.Concat.{blocks-long}
 use Rattle.lists.proofs.Writes.{turn-start, turn-next, length-write}
 use Rattle.rules.specs.Headings.{numberOf}
-use Rattle.rules.specs.Placement.{startHeading}
 use Rattle.rules.specs.SettingParts.{startRecord}
 use Rattle.rules.specs.declared.Heading.{Heading}
 use Rattle.setting.proofs.start.write_records.Statement.{statement}
 use Rattle.setting.proofs.start.write_records.Tie as tie
-use Rattle.setting.proofs.start.write_records.Reads as reads
-use Rattle.setting.proofs.start.write_records.Lts as lts
-use Rattle.image.proofs.write_record.Reads as write-record-reads
-use Rattle.setting.proofs.start.start_heading.Reads as start-heading-reads
 
 abbrev Inv-loop : tie.InvT-loop
 Inv-loop out₀ n size i₀ out i = (i ≤ n) × (length out ≡ length out₀) × (out ≡ writeAt out₀ 5 (concatBelow i (startRecord n size)))

@@ -1,6 +1,6 @@
 use Prim.Native.Nat.{ℕ, _+_, _*_}
 use native.Mathlib.Omega.{arith}
-use mathlib.Core.Path.{_≡_, refl, sym, ap, _∙_}
+use mathlib.Core.Path.{_≡_, refl, ap, _∙_}
 use mathlib.Core.List.{List, [], _∷_}
 use lib.Dec.{ltb}
 use lib.ListN.{length}
@@ -14,11 +14,6 @@ use Rattle.setting.proofs.Written.{three-writes}
 use borrow.Author.Needs.{needs}
 use Rattle.setting.proofs.start.write_start.Statement.{statement}
 use Rattle.setting.proofs.start.write_start.Tie as tie
-use Rattle.setting.proofs.start.write_start.Reads as reads
-use Rattle.setting.proofs.start.write_start.Lts as lts
-use Rattle.image.proofs.write_contents.Reads as write-contents-reads
-use Rattle.lists.proofs.write_at.Reads as write-at-reads
-use Rattle.setting.proofs.start.write_records.Reads as write-records-reads
 
 write-contents-requires : tie.Need-write-contents-requires
 write-contents-requires c κs = search needs

@@ -1,14 +1,8 @@
 use native.Mathlib.Omega.{arith}
-use mathlib.Core.Path.{_≡_, refl, sym, ap, _∙_}
-use Prim.Native.Nat.{ℕ}
-use lib.ListN.{getD}
-use Rattle.rules.specs.declared.Heading.the-variants.{Up}
-use Rattle.setting.specs.Traces.{turnsOf}
+use mathlib.Core.Path.{_≡_}
 use borrow.Author.Needs.{needs}
 use Rattle.setting.proofs.trace.direction.Statement.{statement}
 use Rattle.setting.proofs.trace.direction.Tie as tie
-use Rattle.setting.proofs.trace.direction.Reads as reads
-use Rattle.setting.proofs.trace.direction.Lts as lts
 
 returns : tie.Need-returns
 returns c = search needs

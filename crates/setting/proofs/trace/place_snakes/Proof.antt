@@ -1,21 +1,14 @@
-use Prim.Native.Nat.{ℕ, _+_, _-_, _≤_, _<_}
+use Prim.Native.Nat.{_-_}
 use native.Mathlib.Omega.{arith}
-use mathlib.Core.Path.{_≡_, refl, sym, ap, _∙_}
-use mathlib.Core.Bool.{true}
+use mathlib.Core.Path.{ap, _∙_}
 use denote.Ref.{now}
 use lib.IntN.{pos}
-use borrow.Author.Needs.{needs}
 use Rattle.rules.specs.Places.{inside}
 use Rattle.rules.specs.declared.Place.{Place}
 use Rattle.rules.proofs.Starts.{start-inside}
-use Rattle.setting.specs.Traces.{Ready}
 use Rattle.setting.proofs.Laying.{Laying, laying-start, laying-room, laying-long, laying-count, laying-short, laying-on, laying-end}
 use Rattle.setting.proofs.trace.place_snakes.Statement.{statement}
 use Rattle.setting.proofs.trace.place_snakes.Tie as tie
-use Rattle.setting.proofs.trace.place_snakes.Reads as reads
-use Rattle.setting.proofs.trace.place_snakes.Lts as lts
-use Rattle.setting.proofs.trace.start_place.Reads as start-place-reads
-use Rattle.setting.proofs.trace.trace_body.Reads as trace-body-reads
 
 abbrev Inv-loop : tie.InvT-loop
 Inv-loop cells₀ g n size at₀ i₀ cells at i = Laying g n size cells₀ cells at i

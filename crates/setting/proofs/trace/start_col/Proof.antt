@@ -1,11 +1,8 @@
-use mathlib.Core.Path.{_≡_, refl}
 use borrow.Author.Tests.{eq-eqb, ne-eqb}
 use Rattle.rules.proofs.Starts.{col-even, col-odd}
 use borrow.Author.Needs.{needs}
 use Rattle.setting.proofs.trace.start_col.Statement.{statement}
 use Rattle.setting.proofs.trace.start_col.Tie as tie
-use Rattle.setting.proofs.trace.start_col.Reads as reads
-use Rattle.setting.proofs.trace.start_col.Lts as lts
 
 returns : tie.Need-returns
 returns c = col-even (c .before .args .g) (c .before .args .i) (eq-eqb _ _ (c .if1 .taken))

@@ -1,4 +1,4 @@
-use mathlib.Core.Path.{_≡_, refl, sym, ap₂, _∙_}
+use mathlib.Core.Path.{_≡_, ap₂, _∙_}
 use lib.IntN.{ℤ}
 use mir.Syntax.{w32}
 use mir.Val.{toZ, ofZ}
@@ -6,11 +6,6 @@ use Rattle.rules.specs.declared.Place.{Place}
 use borrow.Author.Needs.{needs}
 use Rattle.setting.proofs.trace.start_place.Statement.{statement}
 use Rattle.setting.proofs.trace.start_place.Tie as tie
-use Rattle.setting.proofs.trace.start_place.Reads as reads
-use Rattle.setting.proofs.trace.start_place.Lts as lts
-use Rattle.places.proofs.signed.Reads as signed-reads
-use Rattle.setting.proofs.trace.start_col.Reads as start-col-reads
-use Rattle.setting.proofs.trace.start_row.Reads as start-row-reads
 
 start-row-requires : tie.Need-start-row-requires
 start-row-requires c κs = search needs

@@ -1,15 +1,12 @@
 -- The products are small, and the quotient is the definition's.
-use Prim.Native.Nat.{ℕ, _+_, _*_, _≤_}
+use Prim.Native.Nat.{_+_, _*_, _≤_}
 use native.Mathlib.Nat.{mul-le-mul}
 use native.Mathlib.Numerals.{add-one}
 use native.Mathlib.Omega.{arith}
-use mathlib.Core.Path.{_≡_, refl}
 use borrow.Author.Tests.{eq-eqb, ne-eqb}
 use borrow.Author.Needs.{needs}
 use Rattle.setting.proofs.trace.start_row.Statement.{statement}
 use Rattle.setting.proofs.trace.start_row.Tie as tie
-use Rattle.setting.proofs.trace.start_row.Reads as reads
-use Rattle.setting.proofs.trace.start_row.Lts as lts
 
 returns : tie.Need-returns
 returns c = simp (eq-eqb _ _ (c .if1 .taken))

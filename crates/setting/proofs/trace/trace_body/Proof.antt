@@ -1,19 +1,15 @@
 use mathlib.Core.Bool.{true}
 use lib.IntN.{pos}
-use lib.ListN.{length, set, length-set}
+use lib.ListN.{length, length-set}
 use Rattle.rules.specs.Places.{inside}
-use Prim.Native.Nat.{ℕ, _+_, _-_, _≤_, _<_}
+use Prim.Native.Nat.{_+_, _-_, _≤_}
 use native.Mathlib.Omega.{arith}
-use mathlib.Core.Path.{_≡_, refl, sym, ap, _∙_}
+use mathlib.Core.Path.{_≡_}
 use denote.Ref.{now}
 use borrow.Author.Needs.{needs}
 use Rattle.setting.proofs.Going.{Going, inside-near, going-start, going-room, going-full, going-stuck, going-on}
 use Rattle.setting.proofs.trace.trace_body.Statement.{statement}
 use Rattle.setting.proofs.trace.trace_body.Tie as tie
-use Rattle.setting.proofs.trace.trace_body.Reads as reads
-use Rattle.setting.proofs.trace.trace_body.Lts as lts
-use Rattle.places.proofs.cell_of.Reads as cell-of-reads
-use Rattle.setting.proofs.trace.walk_on.Reads as walk-on-reads
 
 abbrev Inv-loop : tie.InvT-loop
 Inv-loop cells₀ at g even size walk₀ k₀ cells walk k = Going g even size (walk₀ .place) cells₀ at cells (walk .place) (walk .turn) k

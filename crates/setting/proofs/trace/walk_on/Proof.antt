@@ -1,10 +1,9 @@
 -- The directions that are left do not change while a shut one is passed.
-use Prim.Native.Nat.{ℕ, _+_, _-_, _≤_, _<_}
+use Prim.Native.Nat.{_-_, _≤_, _<_}
 use native.Mathlib.Nat.{lt-irrefl}
 use native.Mathlib.Omega.{arith}
 use mathlib.Core.Path.{_≡_, refl, sym, ap, _∙_}
-use mathlib.Core.Bool.{Bool, true, false}
-use mathlib.Core.List.{List}
+use mathlib.Core.Bool.{true, false}
 use lib.IntN.{pos}
 use lib.ListN.{drop, getD}
 use borrow.Author.Needs.{needs}
@@ -17,11 +16,6 @@ use Rattle.setting.specs.Traces.{turnsOf}
 use Rattle.setting.proofs.Walks.{walk-open, walk-shut, walk-end}
 use Rattle.setting.proofs.trace.walk_on.Statement.{statement}
 use Rattle.setting.proofs.trace.walk_on.Tie as tie
-use Rattle.setting.proofs.trace.walk_on.Reads as reads
-use Rattle.setting.proofs.trace.walk_on.Lts as lts
-use Rattle.places.proofs.ahead.Reads as ahead-reads
-use Rattle.places.proofs.on_grid.Reads as on-grid-reads
-use Rattle.setting.proofs.trace.direction.Reads as direction-reads
 
 abbrev Inv-loop : tie.InvT-loop
 Inv-loop g even place turn₀ turn =
