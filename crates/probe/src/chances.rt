@@ -25,14 +25,7 @@ pub fn count_line(words: &[u16], text: &mut [u8], at: usize) -> usize {
     put_result(text, at, arena::count(words))
 }
 
-// `k K c1..cK W`: `cells` is what stands between K and W.
-pub fn rank_line(
-    cells: &[u64],
-    words: &[u16],
-    list: &mut [u16],
-    text: &mut [u8],
-    at: usize,
-) -> usize {
+fn rank(cells: &[u64], words: &[u16], list: &mut [u16], text: &mut [u8], at: usize) -> usize {
     if !copy_words(cells, list) {
         return no_call(text, at);
     }
@@ -41,6 +34,24 @@ pub fn rank_line(
         return no_call(text, at);
     }
     put_result(text, at, arena::rank(words, &list[0..k]))
+}
+
+// `k K c1..cK W`, the words from field `from` on.
+pub fn rank_line(
+    values: &[u64],
+    from: usize,
+    words: &[u16],
+    list: &mut [u16],
+    text: &mut [u8],
+    at: usize,
+) -> usize {
+    if from < 1 {
+        return no_call(text, at);
+    }
+    if values.len() < from {
+        return no_call(text, at);
+    }
+    rank(&values[1..from], words, list, text, at)
 }
 
 fn put_draw(text: &mut [u8], at: usize, out: &[u16], n: usize, list: &[u16], k: usize) -> usize {

@@ -7,9 +7,12 @@ mod images;
 mod marks;
 mod reading;
 mod rewards;
+mod settings;
+mod spaces;
 mod steps;
 mod text;
 mod views;
+mod with_image;
 
 use crate::answer::answer_line;
 use crate::reading::Reading;

@@ -1,10 +1,10 @@
 // The calls that take a setting: the check, the initial state and the step.
 use crate::buffers::fill;
 use crate::buffers::kept;
-use crate::fields::Given;
-use crate::fields::setting_in;
 use crate::fields::size;
 use crate::marks::put_events;
+use crate::settings::Given;
+use crate::settings::setting_in;
 use crate::text::accept;
 use crate::text::end;
 use crate::text::no_call;
@@ -98,11 +98,11 @@ fn step(
     }
 }
 
-// `s S cap K a1..aK W`: `actions` is what stands between K and W.
+// `s S cap K a1..aK W`, the words from field `from` on.
 pub fn step_line(
     values: &[u64],
     kinds: &[u8],
-    actions: &[u64],
+    from: usize,
     words: &[u16],
     out: &mut [u16],
     text: &mut [u8],
@@ -112,8 +112,16 @@ pub fn step_line(
     if out.len() < cap {
         return no_call(text, at);
     }
+    if from < 9 {
+        return no_call(text, at);
+    }
+    if values.len() < from {
+        return no_call(text, at);
+    }
     match setting_in(values, kinds) {
         Given::NoSetting => no_call(text, at),
-        Given::Sets(setting) => step(setting, words, actions, &mut out[0..cap], text, at),
+        Given::Sets(setting) => {
+            step(setting, words, &values[9..from], &mut out[0..cap], text, at)
+        }
     }
 }

@@ -1,6 +1,7 @@
 // Answers as text, put one after the other into a lent buffer. Each call answers the index after what it put.
 // An answer has at most 60,000 bytes and the buffer is written out at 32,768, so that its room never ends.
 use libc::STDOUT_FILENO;
+ghost use Prim.Native.Nat.{_<_};
 
 pub fn put(text: &mut [u8], at: usize, b: u8) -> usize {
     if text.len() <= at {
@@ -19,16 +20,10 @@ pub fn flush(text: &[u8], at: usize) -> usize {
     0
 }
 
-// A digit's byte.
-fn digit_of(v: u64) -> u8 {
-    if v < 10 {
-        return 48 + v as u8;
-    }
-    b'?'
-}
-
-fn put_digit(text: &mut [u8], at: usize, v: u64) -> usize {
-    put(text, at, digit_of(v))
+fn put_digit(text: &mut [u8], at: usize, v: u64) -> usize
+    requires { ⌜ v < 10 ⌝ }
+{
+    put(text, at, 48 + v as u8)
 }
 
 fn put_bytes(text: &mut [u8], from: usize, bytes: &[u8]) -> usize {

@@ -1,15 +1,9 @@
+-- The turns count down. The lent slices keep their lengths.
 use borrow.Author.Needs.{needs}
 use mathlib.Core.Path.{_≡_}
 use lib.ListN.{length}
 use Rattle.probe.proofs.serve.Statement.{statement}
 use Rattle.probe.proofs.serve.Tie as tie
-use Rattle.probe.proofs.serve.Reads as reads
-use Rattle.probe.proofs.serve.Lts as lts
-use Rattle.io.proofs.count.Reads as count-reads
-use Rattle.libc.proofs.read.Reads as read-reads
-use Rattle.probe.proofs.reading.empty.Reads as empty-reads
-use Rattle.probe.proofs.take_all.Reads as take-all-reads
-use Rattle.probe.proofs.take_last.Reads as take-last-reads
 
 abbrev Inv-loop : tie.InvT-loop
 Inv-loop input₀ values₀ kinds₀ image₀ out₀ list₀ planes₀ answers₀ line₀ turns₀ input values kinds image out list planes answers line turns =
@@ -19,119 +13,90 @@ abbrev μ-loop : tie.MeasureT-loop
 μ-loop input₀ values₀ kinds₀ image₀ out₀ list₀ planes₀ answers₀ line₀ turns₀ input values kinds image out list planes answers line turns =
     turns
 
--- src/main.rt:77:9
 empty-requires : tie.Need-empty-requires Inv-loop μ-loop
 empty-requires c κs = search needs
 
--- src/main.rt:79:5
 loop-holds : tie.Need-loop-holds Inv-loop μ-loop
 loop-holds c = search needs
 
--- src/main.rt:80:13
 read-requires : tie.Need-read-requires Inv-loop μ-loop
 read-requires c κs = search needs
 
--- src/main.rt:81:13
 count-requires : tie.Need-count-requires Inv-loop μ-loop
 count-requires c κs = search needs
 
--- src/main.rt:83:13
 take-last-requires : tie.Need-take-last-requires Inv-loop μ-loop
 take-last-requires c κs = search needs
 
--- src/main.rt:84:13
 same-length : tie.Need-same-length Inv-loop μ-loop
 same-length c = search needs
 
--- src/main.rt:84:13
 same-length-2 : tie.Need-same-length-2 Inv-loop μ-loop
 same-length-2 c = search needs
 
--- src/main.rt:84:13
 same-length-3 : tie.Need-same-length-3 Inv-loop μ-loop
 same-length-3 c = search needs
 
--- src/main.rt:84:13
 same-length-4 : tie.Need-same-length-4 Inv-loop μ-loop
 same-length-4 c = search needs
 
--- src/main.rt:84:13
 same-length-5 : tie.Need-same-length-5 Inv-loop μ-loop
 same-length-5 c = search needs
 
--- src/main.rt:84:13
 same-length-6 : tie.Need-same-length-6 Inv-loop μ-loop
 same-length-6 c = search needs
 
--- src/main.rt:84:13
 same-length-7 : tie.Need-same-length-7 Inv-loop μ-loop
 same-length-7 c = search needs
 
--- src/main.rt:84:13
 same-length-8 : tie.Need-same-length-8 Inv-loop μ-loop
 same-length-8 c = search needs
 
--- src/main.rt:84:13
 returns : tie.Need-returns Inv-loop μ-loop
 returns c = search needs
 
--- src/main.rt:87:13
 slice-reshare-prefix-take-all : tie.Need-slice-reshare-prefix-take-all Inv-loop μ-loop
 slice-reshare-prefix-take-all c = search needs
 
--- src/main.rt:87:13
 slice-aggregate-take-all : tie.Need-slice-aggregate-take-all Inv-loop μ-loop
 slice-aggregate-take-all c = search needs
 
--- src/main.rt:86:9
 take-all-requires : tie.Need-take-all-requires Inv-loop μ-loop
 take-all-requires c κs = search needs
 
--- src/main.rt:97:9
 sub-turns : tie.Need-sub-turns Inv-loop μ-loop
 sub-turns c = search needs
 
--- src/main.rt:79:5
 loop-less : tie.Need-loop-less Inv-loop μ-loop
 loop-less c = search needs
 
--- src/main.rt:79:5
 loop-again : tie.Need-loop-again Inv-loop μ-loop
 loop-again c = search needs
 
--- src/main.rt:67:1
 same-length-9 : tie.Need-same-length-9 Inv-loop μ-loop
 same-length-9 c = search needs
 
--- src/main.rt:67:1
 same-length-10 : tie.Need-same-length-10 Inv-loop μ-loop
 same-length-10 c = search needs
 
--- src/main.rt:67:1
 same-length-11 : tie.Need-same-length-11 Inv-loop μ-loop
 same-length-11 c = search needs
 
--- src/main.rt:67:1
 same-length-12 : tie.Need-same-length-12 Inv-loop μ-loop
 same-length-12 c = search needs
 
--- src/main.rt:67:1
 same-length-13 : tie.Need-same-length-13 Inv-loop μ-loop
 same-length-13 c = search needs
 
--- src/main.rt:67:1
 same-length-14 : tie.Need-same-length-14 Inv-loop μ-loop
 same-length-14 c = search needs
 
--- src/main.rt:67:1
 same-length-15 : tie.Need-same-length-15 Inv-loop μ-loop
 same-length-15 c = search needs
 
--- src/main.rt:67:1
 same-length-16 : tie.Need-same-length-16 Inv-loop μ-loop
 same-length-16 c = search needs
 
--- src/main.rt:67:1
 returns-2 : tie.Need-returns-2 Inv-loop μ-loop
 returns-2 c = search needs
 

@@ -1,15 +1,10 @@
+-- Every turn takes one byte. The lent slices keep their lengths.
 use borrow.Author.Needs.{needs}
 use Prim.Native.Nat.{_-_, _≤_}
 use mathlib.Core.Path.{_≡_}
 use lib.ListN.{length}
 use Rattle.probe.proofs.take_all.Statement.{statement}
 use Rattle.probe.proofs.take_all.Tie as tie
-use Rattle.probe.proofs.take_all.Reads as reads
-use Rattle.probe.proofs.take_all.Lts as lts
-use Rattle.probe.proofs.answer.answer_line.Reads as answer-line-reads
-use Rattle.probe.proofs.reading.empty.Reads as empty-reads
-use Rattle.probe.proofs.reading.take.Reads as take-reads
-use Rattle.probe.proofs.text.flush.Reads as flush-reads
 
 abbrev Inv-loop : tie.InvT-loop
 Inv-loop input values₀ kinds₀ image₀ out₀ list₀ planes₀ answers₀ line₀ at₀ i₀ values kinds image out list planes answers line at i =
@@ -19,79 +14,60 @@ abbrev μ-loop : tie.MeasureT-loop
 μ-loop input values₀ kinds₀ image₀ out₀ list₀ planes₀ answers₀ line₀ at₀ i₀ values kinds image out list planes answers line at i =
     length input - i
 
--- src/main.rt:34:5
 loop-holds : tie.Need-loop-holds Inv-loop μ-loop
 loop-holds c = search needs
 
--- src/main.rt:35:17
 shared-slice-read-b : tie.Need-shared-slice-read-b Inv-loop μ-loop
 shared-slice-read-b c = search needs
 
--- src/main.rt:36:9
 add-i : tie.Need-add-i Inv-loop μ-loop
 add-i c = search needs
 
--- src/main.rt:38:13
 answer-line-requires : tie.Need-answer-line-requires Inv-loop μ-loop
 answer-line-requires c κs = search needs
 
--- src/main.rt:39:13
 empty-requires : tie.Need-empty-requires Inv-loop μ-loop
 empty-requires c κs = search needs
 
--- src/main.rt:34:5
 loop-less : tie.Need-loop-less Inv-loop μ-loop
 loop-less c = search needs
 
--- src/main.rt:34:5
 loop-again : tie.Need-loop-again Inv-loop μ-loop
 loop-again c = search needs
 
--- src/main.rt:41:13
 take-requires : tie.Need-take-requires Inv-loop μ-loop
 take-requires c κs = search needs
 
--- src/main.rt:34:5
 loop-less-2 : tie.Need-loop-less-2 Inv-loop μ-loop
 loop-less-2 c = search needs
 
--- src/main.rt:34:5
 loop-again-2 : tie.Need-loop-again-2 Inv-loop μ-loop
 loop-again-2 c = search needs
 
--- src/main.rt:44:5
 flush-requires : tie.Need-flush-requires Inv-loop μ-loop
 flush-requires c κs = search needs
 
--- src/main.rt:20:1
 same-length : tie.Need-same-length Inv-loop μ-loop
 same-length c = search needs
 
--- src/main.rt:20:1
 same-length-2 : tie.Need-same-length-2 Inv-loop μ-loop
 same-length-2 c = search needs
 
--- src/main.rt:20:1
 same-length-3 : tie.Need-same-length-3 Inv-loop μ-loop
 same-length-3 c = search needs
 
--- src/main.rt:20:1
 same-length-4 : tie.Need-same-length-4 Inv-loop μ-loop
 same-length-4 c = search needs
 
--- src/main.rt:20:1
 same-length-5 : tie.Need-same-length-5 Inv-loop μ-loop
 same-length-5 c = search needs
 
--- src/main.rt:20:1
 same-length-6 : tie.Need-same-length-6 Inv-loop μ-loop
 same-length-6 c = search needs
 
--- src/main.rt:20:1
 same-length-7 : tie.Need-same-length-7 Inv-loop μ-loop
 same-length-7 c = search needs
 
--- src/main.rt:20:1
 returns : tie.Need-returns Inv-loop μ-loop
 returns c = search needs
 

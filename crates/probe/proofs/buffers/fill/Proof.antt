@@ -1,12 +1,9 @@
 use lib.ListN.{length}
 use mathlib.Core.Path.{_≡_}
-use Prim.Native.Nat.{ℕ, _+_, _-_, _*_, _≤_, _<_}
-use native.Mathlib.Omega.{arith}
+use Prim.Native.Nat.{_-_, _≤_}
 use borrow.Author.Needs.{needs}
 use Rattle.probe.proofs.buffers.fill.Statement.{statement}
 use Rattle.probe.proofs.buffers.fill.Tie as tie
-use Rattle.probe.proofs.buffers.fill.Reads as reads
-use Rattle.probe.proofs.buffers.fill.Lts as lts
 
 abbrev Inv-loop : tie.InvT-loop
 Inv-loop words₀ k₀ words k = (k ≤ length words₀) × (length words ≡ length words₀)
@@ -14,35 +11,27 @@ Inv-loop words₀ k₀ words k = (k ≤ length words₀) × (length words ≡ le
 abbrev μ-loop : tie.MeasureT-loop
 μ-loop words₀ k₀ words k = length words₀ - k
 
--- src/buffers.rt:7:5
 loop-holds : tie.Need-loop-holds Inv-loop μ-loop
 loop-holds c = search needs
 
--- src/buffers.rt:8:9
 mul-words : tie.Need-mul-words Inv-loop μ-loop
 mul-words c = search needs
 
--- src/buffers.rt:8:9
 slice-write-words : tie.Need-slice-write-words Inv-loop μ-loop
 slice-write-words c = search needs
 
--- src/buffers.rt:9:9
 add-k : tie.Need-add-k Inv-loop μ-loop
 add-k c = search needs
 
--- src/buffers.rt:7:5
 loop-less : tie.Need-loop-less Inv-loop μ-loop
 loop-less c = search needs
 
--- src/buffers.rt:7:5
 loop-again : tie.Need-loop-again Inv-loop μ-loop
 loop-again c = search needs
 
--- src/buffers.rt:5:1
 same-length : tie.Need-same-length Inv-loop μ-loop
 same-length c = search needs
 
--- src/buffers.rt:5:1
 returns : tie.Need-returns Inv-loop μ-loop
 returns c = search needs
 

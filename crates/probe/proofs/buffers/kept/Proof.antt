@@ -1,12 +1,8 @@
 use lib.ListN.{length}
-use mathlib.Core.Path.{_≡_}
-use Prim.Native.Nat.{ℕ, _+_, _-_, _*_, _≤_, _<_}
-use native.Mathlib.Omega.{arith}
+use Prim.Native.Nat.{_-_}
 use borrow.Author.Needs.{needs}
 use Rattle.probe.proofs.buffers.kept.Statement.{statement}
 use Rattle.probe.proofs.buffers.kept.Tie as tie
-use Rattle.probe.proofs.buffers.kept.Reads as reads
-use Rattle.probe.proofs.buffers.kept.Lts as lts
 
 abbrev Inv-loop : tie.InvT-loop
 Inv-loop words from same₀ k₀ same k = Unit {0}
@@ -14,31 +10,24 @@ Inv-loop words from same₀ k₀ same k = Unit {0}
 abbrev μ-loop : tie.MeasureT-loop
 μ-loop words from same₀ k₀ same k = length words - k
 
--- src/buffers.rt:17:5
 loop-holds : tie.Need-loop-holds Inv-loop μ-loop
 loop-holds c = search needs
 
--- src/buffers.rt:18:24
 mul-same : tie.Need-mul-same Inv-loop μ-loop
 mul-same c = search needs
 
--- src/buffers.rt:18:24
 shared-slice-read-same : tie.Need-shared-slice-read-same Inv-loop μ-loop
 shared-slice-read-same c = search needs
 
--- src/buffers.rt:19:9
 add-k : tie.Need-add-k Inv-loop μ-loop
 add-k c = search needs
 
--- src/buffers.rt:17:5
 loop-less : tie.Need-loop-less Inv-loop μ-loop
 loop-less c = search needs
 
--- src/buffers.rt:17:5
 loop-again : tie.Need-loop-again Inv-loop μ-loop
 loop-again c = search needs
 
--- src/buffers.rt:14:1
 returns : tie.Need-returns Inv-loop μ-loop
 returns c = search needs
 

@@ -2,26 +2,19 @@ use native.Mathlib.Omega.{arith}
 use borrow.Author.Needs.{needs}
 use Rattle.probe.proofs.images.word.Statement.{statement}
 use Rattle.probe.proofs.images.word.Tie as tie
-use Rattle.probe.proofs.images.word.Reads as reads
-use Rattle.probe.proofs.images.word.Lts as lts
 
--- src/images.rt:18:16
 mul-result : tie.Need-mul-result
 mul-result c = search needs
 
--- src/images.rt:18:16
 shared-slice-read-result : tie.Need-shared-slice-read-result
 shared-slice-read-result c = search needs
 
--- src/images.rt:18:16
 cast-result : tie.Need-cast-result
 cast-result c = omega (arith, c .shared-slice-known .given (c .before .before .args .k))
 
--- src/images.rt:18:9
 returns : tie.Need-returns
 returns c = search needs
 
--- src/images.rt:16:1
 returns-2 : tie.Need-returns-2
 returns-2 c = search needs
 

@@ -1,13 +1,9 @@
 use lib.ListN.{length}
 use mathlib.Core.Path.{_≡_}
-use Prim.Native.Nat.{ℕ, _+_, _-_, _*_, _≤_, _<_}
-use native.Mathlib.Omega.{arith}
+use Prim.Native.Nat.{_-_, _≤_}
 use borrow.Author.Needs.{needs}
 use Rattle.probe.proofs.marks.put_events.Statement.{statement}
 use Rattle.probe.proofs.marks.put_events.Tie as tie
-use Rattle.probe.proofs.marks.put_events.Reads as reads
-use Rattle.probe.proofs.marks.put_events.Lts as lts
-use Rattle.probe.proofs.marks.put_event.Reads as put-event-reads
 
 abbrev Inv-loop : tie.InvT-loop
 Inv-loop text₀ from events at₀ i₀ text at i = (i ≤ 8) × (length text ≡ length text₀)
@@ -15,39 +11,30 @@ Inv-loop text₀ from events at₀ i₀ text at i = (i ≤ 8) × (length text �
 abbrev μ-loop : tie.MeasureT-loop
 μ-loop text₀ from events at₀ i₀ text at i = 8 - i
 
--- src/marks.rt:33:5
 loop-holds : tie.Need-loop-holds Inv-loop μ-loop
 loop-holds c = search needs
 
--- src/marks.rt:34:17
 mul-e : tie.Need-mul-e Inv-loop μ-loop
 mul-e c = search needs
 
--- src/marks.rt:34:17
 array-copy-out-e : tie.Need-array-copy-out-e Inv-loop μ-loop
 array-copy-out-e c = search needs
 
--- src/marks.rt:35:9
 put-event-requires : tie.Need-put-event-requires Inv-loop μ-loop
 put-event-requires c κs = search needs
 
--- src/marks.rt:36:9
 add-i : tie.Need-add-i Inv-loop μ-loop
 add-i c = search needs
 
--- src/marks.rt:33:5
 loop-less : tie.Need-loop-less Inv-loop μ-loop
 loop-less c = search needs
 
--- src/marks.rt:33:5
 loop-again : tie.Need-loop-again Inv-loop μ-loop
 loop-again c = search needs
 
--- src/marks.rt:30:1
 same-length : tie.Need-same-length Inv-loop μ-loop
 same-length c = search needs
 
--- src/marks.rt:30:1
 returns : tie.Need-returns Inv-loop μ-loop
 returns c = search needs
 

@@ -1,3 +1,4 @@
+-- A number that equals itself is no NaN.
 use mathlib.Core.Path.{_≡_, sym, subst, _∙_}
 use mathlib.Core.Bool.{false, not}
 use lib.Dec.{T}
@@ -6,10 +7,7 @@ use lib.Ieee.Compare.{nan-differs}
 use borrow.Author.Needs.{needs}
 use Rattle.probe.proofs.rewards.bits_of.Statement.{statement}
 use Rattle.probe.proofs.rewards.bits_of.Tie as tie
-use Rattle.probe.proofs.rewards.bits_of.Reads as reads
-use Rattle.probe.proofs.rewards.bits_of.Lts as lts
 
--- src/rewards.rt:24:9
 returns : tie.Need-returns
 returns c = search needs
 
@@ -22,7 +20,6 @@ real (fin s m k) e = tt
 float-to-bits-result : tie.Need-float-to-bits-result
 float-to-bits-result c = real (c .before .args .x) (c .if1 .left)
 
--- src/rewards.rt:22:1
 returns-2 : tie.Need-returns-2
 returns-2 c = search needs
 

@@ -1,3 +1,4 @@
+-- A pattern that passes the test is no NaN's.
 use mathlib.Core.Path.{sym, subst, _∙_}
 use mathlib.Core.Bool.{Bool, not}
 use lib.Dec.{T}
@@ -7,18 +8,13 @@ use borrow.Author.Tests.{le-ltb}
 use borrow.Author.Needs.{needs}
 use Rattle.probe.proofs.rewards.float_of.Statement.{statement}
 use Rattle.probe.proofs.rewards.float_of.Tie as tie
-use Rattle.probe.proofs.rewards.float_of.Reads as reads
-use Rattle.probe.proofs.rewards.float_of.Lts as lts
 
--- src/rewards.rt:16:9
 returns : tie.Need-returns
 returns c = search needs
 
--- src/rewards.rt:18:5
 float-from-bits-result : tie.Need-float-from-bits-result
 float-from-bits-result c = subst (λ (b : Bool). T (not b)) (sym (nanBits-above binary64 (c .before .args .bits) ∙ le-ltb _ _ (c .if1 .left))) tt
 
--- src/rewards.rt:14:1
 returns-2 : tie.Need-returns-2
 returns-2 c = search needs
 

@@ -1,13 +1,10 @@
 use lib.ListN.{length}
 use mathlib.Core.Path.{_≡_}
-use Prim.Native.Nat.{ℕ, _+_, _-_, _*_, _≤_, _<_}
+use Prim.Native.Nat.{_-_, _≤_}
 use native.Mathlib.Omega.{arith}
 use borrow.Author.Needs.{needs}
 use Rattle.probe.proofs.text.put_each.Statement.{statement}
 use Rattle.probe.proofs.text.put_each.Tie as tie
-use Rattle.probe.proofs.text.put_each.Reads as reads
-use Rattle.probe.proofs.text.put_each.Lts as lts
-use Rattle.probe.proofs.text.put_number.Reads as put-number-reads
 
 abbrev Inv-loop : tie.InvT-loop
 Inv-loop text₀ from words at₀ k₀ text at k = (k ≤ length words) × (length text ≡ length text₀)
@@ -15,43 +12,33 @@ Inv-loop text₀ from words at₀ k₀ text at k = (k ≤ length words) × (leng
 abbrev μ-loop : tie.MeasureT-loop
 μ-loop text₀ from words at₀ k₀ text at k = length words - k
 
--- src/text.rt:84:5
 loop-holds : tie.Need-loop-holds Inv-loop μ-loop
 loop-holds c = search needs
 
--- src/text.rt:85:35
 mul-put-number : tie.Need-mul-put-number Inv-loop μ-loop
 mul-put-number c = search needs
 
--- src/text.rt:85:35
 shared-slice-read-put-number : tie.Need-shared-slice-read-put-number Inv-loop μ-loop
 shared-slice-read-put-number c = search needs
 
--- src/text.rt:85:35
 cast-put-number : tie.Need-cast-put-number Inv-loop μ-loop
 cast-put-number c = omega (arith, c .shared-slice-known2 .given (c .before .before .before .loop .k))
 
--- src/text.rt:85:9
 put-number-requires : tie.Need-put-number-requires Inv-loop μ-loop
 put-number-requires c κs = search needs
 
--- src/text.rt:86:9
 add-k : tie.Need-add-k Inv-loop μ-loop
 add-k c = search needs
 
--- src/text.rt:84:5
 loop-less : tie.Need-loop-less Inv-loop μ-loop
 loop-less c = search needs
 
--- src/text.rt:84:5
 loop-again : tie.Need-loop-again Inv-loop μ-loop
 loop-again c = search needs
 
--- src/text.rt:81:1
 same-length : tie.Need-same-length Inv-loop μ-loop
 same-length c = search needs
 
--- src/text.rt:81:1
 returns : tie.Need-returns Inv-loop μ-loop
 returns c = search needs
 

@@ -1,13 +1,9 @@
 use lib.ListN.{length}
 use mathlib.Core.Path.{_≡_}
-use Prim.Native.Nat.{ℕ, _+_, _-_, _*_, _≤_, _<_}
-use native.Mathlib.Omega.{arith}
+use Prim.Native.Nat.{_-_, _≤_}
 use borrow.Author.Needs.{needs}
 use Rattle.probe.proofs.views.put_lights.Statement.{statement}
 use Rattle.probe.proofs.views.put_lights.Tie as tie
-use Rattle.probe.proofs.views.put_lights.Reads as reads
-use Rattle.probe.proofs.views.put_lights.Lts as lts
-use Rattle.probe.proofs.views.put_light.Reads as put-light-reads
 
 abbrev Inv-loop : tie.InvT-loop
 Inv-loop text₀ from planes n at₀ k₀ text at k = (k ≤ n) × (length text ≡ length text₀)
@@ -15,47 +11,36 @@ Inv-loop text₀ from planes n at₀ k₀ text at k = (k ≤ n) × (length text 
 abbrev μ-loop : tie.MeasureT-loop
 μ-loop text₀ from planes n at₀ k₀ text at k = n - k
 
--- src/views.rt:43:5
 loop-holds : tie.Need-loop-holds Inv-loop μ-loop
 loop-holds c = search needs
 
--- src/views.rt:45:13
 same-length : tie.Need-same-length Inv-loop μ-loop
 same-length c = search needs
 
--- src/views.rt:45:13
 returns : tie.Need-returns Inv-loop μ-loop
 returns c = search needs
 
--- src/views.rt:47:34
 mul-put-light : tie.Need-mul-put-light Inv-loop μ-loop
 mul-put-light c = search needs
 
--- src/views.rt:47:34
 shared-slice-read-put-light : tie.Need-shared-slice-read-put-light Inv-loop μ-loop
 shared-slice-read-put-light c = search needs
 
--- src/views.rt:47:9
 put-light-requires : tie.Need-put-light-requires Inv-loop μ-loop
 put-light-requires c κs = search needs
 
--- src/views.rt:48:9
 add-k : tie.Need-add-k Inv-loop μ-loop
 add-k c = search needs
 
--- src/views.rt:43:5
 loop-less : tie.Need-loop-less Inv-loop μ-loop
 loop-less c = search needs
 
--- src/views.rt:43:5
 loop-again : tie.Need-loop-again Inv-loop μ-loop
 loop-again c = search needs
 
--- src/views.rt:40:1
 same-length-2 : tie.Need-same-length-2 Inv-loop μ-loop
 same-length-2 c = search needs
 
--- src/views.rt:40:1
 returns-2 : tie.Need-returns-2 Inv-loop μ-loop
 returns-2 c = search needs
 

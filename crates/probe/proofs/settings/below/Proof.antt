@@ -1,3 +1,4 @@
+-- The lowest grid is reached: -1 - (v - 1) fits.
 use Rattle.probe.proofs.Signs.{minus-one}
 use lib.IntN.{pos}
 use mir.Facts.{toZ-pos}
@@ -7,35 +8,27 @@ use native.Mathlib.Omega.{arith}
 use Prim.Native.Nat.{_-_}
 use mathlib.Core.Path.{_≡_}
 use borrow.Author.Needs.{needs}
-use Rattle.probe.proofs.fields.below.Statement.{statement}
-use Rattle.probe.proofs.fields.below.Tie as tie
-use Rattle.probe.proofs.fields.below.Reads as reads
-use Rattle.probe.proofs.fields.below.Lts as lts
+use Rattle.probe.proofs.settings.below.Statement.{statement}
+use Rattle.probe.proofs.settings.below.Tie as tie
 
--- src/fields.rt:86:9
 returns : tie.Need-returns
 returns c = search needs
 
--- src/fields.rt:89:9
 returns-2 : tie.Need-returns-2
 returns-2 c = search needs
 
--- src/fields.rt:91:16
 sub-low : tie.Need-sub-low
 sub-low c = search needs
 
--- src/fields.rt:91:15
 cast-low : tie.Need-cast-low
 cast-low c = search needs
 
--- src/fields.rt:92:17
 sub-t5 : tie.Need-sub-t5
 sub-t5 c =
     let m = c .before .before .args .v - 1 in
     let p : toZ w32 m ≡ pos m = toZ-pos w32 (omega arith) in
     rw (p, minus-one m) (record { sfits = omega arith })
 
--- src/fields.rt:84:1
 returns-3 : tie.Need-returns-3
 returns-3 c = search needs
 
