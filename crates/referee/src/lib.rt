@@ -1,0 +1,64 @@
+// The replay's library: lines read, the match played, lines and places written. The types that its modules share.
+use rules::Limit;
+use rules::Setting;
+
+// ---- what is read
+
+pub enum Num {
+    NoNumber,
+    Reads(u64),
+}
+
+pub enum Grid {
+    NoGrid,
+    GridIs(i32),
+}
+
+pub enum Bound {
+    NoBound,
+    Bounds(Limit),
+}
+
+pub enum Flag {
+    NoFlag,
+    Flagged(bool),
+}
+
+pub enum First {
+    NoFirst,
+    Opens(Setting),
+}
+
+pub enum Line {
+    NoLine,
+    DrawLine(u64),
+    MoveLine,
+}
+
+// A line after the first; a move's actions stand beside it.
+pub struct Entry {
+    pub line: Line,
+    pub acts: [u64; 8],
+}
+
+// A part of a line.
+pub struct Span {
+    pub from: usize,
+    pub to: usize,
+}
+
+// A number, and where the field after it starts.
+pub struct Got {
+    pub num: Num,
+    pub next: usize,
+}
+
+// ---- the match
+
+// The setting, the moves made, for each snake the move on which it died (0 while it lives), and whether the match is over.
+pub struct Match {
+    pub setting: Setting,
+    pub moves: u64,
+    pub deaths: [u64; 8],
+    pub over: bool,
+}
