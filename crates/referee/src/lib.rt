@@ -1,4 +1,12 @@
 // The replay's library: lines read, the match played, lines and places written. The types that its modules share.
+mod bytes;
+mod fields;
+mod lines;
+mod numbers;
+mod places;
+mod shown;
+mod text;
+
 use rules::Limit;
 use rules::Setting;
 
