@@ -1,3 +1,14 @@
+use Prim.Native.Nat.{_+_, _-_, _≤_, _*_}
+use mathlib.Core.Path.{_≡_}
+use denote.Ref.{now}
+use lib.ListN.{length}
+use native.Mathlib.Omega.{arith}
+use borrow.Author.Needs.{needs}
+use Rattle.lists.specs.Below.{concatBelow}
+use Rattle.lists.proofs.Below.{concat-none, concat-next}
+use Rattle.referee.proofs.Writing.{both, wider, nothing}
+use Rattle.referee.specs.Text.{Wrote}
+use Rattle.referee.specs.Shown.{snakeShownBy}
 use Rattle.referee.proofs.shown.put_snakes.Statement.{statement}
 use Rattle.referee.proofs.shown.put_snakes.Tie as tie
 use Rattle.referee.proofs.shown.put_snakes.Reads as reads
@@ -5,46 +16,44 @@ use Rattle.referee.proofs.shown.put_snakes.Lts as lts
 use Rattle.referee.proofs.shown.put_snake.Reads as put-snake-reads
 
 abbrev Inv-loop : tie.InvT-loop
-Inv-loop out₀ from image n events at₀ i₀ out at i = ?
+Inv-loop out₀ from image n events at₀ i₀ out at i = (i ≤ n) × Wrote out₀ out from at (concatBelow i (snakeShownBy image events)) (52 * i)
 
 abbrev μ-loop : tie.MeasureT-loop
-μ-loop out₀ from image n events at₀ i₀ out at i = ?
+μ-loop out₀ from image n events at₀ i₀ out at i = n - i
 
--- src/shown.rt:50:5
 loop-holds : tie.Need-loop-holds Inv-loop μ-loop
-loop-holds c = ?
+loop-holds c = (search needs, rw concat-none (nothing (now (c .before .before .args .out)) (c .before .before .args .from) 0))
 
--- src/shown.rt:51:17
 mul-e : tie.Need-mul-e Inv-loop μ-loop
-mul-e c = ?
+mul-e c = search needs
 
--- src/shown.rt:51:17
 array-copy-out-e : tie.Need-array-copy-out-e Inv-loop μ-loop
-array-copy-out-e c = ?
+array-copy-out-e c = search needs
 
--- src/shown.rt:52:9
 put-snake-requires : tie.Need-put-snake-requires Inv-loop μ-loop
-put-snake-requires c κs = ?
+put-snake-requires c κs = search needs
 
--- src/shown.rt:53:9
 add-i : tie.Need-add-i Inv-loop μ-loop
-add-i c = ?
+add-i c = search needs
 
--- src/shown.rt:50:5
 loop-less : tie.Need-loop-less Inv-loop μ-loop
-loop-less c = ?
+loop-less c = search needs
 
--- src/shown.rt:50:5
 loop-again : tie.Need-loop-again Inv-loop μ-loop
-loop-again c = ?
+loop-again c =
+    let l = c .before .before .before .before .before .before .loop in
+    let i = l .i in
+    (search needs, rw concat-next (wider (52 * (i + 1)) (both (l .inv .1) (c .before .before .put-snake .ensures) (omega arith)) (omega arith)))
 
--- src/shown.rt:44:1
 same-length : tie.Need-same-length Inv-loop μ-loop
-same-length c = ?
+same-length c = search needs
 
--- src/shown.rt:44:1
 returns : tie.Need-returns Inv-loop μ-loop
-returns c = ?
+returns c =
+    let a = c .before .before .before .before .args in
+    let l = c .before .loop in
+    let e : l .i ≡ a .n = omega arith in
+    wider 416 (rw e at (l .inv .1)) (omega arith)
 
 pub put-snakes-spec : {M : Type 1} → statement M
 put-snakes-spec =
