@@ -1,5 +1,6 @@
 -- The match as a value, what each line does to it, and the whole replay (01, 'Replay'). Assumes nothing.
 use Prim.Native.Nat.{ℕ, _+_}
+use mathlib.Core.Path.{_≡_}
 use mathlib.Core.Bool.{Bool, true, false, not, _&&_, _||_}
 use mathlib.Core.List.{List, [], _∷_, _++_}
 use lib.Dec.{ltb, leb, eqb}
@@ -11,7 +12,7 @@ use Rattle.rules.specs.Image.{imageOf}
 use Rattle.rules.specs.Step.{Outcome}
 use Rattle.rules.specs.Events.{blank, eight}
 use Rattle.rules.specs.Turns.{truncated}
-use Rattle.rules.specs.Says.{Says, refuses, gives, seen}
+use Rattle.rules.specs.Says.{Says, refuses, gives, seen, beside, lent}
 use Rattle.rules.specs.Calls.{initialSays, stepSays, Draw, drawSays}
 use Rattle.rules.specs.declared.Setting.{Setting}
 use Rattle.rules.specs.declared.Limit.{Limit}
@@ -20,13 +21,14 @@ use Rattle.rules.specs.declared.Event.{Event}
 use Rattle.referee.specs.Lines.{readFirst, readLater}
 use Rattle.referee.specs.Split.{linesOf}
 use Rattle.referee.specs.Places.{placesOf}
-use Rattle.referee.specs.Text.{lineText, refusalText, placesText}
+use Rattle.referee.specs.Text.{lineText, refusalText, placesText, Wrote}
 use Rattle.referee.specs.declared.First.{First}
 use Rattle.referee.specs.declared.First.the-variants.{NoFirst, Opens}
 use Rattle.referee.specs.declared.Line.{Line}
 use Rattle.referee.specs.declared.Line.the-variants.{NoLine, DrawLine, MoveLine}
 use Rattle.referee.specs.declared.Entry.{Entry}
 use Rattle.referee.specs.declared.Match.{Match}
+use Rattle.referee.specs.declared.Turned.{Turned}
 
 -- what a line that is not refused does: the next state, the match, and the line that it prints
 pub record Turn : Type 0 where
@@ -44,7 +46,7 @@ abbrev pub opened : Setting → State → Turn
 opened s t = record {
   next = t;
   game = record { setting = s; moves = 0; deaths = replicate 8 0; over = false };
-  text = lineText 105 false t [];
+  text = lineText 105 false t (eight []);
 }
 
 -- '32 before the call's own'; room is the length of the lent buffer
@@ -58,7 +60,7 @@ beginSays line room = openedBy (readFirst line) room
 -- ---- a draw: 'Draws do not count'
 
 abbrev pub drawnTurn : Match → Draw → Turn
-drawnTurn m d = record { next = d .next; game = m; text = lineText 100 false (d .next) [] }
+drawnTurn m d = record { next = d .next; game = m; text = lineText 100 false (d .next) (eight []) }
 
 -- ---- a move
 
@@ -89,18 +91,22 @@ deathAt k deaths es i = k if getD es i blank .died else getD deaths i 0
 abbrev pub deathsAfter : ℕ → List ℕ → List Event → List ℕ
 deathsAfter k deaths es = filled (deathAt k deaths es) 8 8 0
 
+-- the match after a move that was terminal or not, with these events
+abbrev pub moved : Match → Bool → List Event → Match
+moved m over es = record {
+  setting = m .setting;
+  moves = counted (m .moves);
+  deaths = deathsAfter (counted (m .moves)) (m .deaths) es;
+  over = over || endsBy m over;
+}
+
 -- 'marks the living y and ends the match; its line still shows terminal 0'
 unfoldable pub movedTurn : Match → Outcome → Turn
 movedTurn m o =
     let es = eight (o .events) in
     record {
       next = o .next;
-      game = record {
-        setting = m .setting;
-        moves = counted (m .moves);
-        deaths = deathsAfter (counted (m .moves)) (m .deaths) es;
-        over = o .terminal || endsBy m (o .terminal);
-      };
+      game = moved m (o .terminal) es;
       text = lineText 109 (o .terminal) (o .next) (marked (o .next) es if endsBy m (o .terminal) else es);
     }
 
@@ -118,16 +124,24 @@ asked m w room cells e = askedBy m w room cells (e .line) (e .acts)
 unfoldable pub turnSays : Match → List ℕ → List ℕ → ℕ → ℕ → Says Turn
 turnSays m w line room cells = refuses 33 if m .over else asked m w room cells (readLater (snakesOf m) line)
 
+-- what a line prints: a refusal its number
+abbrev pub said : Says Turn → List ℕ
+said (refuses k) = refusalText k
+said (gives t) = t .text
+
+-- the promise of a call that takes a line of match m: its answer, the next image in the lent words, the text in the lent bytes
+pub record Plays (turn : Says Turn) (m : Match) (old new out exit : List ℕ) (r : Turned) : Type 0 where
+  pub more : r .more ≡ beside (λ t. true) false turn
+  pub game : r .game ≡ beside (λ t. t .game) m turn
+  pub words : r .words ≡ beside (λ t. length (imageOf (t .next))) 0 turn
+  pub image : new ≡ lent (λ t. imageOf (t .next)) old turn
+  pub text : Wrote out exit 0 (r .text) (said turn) 462
+
 -- ---- the end of the input
 
 -- '`p` and each place'
 unfoldable pub endText : Match → List ℕ
 endText m = placesText (placesOf (snakesOf m) (m .deaths)) (snakesOf m)
-
--- what a line prints: a refusal its number
-abbrev pub said : Says Turn → List ℕ
-said (refuses k) = refusalText k
-said (gives t) = t .text
 
 -- ---- the whole replay, with room for every image ('at most 9,253 words') and every list of cells
 

@@ -4,8 +4,9 @@ use mathlib.Core.Bool.{Bool}
 use mathlib.Core.List.{List, [], _∷_, _++_}
 use lib.Dec.{eqb}
 use lib.ListN.{getD}
-use Rattle.lists.specs.Below.{concatBelow}
+use Rattle.lists.specs.Below.{concatBelow, filled}
 use Rattle.rules.specs.Events.{blank}
+use Rattle.rules.specs.Turns.{truncated}
 use Rattle.rules.specs.Image.{word, snakesIn, dueIn, foodCountIn, startAt, lengthAt, aliveAt}
 use Rattle.rules.specs.declared.Event.{Event}
 use Rattle.referee.specs.Text.{bodyText, eventsText, headText}
@@ -18,3 +19,7 @@ snakeShownBy w es i = snakeShown w i (getD es i blank)
 
 unfoldable pub lineShown : ℕ → Bool → List ℕ → List Event → ℕ → List ℕ
 lineShown letter over w es n = headText letter over (dueIn w) (foodCountIn w) ++ concatBelow n (snakeShownBy w es) ++ (10 ∷ [])
+
+-- the events marked, by the words
+abbrev pub markShown : List ℕ → List Event → ℕ → Event
+markShown w es i = truncated (getD es i blank) (eqb (aliveAt w i) 1)

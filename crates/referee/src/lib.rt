@@ -1,6 +1,7 @@
 // The replay's library: lines read, the match played, lines and places written. The types that its modules share.
 mod bytes;
 mod fields;
+mod game;
 mod lines;
 mod numbers;
 mod places;
@@ -69,4 +70,12 @@ pub struct Match {
     pub moves: u64,
     pub deaths: [u64; 8],
     pub over: bool,
+}
+
+// What a line did: whether the match goes on, the match, how many words the next image has, how many bytes were printed.
+pub struct Turned {
+    pub more: bool,
+    pub game: Match,
+    pub words: usize,
+    pub text: usize,
 }
