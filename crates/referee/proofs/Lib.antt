@@ -3,3 +3,5 @@ pub mod Cutting
 pub mod Reading
 pub mod Signs
 pub mod Writing
+pub mod Showing
+pub mod Saying

@@ -8,7 +8,7 @@ use lib.ListN.{length, getD, take, replicate}
 use Rattle.lists.specs.Choice.{_if_else_}
 use Rattle.lists.specs.Below.{filled}
 use Rattle.rules.specs.State.{State, count, snakeOf}
-use Rattle.rules.specs.Image.{imageOf}
+use Rattle.rules.specs.Image.{imageOf, snakesIn}
 use Rattle.rules.specs.Step.{Outcome}
 use Rattle.rules.specs.Events.{blank, eight}
 use Rattle.rules.specs.Turns.{truncated}
@@ -21,6 +21,7 @@ use Rattle.rules.specs.declared.Event.{Event}
 use Rattle.referee.specs.Lines.{readFirst, readLater}
 use Rattle.referee.specs.Split.{linesOf}
 use Rattle.referee.specs.Places.{placesOf}
+use Rattle.referee.specs.Shown.{lineShown, markShown}
 use Rattle.referee.specs.Text.{lineText, refusalText, placesText, Wrote}
 use Rattle.referee.specs.declared.First.{First}
 use Rattle.referee.specs.declared.First.the-variants.{NoFirst, Opens}
@@ -42,10 +43,14 @@ snakesOf m = 8 if ltb 8 (m .setting .snakes) else m .setting .snakes
 
 -- ---- the first line
 
+-- a match that has just begun
+abbrev pub fresh : Setting → Match
+fresh s = record { setting = s; moves = 0; deaths = replicate 8 0; over = false }
+
 abbrev pub opened : Setting → State → Turn
 opened s t = record {
   next = t;
-  game = record { setting = s; moves = 0; deaths = replicate 8 0; over = false };
+  game = fresh s;
   text = lineText 105 false t (eight []);
 }
 
@@ -110,6 +115,10 @@ movedTurn m o =
       text = lineText 109 (o .terminal) (o .next) (marked (o .next) es if endsBy m (o .terminal) else es);
     }
 
+-- the same events, by the words of the image
+abbrev pub eventsShown : Match → Bool → List ℕ → List Event → List Event
+eventsShown m over w es = filled (markShown w es) (snakesIn w) 8 blank if endsBy m over else es
+
 -- ---- a line after the first: '33 comes before 32, 32 before the call's own'
 
 abbrev pub askedBy : Match → List ℕ → ℕ → ℕ → Line → List ℕ → Says Turn
@@ -136,6 +145,24 @@ pub record Plays (turn : Says Turn) (m : Match) (old new out exit : List ℕ) (r
   pub words : r .words ≡ beside (λ t. length (imageOf (t .next))) 0 turn
   pub image : new ≡ lent (λ t. imageOf (t .next)) old turn
   pub text : Wrote out exit 0 (r .text) (said turn) 462
+
+-- its number, where it is a refusal
+abbrev pub refusalIn : {A : Type 0} → Says A → ℕ
+refusalIn (refuses k) = k
+refusalIn (gives a) = 0
+
+-- the two ways in which a call ends: a refusal printed, or the line of an image w
+pub record Stops (m : Match) (k : ℕ) (out exit : List ℕ) (r : Turned) : Type 0 where
+  pub more : r .more ≡ false
+  pub game : r .game ≡ m
+  pub words : r .words ≡ 0
+  pub text : Wrote out exit 0 (r .text) (refusalText k) 462
+
+pub record Shows (m : Match) (letter : ℕ) (over : Bool) (w : List ℕ) (es : List Event) (out exit : List ℕ) (r : Turned) : Type 0 where
+  pub more : r .more ≡ true
+  pub game : r .game ≡ m
+  pub words : r .words ≡ length w
+  pub text : Wrote out exit 0 (r .text) (lineShown letter over w es (snakesIn w)) 462
 
 -- ---- the end of the input
 

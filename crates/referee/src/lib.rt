@@ -6,7 +6,9 @@ mod lines;
 mod numbers;
 mod places;
 mod shown;
+mod stub;
 mod text;
+mod turns;
 
 use rules::Limit;
 use rules::Setting;

@@ -1,0 +1,32 @@
+use borrow.Author.Needs.{needs}
+use Rattle.referee.proofs.turns.show_move.Statement.{statement}
+use Rattle.referee.proofs.turns.show_move.Tie as tie
+use Rattle.referee.proofs.turns.show_move.Reads as reads
+use Rattle.referee.proofs.turns.show_move.Lts as lts
+use Rattle.referee.proofs.game.after_move.Reads as after-move-reads
+use Rattle.referee.proofs.turns.events_of.Reads as events-of-reads
+use Rattle.referee.proofs.turns.show.Reads as show-reads
+
+-- src/turns.rt:124:9
+events-of-requires : tie.Need-events-of-requires
+events-of-requires c κs = search needs
+
+-- src/turns.rt:125:9
+after-move-requires : tie.Need-after-move-requires
+after-move-requires c κs = search needs
+
+-- src/turns.rt:126:5
+show-requires : tie.Need-show-requires
+show-requires c κs = search needs
+
+-- src/turns.rt:120:1
+same-length : tie.Need-same-length
+same-length c = search needs
+
+-- src/turns.rt:120:1
+returns : tie.Need-returns
+returns c = ?
+
+pub show-move-spec : {M : Type 1} → statement M
+show-move-spec =
+    tie.close (tie.spec events-of-requires after-move-requires show-requires same-length returns)
