@@ -5,3 +5,4 @@ pub mod Signs
 pub mod Writing
 pub mod Showing
 pub mod Saying
+pub mod Playing

@@ -1,4 +1,5 @@
 // A line of the input, taken: the first one begins the match, the others make its turns. Each answer is taken apart, and a refusal stops.
+use crate::Entry;
 use crate::First;
 use crate::Line;
 use crate::Match;
@@ -16,7 +17,6 @@ use crate::stub;
 use crate::text::put_refusal;
 use rules::Answer;
 use rules::Event;
-use rules::Limit;
 use rules::Setting;
 ghost use mathlib.Core.Path.{_≡_};
 ghost use mathlib.Core.List.{List, []};
@@ -26,7 +26,7 @@ ghost use Rattle.rules.specs.Events.{eight};
 ghost use Rattle.rules.specs.Image.{snakesIn};
 ghost use Rattle.rules.specs.Says.{says, seen};
 ghost use Rattle.rules.specs.Calls.{initialSays, stepSays, drawSays};
-ghost use Rattle.referee.specs.Match.{fresh, opened, drawnTurn, eventsShown, moved, movedTurn, beginSays, turnSays, refusalIn, Plays, Stops, Shows};
+ghost use Rattle.referee.specs.Match.{fresh, opened, drawnTurn, eventsShown, moved, movedTurn, snakesOf, asked, beginSays, turnSays, refusalIn, Plays, Stops, Shows};
 
 // A match that has just begun.
 fn fresh_match(setting: Setting) -> Match
@@ -91,17 +91,16 @@ fn events_of(m: Match, over: bool, image: &[u16], events: [Event; 8]) -> [Event;
     events
 }
 
-// The first line.
-fn open(setting: Setting, next: &mut [u16], out: &mut [u8]) -> Turned
+// The first line's setting; m stands for the match where it is refused.
+fn open(m: Match, setting: Setting, next: &mut [u16], out: &mut [u8]) -> Turned
     requires { ⌜ 462 ≤ length (now out) ⌝ }
-    ensures { λ r. ⌜ Plays (seen (opened setting) (initialSays setting (length (now (next .entry))))) (fresh setting) (now (next .entry)) (now (next .exit)) (now (out .entry)) (now (out .exit)) r ⌝ }
+    ensures { λ r. ⌜ Plays (seen (opened setting) (initialSays setting (length (now (next .entry))))) m (now (next .entry)) (now (next .exit)) (now (out .entry)) (now (out .exit)) r ⌝ }
 {
-    let m = fresh_match(setting);
     let answer = stub::initial_state(setting, next);
     let Answer::Done(words) = answer else {
         return stop(m, out, number_of(answer));
     };
-    show(m, b'i', false, &next[0..words], no_events(), out)
+    show(fresh_match(setting), b'i', false, &next[0..words], no_events(), out)
 }
 
 fn play_draw(m: Match, image: &[u16], index: u64, next: &mut [u16], list: &mut [u16], out: &mut [u8]) -> Turned
@@ -138,4 +137,45 @@ fn play_move(m: Match, image: &[u16], acts: &[u64], next: &mut [u16], out: &mut 
     };
     let events = s.events;
     show_move(m, s.terminal, &next[0..words], events, out)
+}
+
+// A line after the first, as it was read.
+fn play_entry(m: Match, e: Entry, n: usize, image: &[u16], next: &mut [u16], list: &mut [u16], out: &mut [u8]) -> Turned
+    requires { ⌜ (n ≡ snakesOf m) × (n ≤ 8) × (462 ≤ length (now out)) ⌝ }
+    ensures { λ r. ⌜ Plays (asked m (now (image .entry)) (length (now (next .entry))) (length (now (list .entry))) e) m (now (next .entry)) (now (next .exit)) (now (out .entry)) (now (out .exit)) r ⌝ }
+{
+    let line = e.line;
+    match line {
+        Line::NoLine => stop(m, out, 32),
+        Line::DrawLine(index) => play_draw(m, image, index, next, list, out),
+        Line::MoveLine => {
+            let acts = e.acts;
+            play_move(m, image, &acts[0..n], next, out)
+        }
+    }
+}
+
+// The first line of the input: the match that it begins, its image in `next`, its line in `out`.
+pub fn begin(m: Match, line: &[u8], next: &mut [u16], out: &mut [u8]) -> Turned
+    requires { ⌜ 462 ≤ length (now out) ⌝ }
+    ensures { λ r. ⌜ Plays (beginSays (now (line .entry)) (length (now (next .entry)))) m (now (next .entry)) (now (next .exit)) (now (out .entry)) (now (out .exit)) r ⌝ }
+{
+    let first = read_first(line);
+    let First::Opens(setting) = first else {
+        return stop(m, out, 32);
+    };
+    open(m, setting, next, out)
+}
+
+// A line after the first, in match m with this image: the next image in `next`, the cells drawn in `list`, the line in `out`.
+pub fn turn(m: Match, image: &[u16], line: &[u8], next: &mut [u16], list: &mut [u16], out: &mut [u8]) -> Turned
+    requires { ⌜ 462 ≤ length (now out) ⌝ }
+    ensures { λ r. ⌜ Plays (turnSays m (now (image .entry)) (now (line .entry)) (length (now (next .entry))) (length (now (list .entry)))) m (now (next .entry)) (now (next .exit)) (now (out .entry)) (now (out .exit)) r ⌝ }
+{
+    if m.over {
+        return stop(m, out, 33);
+    }
+    let n = snakes_of(m);
+    let e = read_later(line, n);
+    play_entry(m, e, n, image, next, list, out)
 }

@@ -1,3 +1,4 @@
+use mathlib.Core.Path.{sym, _∙_}
 use borrow.Author.Needs.{needs}
 use Rattle.referee.proofs.turns.events_of.Statement.{statement}
 use Rattle.referee.proofs.turns.events_of.Tie as tie
@@ -7,25 +8,24 @@ use Rattle.referee.proofs.game.ends_by.Reads as ends-by-reads
 use Rattle.referee.proofs.game.mark_all.Reads as mark-all-reads
 use Rattle.referee.proofs.shown.word_at.Reads as word-at-reads
 
--- src/turns.rt:87:8
 ends-by-requires : tie.Need-ends-by-requires
 ends-by-requires c κs = search needs
 
--- src/turns.rt:88:17
 word-at-requires : tie.Need-word-at-requires
 word-at-requires c κs = search needs
 
--- src/turns.rt:89:9
 mark-all-requires : tie.Need-mark-all-requires
 mark-all-requires c κs = search needs
 
--- src/turns.rt:89:9
 returns : tie.Need-returns
-returns c = ?
+returns c =
+    let t = sym (c .before .before .before .ends-by .ensures) ∙ c .before .before .if1 .taken in
+    c .mark-all .ensures ∙ rw (t, c .before .word-at .ensures)
 
--- src/turns.rt:83:1
 returns-2 : tie.Need-returns-2
-returns-2 c = ?
+returns-2 c =
+    let t = sym (c .before .ends-by .ensures) ∙ c .if1 .left in
+    rw t
 
 pub events-of-spec : {M : Type 1} → statement M
 events-of-spec =

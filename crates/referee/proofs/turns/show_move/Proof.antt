@@ -7,25 +7,20 @@ use Rattle.referee.proofs.game.after_move.Reads as after-move-reads
 use Rattle.referee.proofs.turns.events_of.Reads as events-of-reads
 use Rattle.referee.proofs.turns.show.Reads as show-reads
 
--- src/turns.rt:124:9
 events-of-requires : tie.Need-events-of-requires
 events-of-requires c κs = search needs
 
--- src/turns.rt:125:9
 after-move-requires : tie.Need-after-move-requires
 after-move-requires c κs = search needs
 
--- src/turns.rt:126:5
 show-requires : tie.Need-show-requires
 show-requires c κs = search needs
 
--- src/turns.rt:120:1
 same-length : tie.Need-same-length
 same-length c = search needs
 
--- src/turns.rt:120:1
 returns : tie.Need-returns
-returns c = ?
+returns c = rw (← c .before .before .before .before .before .events-of .ensures, ← c .before .before .before .before .after-move .ensures) (c .before .before .show .ensures)
 
 pub show-move-spec : {M : Type 1} → statement M
 show-move-spec =
