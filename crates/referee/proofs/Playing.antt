@@ -79,3 +79,7 @@ shown-move m o old new out exit r w i n over es p q s =
       ∙ marks-shown (o .next) v) in
     let a : Shows (moved m t v) 109 t w (eventsShown m t w v) out exit r = rw (← p, ← q) s in
     shown (movedTurn m o) m old new out exit r 109 t w (eventsShown m t w v) i (ap (lineText 109 t (o .next)) g) n a
+
+-- a line that is refused before any call
+pub refused-line : (m : Match) (k : ℕ) (old out exit : List ℕ) (r : Turned) → Stops m k out exit r → Plays (refuses k) m old old out exit r
+refused-line m k old out exit r s = record { more = s .more; game = s .game; words = s .words; image = refl; text = s .text }
