@@ -3,7 +3,7 @@ use Prim.Native.Nat.{ℕ, _-_, _≤_}
 use native.Mathlib.Nat.{sub-zero}
 use native.Mathlib.Omega.{arith}
 use mathlib.Core.Path.{_≡_, refl, sym, ap, _∙_}
-use mathlib.Core.Bool.{Bool}
+use mathlib.Core.Bool.{Bool, true, false}
 use mathlib.Core.List.{List}
 use lib.ListN.{length, take, drop, length-append}
 use Rattle.lists.specs.Choice.{_if_else_}
@@ -16,9 +16,10 @@ use Rattle.rules.specs.Step.{Outcome}
 use Rattle.rules.specs.Events.{blank, eight}
 use Rattle.rules.specs.declared.Event.{Event}
 use Rattle.rules.proofs.Image.{snakes-is}
+use Rattle.referee.specs.Lines.{readLater}
 use Rattle.referee.specs.Text.{Wrote, lineText, refusalText}
 use Rattle.referee.specs.Shown.{lineShown, markShown}
-use Rattle.referee.specs.Match.{Turn, endsBy, marked, moved, movedTurn, eventsShown, Stops, Shows, Plays}
+use Rattle.referee.specs.Match.{Turn, snakesOf, endsBy, marked, moved, movedTurn, eventsShown, asked, turnSays, Stops, Shows, Plays}
 use Rattle.referee.specs.declared.Match.{Match}
 use Rattle.referee.specs.declared.Turned.{Turned}
 use Rattle.referee.proofs.Saying.{front-back}
@@ -83,3 +84,13 @@ shown-move m o old new out exit r w i n over es p q s =
 -- a line that is refused before any call
 pub refused-line : (m : Match) (k : ℕ) (old out exit : List ℕ) (r : Turned) → Stops m k out exit r → Plays (refuses k) m old old out exit r
 refused-line m k old out exit r s = record { more = s .more; game = s .game; words = s .words; image = refl; text = s .text }
+
+-- '33 comes before 32'
+module _ (m : Match) (w line : List ℕ) (room cells : ℕ) where
+  pub turn-over : m .over ≡ true → turnSays m w line room cells ≡ refuses 33
+  unfolding turnSays
+  turn-over e = ap (λ (b : Bool). refuses 33 if b else asked m w room cells (readLater (snakesOf m) line)) e
+
+  pub turn-on : m .over ≡ false → turnSays m w line room cells ≡ asked m w room cells (readLater (snakesOf m) line)
+  unfolding turnSays
+  turn-on e = ap (λ (b : Bool). refuses 33 if b else asked m w room cells (readLater (snakesOf m) line)) e

@@ -1,3 +1,6 @@
+use Rattle.referee.specs.Match.{asked}
+use Rattle.referee.proofs.Playing.{turn-over, turn-on}
+use lib.ListN.{length}
 use Rattle.referee.proofs.Playing.{refused-line}
 use Rattle.referee.specs.Match.{snakesOf, turnSays}
 use Rattle.referee.specs.Lines.{readLater}
@@ -21,8 +24,9 @@ same-length : tie.Need-same-length
 same-length c = search needs
 
 returns : tie.Need-returns
-unfolding turnSays
-returns c = rw (c .before .before .before .before .if1 .taken) (refused-line _ 33 _ _ _ _ (c .before .before .stop .ensures))
+returns c =
+    let a = c .before .before .before .before .before .before .before .before .before .before .args in
+    rw (turn-over (a .m) (now (a .image)) (now (a .line)) (length (now (a .next))) (length (now (a .list))) (c .before .before .before .before .if1 .taken)) (refused-line (a .m) 33 (now (a .next)) _ _ _ (c .before .before .stop .ensures))
 
 snakes-of-requires : tie.Need-snakes-of-requires
 snakes-of-requires c κs = search needs
@@ -43,11 +47,10 @@ same-length-4 : tie.Need-same-length-4
 same-length-4 c = search needs
 
 returns-2 : tie.Need-returns-2
-unfolding turnSays
 returns-2 c =
     let a = c .before .before .before .before .before .before .before .before .before .before .before .before .before .before .before .before .before .before .args in
     let p : c .before .before .before .before .before .before .before .before .before .before .read-later .result ≡ readLater (snakesOf (a .m)) (now (a .line)) = c .before .before .before .before .before .before .before .before .before .before .read-later .ensures ∙ ap (λ (k : ℕ). readLater k (now (a .line))) (c .before .before .before .before .before .before .before .before .before .before .before .snakes-of .ensures .0) in
-    rw (c .before .before .before .before .before .before .before .before .before .before .before .before .if1 .left, ← p) (c .before .before .before .before .before .before .play-entry .ensures)
+    rw (turn-on (a .m) (now (a .image)) (now (a .line)) (length (now (a .next))) (length (now (a .list))) (c .before .before .before .before .before .before .before .before .before .before .before .before .if1 .left), ← p) (c .before .before .before .before .before .before .play-entry .ensures)
 
 pub turn-spec : {M : Type 1} → statement M
 turn-spec =
