@@ -6,3 +6,4 @@ pub mod Writing
 pub mod Showing
 pub mod Saying
 pub mod Playing
+pub mod Feeding

@@ -6,7 +6,7 @@ ghost use lib.ListN.{length};
 ghost use Rattle.lists.specs.Lists.{writeAt};
 ghost use Rattle.referee.specs.Text.{Wrote, decimalText, digitOf, one};
 
-fn write_at(out: &mut [u8], at: usize, src: &[u8])
+pub fn write_at(out: &mut [u8], at: usize, src: &[u8])
     requires { ⌜ at + length (now src) ≤ length (now out) ⌝ }
     ensures { λ _. ⌜ now (out .exit) ≡ writeAt (now (out .entry)) at (now (src .entry)) ⌝ }
 {

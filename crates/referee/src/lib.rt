@@ -6,6 +6,7 @@ mod lines;
 mod numbers;
 mod places;
 mod shown;
+mod split;
 mod stub;
 mod text;
 mod turns;

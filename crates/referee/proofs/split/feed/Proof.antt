@@ -1,0 +1,34 @@
+use Rattle.referee.proofs.Feeding.{fed-over, fed-past, fed-on}
+use native.Mathlib.Omega.{arith}
+use denote.Ref.{now}
+use mathlib.Core.Path.{_≡_}
+use borrow.Author.Needs.{needs}
+use Rattle.referee.proofs.split.feed.Statement.{statement}
+use Rattle.referee.proofs.split.feed.Tie as tie
+use Rattle.referee.proofs.split.feed.Reads as reads
+use Rattle.referee.proofs.split.feed.Lts as lts
+use Rattle.referee.proofs.bytes.write_at.Reads as write-at-reads
+
+returns : tie.Need-returns
+returns c = λ s h. fed-over (now (c .before .before .before .args .line)) s (now (c .before .before .before .args .part)) (c .before .before .before .args .fill) h (c .if1 .taken)
+
+returns-2 : tie.Need-returns-2
+returns-2 c = λ s h. fed-past (now (c .before .before .before .before .args .line)) s (now (c .before .before .before .before .args .part)) (c .before .before .before .before .args .fill) h (c .before .if1 .left) (c .if2 .taken)
+
+write-at-requires : tie.Need-write-at-requires
+write-at-requires c κs = search needs
+
+add-result : tie.Need-add-result
+add-result c = search needs
+
+same-length : tie.Need-same-length
+same-length c = search needs
+
+returns-3 : tie.Need-returns-3
+returns-3 c =
+    λ s h. let a = c .before .before .before .before .before .before .before .before .args in
+    rw (c .before .before .write-at .ensures) (fed-on (now (a .line)) s (now (a .part)) (a .fill) h (c .before .before .before .before .before .if1 .left) (c .before .before .before .before .if2 .left) (omega arith))
+
+pub feed-spec : {M : Type 1} → statement M
+feed-spec =
+    tie.close (tie.spec returns returns-2 write-at-requires add-result same-length returns-3)
