@@ -29,6 +29,7 @@ use Rattle.referee.specs.declared.Line.{Line}
 use Rattle.referee.specs.declared.Line.the-variants.{NoLine, DrawLine, MoveLine}
 use Rattle.referee.specs.declared.Entry.{Entry}
 use Rattle.referee.specs.declared.Match.{Match}
+use Rattle.referee.specs.declared.Desk.{Desk}
 use Rattle.referee.specs.declared.Turned.{Turned}
 
 -- what a line that is not refused does: the next state, the match, and the line that it prints
@@ -144,6 +145,7 @@ pub record Plays (turn : Says Turn) (m : Match) (old new out exit : List ℕ) (r
   pub game : r .game ≡ beside (λ t. t .game) m turn
   pub words : r .words ≡ beside (λ t. length (imageOf (t .next))) 0 turn
   pub image : new ≡ lent (λ t. imageOf (t .next)) old turn
+  pub long : length new ≡ length old
   pub text : Wrote out exit 0 (r .text) (said turn) 462
 
 -- its number, where it is a refusal
@@ -169,6 +171,14 @@ pub record Shows (m : Match) (letter : ℕ) (over : Bool) (w : List ℕ) (es : L
 -- '`p` and each place'
 unfoldable pub endText : Match → List ℕ
 endText m = placesText (placesOf (snakesOf m) (m .deaths)) (snakesOf m)
+
+-- what a line does at a desk, the first line or a later one; w is its image
+unfoldable pub lineSays : Desk → List ℕ → List ℕ → ℕ → ℕ → Says Turn
+lineSays d w line room cells = turnSays (d .game) w line room cells if d .begun else beginSays line room
+
+-- 'At the end of input, `p` and each place'; 'Empty input is 32'
+unfoldable pub closeText : Desk → List ℕ
+closeText d = endText (d .game) if d .begun else refusalText 32
 
 -- ---- the whole replay, with room for every image ('at most 9,253 words') and every list of cells
 

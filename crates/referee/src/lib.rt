@@ -1,5 +1,6 @@
 // The replay's library: lines read, the match played, lines and places written. The types that its modules share.
 mod bytes;
+mod play;
 mod fields;
 mod game;
 mod lines;
@@ -81,4 +82,11 @@ pub struct Turned {
     pub game: Match,
     pub words: usize,
     pub text: usize,
+}
+
+// Where a replay stands: whether the first line was taken, the match, and how many words its image has.
+pub struct Desk {
+    pub begun: bool,
+    pub game: Match,
+    pub words: usize,
 }

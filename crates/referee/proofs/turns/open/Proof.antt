@@ -121,7 +121,7 @@ returns-2 c =
     let told : i .result ≡ DoneWords n = c .before .before .before .before .before .before .before .before .before .answer .given .1 in
     let d = done-by (λ (t : State). t) old new n x (ap says (sym told) ∙ i .ensures .answer) (i .ensures .words) in
     elim d [
-      | done t e p u f l ↦ rw e (shown (opened s t) m old new _ _ _ 105 false (take (n - 0) new) (eight []) f refl u (rw (c .before .before .before .before .before .before .before .fresh-match .ensures, c .before .before .before .before .no-events .ensures) at (c .before .before .show .ensures)))
+      | done t e p u f l ↦ rw e (shown (opened s t) m old new _ _ _ 105 false (take (n - 0) new) (eight []) f refl u (initial-fits s (length old) t e .short) (rw (c .before .before .before .before .before .before .before .fresh-match .ensures, c .before .before .before .before .no-events .ensures) at (c .before .before .show .ensures)))
     ]
 
 pub open-spec : {M : Type 1} → statement M

@@ -131,7 +131,7 @@ returns-2 c =
     let told : i .result .answer ≡ DoneWords n = c .before .before .before .before .before .before .before .before .answer .given .1 in
     let d = done-by (λ (t : Draw). t .next) old new n x (ap says (sym told) ∙ i .ensures .answer) (i .ensures .words) in
     elim d [
-      | done t e p u f l ↦ rw e (shown (drawnTurn m t) m old new _ _ _ 100 false (take (n - 0) new) (eight []) f refl u (rw (c .before .before .before .before .no-events .ensures) at (c .before .before .show .ensures)))
+      | done t e p u f l ↦ rw e (shown (drawnTurn m t) m old new _ _ _ 100 false (take (n - 0) new) (eight []) f refl u (draw-fits w k (length old) cells t e .short) (rw (c .before .before .before .before .no-events .ensures) at (c .before .before .show .ensures)))
     ]
 
 pub play-draw-spec : {M : Type 1} → statement M

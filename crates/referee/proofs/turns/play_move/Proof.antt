@@ -124,7 +124,7 @@ returns-2 c =
     let told : i .result .answer ≡ DoneWords n = c .before .before .before .before .before .before .before .before .answer .given .1 in
     let d = done-by (λ (t : Outcome). t .next) old new n x (ap says (sym told) ∙ i .ensures .answer) (i .ensures .words) in
     elim d [
-      | done t e p u f l ↦ rw e (shown-move m t old new _ _ _ (take (n - 0) new) f u (i .result .terminal) (i .result .events) (i .ensures .terminal ∙ ap (beside (λ (o : Outcome). o .terminal) false) e) (i .ensures .events ∙ ap (beside (λ (o : Outcome). eight (o .events)) (replicate 8 blank)) e) (c .before .before .show-move .ensures))
+      | done t e p u f l ↦ rw e (shown-move m t old new _ _ _ (take (n - 0) new) f u (step-fits (m .setting) w acts (length old) t e .short) (i .result .terminal) (i .result .events) (i .ensures .terminal ∙ ap (beside (λ (o : Outcome). o .terminal) false) e) (i .ensures .events ∙ ap (beside (λ (o : Outcome). eight (o .events)) (replicate 8 blank)) e) (c .before .before .show-move .ensures))
     ]
 
 pub play-move-spec : {M : Type 1} → statement M
