@@ -108,10 +108,6 @@ pub stays : (x : Says Turn) (m : Match) (b old new out exit : List ℕ) (r : Tur
 stays (refuses k) m b old new out exit r p e = record { more = p .more; game = p .game; words = p .words; image = refl; long = refl; text = p .text }
 stays (gives t) m b old new out exit r p e = absurd (true≢false (sym (p .more) ∙ e))
 
-pub goes-on : (x : Says Turn) (m : Match) (old new out exit : List ℕ) (r : Turned) → Plays x m old new out exit r → r .more ≡ true → r .words ≤ length new
-goes-on (refuses k) m old new out exit r p e = absurd (false≢true (sym (p .more) ∙ e))
-goes-on (gives t) m old new out exit r p e = rw (p .words, p .image) (over-long (imageOf (t .next)) old)
-
 pub moves-on : (x : Says Turn) (m : Match) (b old new out exit : List ℕ) (r : Turned) → Plays x m old new out exit r → r .more ≡ true → length old ≤ length b
     → Plays x m b (writeAt b 0 (take (r .words - 0) new)) out exit r
 moves-on (refuses k) m b old new out exit r p e h = absurd (false≢true (sym (p .more) ∙ e))
@@ -140,3 +136,8 @@ module _ (d : Desk) where
     pub line-new : d .begun ≡ false → lineSays d w line room cells ≡ beginSays line room
     unfolding lineSays
     line-new e = ap (λ (b : Bool). turnSays (d .game) w line room cells if b else beginSays line room) e
+
+-- the words of the answer stand in the buffer
+pub words-fit : (x : Says Turn) (m : Match) (old new out exit : List ℕ) (r : Turned) → Plays x m old new out exit r → r .words ≤ length new
+words-fit (refuses k) m old new out exit r p = rw (p .words) (omega arith)
+words-fit (gives t) m old new out exit r p = rw (p .words, p .image) (over-long (imageOf (t .next)) old)

@@ -1,7 +1,7 @@
 -- The input as lines, and a line that comes in parts (01, 'Replay'). Assumes nothing.
 use Prim.Native.Nat.{ℕ, _≤_, min}
 use mathlib.Core.Path.{_≡_}
-use mathlib.Core.List.{List, [], _∷_}
+use mathlib.Core.List.{List, [], _∷_, _++_}
 use lib.ListN.{length, take}
 use Rattle.referee.specs.Fields.{pieces}
 
@@ -23,3 +23,9 @@ linesOf s = linesFrom (pieces 10 s)
 pub record Holds (buffer : List ℕ) (fill : ℕ) (s : List ℕ) : Type 0 where
   pub counted : fill ≡ min (length s) 201
   pub front : length s ≤ 200 → take (length s) buffer ≡ s
+
+-- the part goes behind whatever bytes are held
+pub record Feeds (old new : List ℕ) (fill r : ℕ) (part : List ℕ) : Type 0 where
+  pub most : r ≤ 201
+  pub long : length new ≡ length old
+  pub holds : (s : List ℕ) → Holds old fill s → Holds new r (s ++ part)

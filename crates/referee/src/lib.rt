@@ -12,6 +12,15 @@ mod stub;
 mod text;
 mod turns;
 
+pub use lines::read_first;
+pub use lines::read_later;
+pub use play::close;
+pub use play::new_desk;
+pub use play::take_line;
+pub use split::feed;
+pub use split::line_end;
+pub use turns::begin;
+pub use turns::turn;
 use rules::Limit;
 use rules::Setting;
 

@@ -2,11 +2,10 @@
 use crate::bytes::write_at;
 use crate::fields::piece_end;
 ghost use mathlib.Core.Path.{_≡_};
-ghost use mathlib.Core.List.{List, _++_};
-ghost use Prim.Native.Nat.{ℕ, _+_, _≤_};
+ghost use Prim.Native.Nat.{_+_, _≤_};
 ghost use lib.ListN.{length, drop};
 ghost use Rattle.referee.specs.Fields.{upTo};
-ghost use Rattle.referee.specs.Split.{Holds};
+ghost use Rattle.referee.specs.Split.{Feeds};
 
 // Where the line that goes on at `from` ends: at a newline, or at the end of what came.
 pub fn line_end(part: &[u8], from: usize) -> usize
@@ -19,7 +18,7 @@ pub fn line_end(part: &[u8], from: usize) -> usize
 // A further part of a line, after the bytes that are held; of more than 200 bytes only that they are more is kept.
 pub fn feed(line: &mut [u8], fill: usize, part: &[u8]) -> usize
     requires { ⌜ 201 ≤ length (now line) ⌝ }
-    ensures { λ r. ⌜ ((s : List ℕ) → Holds (now (line .entry)) fill s → Holds (now (line .exit)) r (s ++ now (part .entry))) ⌝ }
+    ensures { λ r. ⌜ Feeds (now (line .entry)) (now (line .exit)) fill r (now (part .entry)) ⌝ }
 {
     if 200 < fill {
         return 201;

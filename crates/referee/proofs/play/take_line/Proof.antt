@@ -1,4 +1,4 @@
-use Rattle.referee.proofs.Playing.{stays, goes-on, moves-on}
+use Rattle.referee.proofs.Playing.{stays, words-fit, moves-on}
 use Rattle.referee.specs.Match.{lineSays, Plays}
 use borrow.Author.Tests.{not-true, not-false}
 use lib.Seq.{length-take-le}
@@ -73,7 +73,7 @@ part-write-at-end c =
     let t = k .result in
     let x = lineSays (a .d) (take (a .d .words) image) (now (a .line)) (length old) (length (now (a .list))) in
     let p : Plays x (a .d .game) old new out exit t = rw (sub-zero (a .d .words)) at (k .ensures) in
-    let l : t .words ≤ length new = goes-on x (a .d .game) old new out exit t p (not-false (t .more) (c .before .before .if1 .left)) in
+    let l : t .words ≤ length new = words-fit x (a .d .game) old new out exit t p in
     search (needs, l)
 
 write-at-requires : tie.Need-write-at-requires
@@ -88,7 +88,7 @@ write-at-requires c κs =
     let t = k .result in
     let x = lineSays (a .d) (take (a .d .words) image) (now (a .line)) (length old) (length (now (a .list))) in
     let p : Plays x (a .d .game) old new out exit t = rw (sub-zero (a .d .words)) at (k .ensures) in
-    let l : t .words ≤ length new = goes-on x (a .d .game) old new out exit t p (not-false (t .more) (c .before .before .before .if1 .left)) in
+    let l : t .words ≤ length new = words-fit x (a .d .game) old new out exit t p in
     let b : length old ≤ length image = c .before .before .before .before .before .before .before .before .before .before .before .before .before .before .before .before .before .before .before .before .before .before .pre .1 in
     let e = length-take-le (t .words - 0) new (omega arith) in
     omega (arith, p .long, e)

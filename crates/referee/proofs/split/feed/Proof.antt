@@ -1,7 +1,9 @@
+use lib.ListN.{length}
+use Rattle.lists.proofs.Writes.{length-write}
 use Rattle.referee.proofs.Feeding.{fed-over, fed-past, fed-on}
 use native.Mathlib.Omega.{arith}
 use denote.Ref.{now}
-use mathlib.Core.Path.{_≡_}
+use mathlib.Core.Path.{_≡_, refl, ap, _∙_}
 use borrow.Author.Needs.{needs}
 use Rattle.referee.proofs.split.feed.Statement.{statement}
 use Rattle.referee.proofs.split.feed.Tie as tie
@@ -10,10 +12,10 @@ use Rattle.referee.proofs.split.feed.Lts as lts
 use Rattle.referee.proofs.bytes.write_at.Reads as write-at-reads
 
 returns : tie.Need-returns
-returns c = λ s h. fed-over (now (c .before .before .before .args .line)) s (now (c .before .before .before .args .part)) (c .before .before .before .args .fill) h (c .if1 .taken)
+returns c = record { most = omega arith; long = refl; holds = λ s h. fed-over (now (c .before .before .before .args .line)) s (now (c .before .before .before .args .part)) (c .before .before .before .args .fill) h (c .if1 .taken) }
 
 returns-2 : tie.Need-returns-2
-returns-2 c = λ s h. fed-past (now (c .before .before .before .before .args .line)) s (now (c .before .before .before .before .args .part)) (c .before .before .before .before .args .fill) h (c .before .if1 .left) (c .if2 .taken)
+returns-2 c = record { most = omega arith; long = refl; holds = λ s h. fed-past (now (c .before .before .before .before .args .line)) s (now (c .before .before .before .before .args .part)) (c .before .before .before .before .args .fill) h (c .before .if1 .left) (c .if2 .taken) }
 
 write-at-requires : tie.Need-write-at-requires
 write-at-requires c κs = search needs
@@ -26,8 +28,13 @@ same-length c = search needs
 
 returns-3 : tie.Need-returns-3
 returns-3 c =
-    λ s h. let a = c .before .before .before .before .before .before .before .before .args in
-    rw (c .before .before .write-at .ensures) (fed-on (now (a .line)) s (now (a .part)) (a .fill) h (c .before .before .before .before .before .if1 .left) (c .before .before .before .before .if2 .left) (omega arith))
+    let a = c .before .before .before .before .before .before .before .before .args in
+    let e = c .before .before .write-at .ensures in
+    record {
+      most = omega arith;
+      long = ap length e ∙ length-write (now (a .line)) (a .fill) (now (a .part)) (omega arith);
+      holds = λ s h. rw e (fed-on (now (a .line)) s (now (a .part)) (a .fill) h (c .before .before .before .before .before .if1 .left) (c .before .before .before .before .if2 .left) (omega arith));
+    }
 
 pub feed-spec : {M : Type 1} → statement M
 feed-spec =
