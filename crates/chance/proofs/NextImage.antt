@@ -21,7 +21,8 @@ use Rattle.rules.proofs.FreeCells.{free-off-food}
 use Rattle.rules.proofs.Facts.{start-first, start-mono}
 use Rattle.rules.proofs.Fairness.{listed}
 use Rattle.rules.proofs.Sets.{with-long}
-use Rattle.rules.proofs.Words.{count-is, image-of}
+use Rattle.rules.proofs.Words.{image-of}
+use Rattle.rules.proofs.Parts.{state-count}
 use Rattle.chance.specs.Next.{Fresh, nextWords}
 
 module _ (w : List ℕ) (s : Sound w) where
@@ -58,7 +59,7 @@ module _ (w : List ℕ) (s : Sound w) where
         let cells = drawn t i in
         let f = withFood (foodAt w) cells in
         let n : length f ≡ foodCountIn w + length cells = with-long cells (foodAt w) ∙ ap (λ (k : ℕ). k + length cells) food-long in
-        (λ j. count-is w s j ∷ sideIn w ∷ afterDraw t i .due ∷ bit (afterDraw t i .birth) ∷ n j ∷ (table ++ (bodies ++ f)))
+        (λ j. state-count w j ∷ sideIn w ∷ afterDraw t i .due ∷ bit (afterDraw t i .birth) ∷ n j ∷ (table ++ (bodies ++ f)))
         ∙ ap (λ (r : List ℕ). snakesIn w ∷ sideIn w ∷ afterDraw t i .due ∷ bit (afterDraw t i .birth) ∷ (foodCountIn w + length cells) ∷ r)
         (sym (append-assoc table bodies f) ∙ ap (λ (m : List ℕ). m ++ f) middle)
 

@@ -21,7 +21,7 @@ use Rattle.rules.specs.Says.{Says, refuses, gives, first, seen}
 use Rattle.rules.specs.Calls.{initialSays, differs, badAction, stepSays, Draw, drawSays}
 use Rattle.rules.specs.declared.Setting.{Setting}
 use Rattle.rules.proofs.Facts.{sound}
-use Rattle.rules.proofs.Words.{count-is}
+use Rattle.rules.proofs.Parts.{state-count}
 
 -- ---- an answer seen through f
 
@@ -91,7 +91,7 @@ unfolding stepped outcomeOf
 snakes-kept s t acts = each-long (count t) _
 
 well-few : (w : List ℕ) → wellFormed w ≡ true → count (stateOf w) ≤ 8
-well-few w e = let ok = sound w e in omega (arith, count-is w ok, ok .snakes-max)
+well-few w e = let ok = sound w e in omega (arith, state-count w, ok .snakes-max)
 
 pub step-fits : (s : Setting) (w acts : List ℕ) (room : ℕ) (o : Outcome) → stepSays s w acts room ≡ gives o → Fits (o .next) room
 unfolding stepSays stepped outcomeOf

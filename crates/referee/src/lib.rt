@@ -8,7 +8,6 @@ mod numbers;
 mod places;
 mod shown;
 mod split;
-mod stub;
 mod text;
 mod turns;
 

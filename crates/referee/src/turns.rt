@@ -13,7 +13,6 @@ use crate::lines::read_first;
 use crate::lines::read_later;
 use crate::shown::put_line;
 use crate::shown::word_at;
-use crate::stub;
 use crate::text::put_refusal;
 use rules::Answer;
 use rules::Event;
@@ -96,7 +95,7 @@ fn open(m: Match, setting: Setting, next: &mut [u16], out: &mut [u8]) -> Turned
     requires { ⌜ 462 ≤ length (now out) ⌝ }
     ensures { λ r. ⌜ Plays (seen (opened setting) (initialSays setting (length (now (next .entry))))) m (now (next .entry)) (now (next .exit)) (now (out .entry)) (now (out .exit)) r ⌝ }
 {
-    let answer = stub::initial_state(setting, next);
+    let answer = arena::initial_state(setting, next);
     let Answer::Done(words) = answer else {
         return stop(m, out, number_of(answer));
     };
@@ -107,7 +106,7 @@ fn play_draw(m: Match, image: &[u16], index: u64, next: &mut [u16], list: &mut [
     requires { ⌜ 462 ≤ length (now out) ⌝ }
     ensures { λ r. ⌜ Plays (seen (drawnTurn m) (drawSays (now (image .entry)) index (length (now (next .entry))) (length (now (list .entry))))) m (now (next .entry)) (now (next .exit)) (now (out .entry)) (now (out .exit)) r ⌝ }
 {
-    let d = stub::draw(image, index, next, list);
+    let d = arena::draw(image, index, next, list);
     let answer = d.answer;
     let Answer::Done(words) = answer else {
         return stop(m, out, number_of(answer));
@@ -130,7 +129,7 @@ fn play_move(m: Match, image: &[u16], acts: &[u64], next: &mut [u16], out: &mut 
     ensures { λ r. ⌜ Plays (seen (movedTurn m) (stepSays (m .setting) (now (image .entry)) (now (acts .entry)) (length (now (next .entry))))) m (now (next .entry)) (now (next .exit)) (now (out .entry)) (now (out .exit)) r ⌝ }
 {
     let setting = m.setting;
-    let s = stub::step(setting, image, acts, next);
+    let s = arena::step(setting, image, acts, next);
     let answer = s.answer;
     let Answer::Done(words) = answer else {
         return stop(m, out, number_of(answer));

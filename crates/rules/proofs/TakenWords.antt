@@ -13,12 +13,13 @@ use Rattle.rules.specs.Image.{front, bodyOf, snakesIn, areaIn, stateOf}
 use Rattle.rules.specs.Facts.{Sound}
 use Rattle.rules.specs.Chance.{taken, freeFrom, free}
 use Rattle.rules.proofs.Image.{past-front}
-use Rattle.rules.proofs.Words.{count-is, image-of}
+use Rattle.rules.proofs.Words.{image-of}
+use Rattle.rules.proofs.Parts.{state-count}
 use Rattle.rules.proofs.FreeCells.{free-ext}
 
 module _ (w : List ℕ) (s : Sound w) where
   pub words-past : drop (front (snakesIn w)) w ≡ concatBelow (count (stateOf w)) (bodyOf (stateOf w)) ++ stateOf w .food
-  words-past = ap₂ (λ (k : ℕ) (l : List ℕ). drop (front k) l) (sym (count-is w s)) (sym (image-of w s)) ∙ past-front (stateOf w)
+  words-past = ap₂ (λ (k : ℕ) (l : List ℕ). drop (front k) l) (sym (state-count w)) (sym (image-of w s)) ∙ past-front (stateOf w)
 
   pub taken-words : (c : ℕ) → member c (drop (front (snakesIn w)) w) ≡ taken (stateOf w) c
   taken-words c =

@@ -10,7 +10,6 @@ use mathlib.Core.List.{List}
 use borrow.Author.Needs.{needs}
 use Rattle.referee.proofs.bytes.put_number.Statement.{statement}
 use Rattle.referee.proofs.bytes.put_number.Tie as tie
-use Rattle.io.proofs.decimal.Reads as decimal-reads
 
 decimal-requires : tie.Need-decimal-requires
 decimal-requires c κs = search needs

@@ -1,11 +1,6 @@
 use borrow.Author.Needs.{needs}
 use Rattle.referee.proofs.game.after_move.Statement.{statement}
 use Rattle.referee.proofs.game.after_move.Tie as tie
-use Rattle.referee.proofs.game.after_move.Reads as reads
-use Rattle.referee.proofs.game.after_move.Lts as lts
-use Rattle.referee.proofs.game.count_on.Reads as count-on-reads
-use Rattle.referee.proofs.game.deaths_after.Reads as deaths-after-reads
-use Rattle.referee.proofs.game.ends_by.Reads as ends-by-reads
 
 count-on-requires : tie.Need-count-on-requires
 count-on-requires c κs = search needs

@@ -2,8 +2,6 @@ use borrow.Author.Tests.{lt-ltb, le-ltb}
 use borrow.Author.Needs.{needs}
 use Rattle.referee.proofs.game.count_on.Statement.{statement}
 use Rattle.referee.proofs.game.count_on.Tie as tie
-use Rattle.referee.proofs.game.count_on.Reads as reads
-use Rattle.referee.proofs.game.count_on.Lts as lts
 
 add-result : tie.Need-add-result
 add-result c = search needs

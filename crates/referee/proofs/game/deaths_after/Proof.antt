@@ -9,9 +9,6 @@ use native.Mathlib.Omega.{arith}
 use Prim.Native.Nat.{ℕ, _-_, _≤_}
 use Rattle.referee.proofs.game.deaths_after.Statement.{statement}
 use Rattle.referee.proofs.game.deaths_after.Tie as tie
-use Rattle.referee.proofs.game.deaths_after.Reads as reads
-use Rattle.referee.proofs.game.deaths_after.Lts as lts
-use Rattle.referee.proofs.game.death_of.Reads as death-of-reads
 
 abbrev Inv-loop : tie.InvT-loop
 Inv-loop k deaths events out₀ i₀ out i = (i ≤ 8) × (out ≡ filled (deathAt k deaths events) i 8 0)

@@ -5,10 +5,6 @@ use mathlib.Core.Path.{ap, _∙_}
 use borrow.Author.Needs.{needs}
 use Rattle.referee.proofs.game.ends_by.Statement.{statement}
 use Rattle.referee.proofs.game.ends_by.Tie as tie
-use Rattle.referee.proofs.game.ends_by.Reads as reads
-use Rattle.referee.proofs.game.ends_by.Lts as lts
-use Rattle.referee.proofs.game.count_on.Reads as count-on-reads
-use Rattle.referee.proofs.game.has_reached.Reads as has-reached-reads
 
 count-on-requires : tie.Need-count-on-requires
 count-on-requires c κs = search needs

@@ -4,8 +4,6 @@ use mathlib.Core.Path.{sym, ap}
 use borrow.Author.Needs.{needs}
 use Rattle.referee.proofs.game.has_reached.Statement.{statement}
 use Rattle.referee.proofs.game.has_reached.Tie as tie
-use Rattle.referee.proofs.game.has_reached.Reads as reads
-use Rattle.referee.proofs.game.has_reached.Lts as lts
 
 enum-told : tie.Need-enum-told
 enum-told c = search needs

@@ -15,11 +15,6 @@ use denote.Ref.{now}
 use Prim.Native.Nat.{ℕ, _-_, _≤_}
 use Rattle.referee.proofs.game.mark_all.Statement.{statement}
 use Rattle.referee.proofs.game.mark_all.Tie as tie
-use Rattle.referee.proofs.game.mark_all.Reads as reads
-use Rattle.referee.proofs.game.mark_all.Lts as lts
-use Rattle.referee.proofs.game.mark.Reads as mark-reads
-use Rattle.referee.proofs.game.no_events.Reads as no-events-reads
-use Rattle.referee.proofs.shown.word_at.Reads as word-at-reads
 
 abbrev Inv-loop : tie.InvT-loop
 Inv-loop image n events out₀ i₀ out i = (i ≤ n) × (out ≡ filled (markShown image events) i 8 blank)

@@ -1,9 +1,6 @@
 use borrow.Author.Needs.{needs}
 use Rattle.referee.proofs.game.no_events.Statement.{statement}
 use Rattle.referee.proofs.game.no_events.Tie as tie
-use Rattle.referee.proofs.game.no_events.Reads as reads
-use Rattle.referee.proofs.game.no_events.Lts as lts
-use Rattle.referee.proofs.game.no_event.Reads as no-event-reads
 
 no-event-requires : tie.Need-no-event-requires
 no-event-requires c κs = search needs

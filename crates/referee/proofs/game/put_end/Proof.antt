@@ -2,11 +2,6 @@ use Rattle.referee.specs.Match.{endText}
 use borrow.Author.Needs.{needs}
 use Rattle.referee.proofs.game.put_end.Statement.{statement}
 use Rattle.referee.proofs.game.put_end.Tie as tie
-use Rattle.referee.proofs.game.put_end.Reads as reads
-use Rattle.referee.proofs.game.put_end.Lts as lts
-use Rattle.referee.proofs.game.snakes_of.Reads as snakes-of-reads
-use Rattle.referee.proofs.places.places.Reads as places-reads
-use Rattle.referee.proofs.text.put_places.Reads as put-places-reads
 
 snakes-of-requires : tie.Need-snakes-of-requires
 snakes-of-requires c κs = search needs

@@ -2,8 +2,6 @@ use native.Mathlib.Omega.{arith}
 use borrow.Author.Tests.{lt-ltb, le-ltb}
 use Rattle.referee.proofs.game.snakes_of.Statement.{statement}
 use Rattle.referee.proofs.game.snakes_of.Tie as tie
-use Rattle.referee.proofs.game.snakes_of.Reads as reads
-use Rattle.referee.proofs.game.snakes_of.Lts as lts
 
 returns : tie.Need-returns
 returns c = (rw (lt-ltb _ _ (c .if1 .taken)), omega arith)

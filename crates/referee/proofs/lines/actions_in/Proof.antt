@@ -18,11 +18,6 @@ use Rattle.referee.specs.Numbers.{decimalOf}
 use Rattle.referee.specs.Lines.{isAction, action, actionsIn, Behind}
 use Rattle.referee.proofs.lines.actions_in.Statement.{statement}
 use Rattle.referee.proofs.lines.actions_in.Tie as tie
-use Rattle.referee.proofs.lines.actions_in.Reads as reads
-use Rattle.referee.proofs.lines.actions_in.Lts as lts
-use Rattle.referee.proofs.fields.next_start.Reads as next-start-reads
-use Rattle.referee.proofs.lines.next_number.Reads as next-number-reads
-use Rattle.referee.proofs.lines.no_entry.Reads as no-entry-reads
 
 abbrev Inv-loop : tie.InvT-loop
 Inv-loop s n acts₀ at₀ k₀ acts at k = (k ≤ n) × Behind s (k + 1) at × (allBelow k (isAction (fieldsOf s)) ≡ true) × (acts ≡ filled (action (fieldsOf s)) k 8 0)

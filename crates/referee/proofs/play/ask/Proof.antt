@@ -4,10 +4,6 @@ use denote.Ref.{now}
 use borrow.Author.Needs.{needs}
 use Rattle.referee.proofs.play.ask.Statement.{statement}
 use Rattle.referee.proofs.play.ask.Tie as tie
-use Rattle.referee.proofs.play.ask.Reads as reads
-use Rattle.referee.proofs.play.ask.Lts as lts
-use Rattle.referee.proofs.turns.begin.Reads as begin-reads
-use Rattle.referee.proofs.turns.turn.Reads as turn-reads
 
 turn-requires : tie.Need-turn-requires
 turn-requires c κs = search needs

@@ -4,10 +4,6 @@ use native.Mathlib.Omega.{arith}
 use borrow.Author.Needs.{needs}
 use Rattle.referee.proofs.play.close.Statement.{statement}
 use Rattle.referee.proofs.play.close.Tie as tie
-use Rattle.referee.proofs.play.close.Reads as reads
-use Rattle.referee.proofs.play.close.Lts as lts
-use Rattle.referee.proofs.game.put_end.Reads as put-end-reads
-use Rattle.referee.proofs.text.put_refusal.Reads as put-refusal-reads
 
 put-end-requires : tie.Need-put-end-requires
 put-end-requires c κs = search needs

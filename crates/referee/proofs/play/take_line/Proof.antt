@@ -12,10 +12,6 @@ use Prim.Native.Nat.{ℕ, _-_, _≤_}
 use borrow.Author.Needs.{needs}
 use Rattle.referee.proofs.play.take_line.Statement.{statement}
 use Rattle.referee.proofs.play.take_line.Tie as tie
-use Rattle.referee.proofs.play.take_line.Reads as reads
-use Rattle.referee.proofs.play.take_line.Lts as lts
-use Rattle.lists.proofs.write_at.Reads as write-at-reads
-use Rattle.referee.proofs.play.ask.Reads as ask-reads
 
 sub-ask : tie.Need-sub-ask
 sub-ask c = search needs

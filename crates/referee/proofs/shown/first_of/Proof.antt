@@ -5,27 +5,19 @@ use Rattle.rules.specs.Image.{word}
 use borrow.Author.Needs.{needs}
 use Rattle.referee.proofs.shown.first_of.Statement.{statement}
 use Rattle.referee.proofs.shown.first_of.Tie as tie
-use Rattle.referee.proofs.shown.first_of.Reads as reads
-use Rattle.referee.proofs.shown.first_of.Lts as lts
-use Rattle.referee.proofs.shown.word_at.Reads as word-at-reads
 
--- src/shown.rt:29:36
 mul-word-at : tie.Need-mul-word-at
 mul-word-at c = search needs
 
--- src/shown.rt:29:32
 add-word-at : tie.Need-add-word-at
 add-word-at c = search needs
 
--- src/shown.rt:29:17
 word-at-requires : tie.Need-word-at-requires
 word-at-requires c κs = search needs
 
--- src/shown.rt:30:5
 word-at-requires-2 : tie.Need-word-at-requires-2
 word-at-requires-2 c κs = search needs
 
--- src/shown.rt:25:1
 returns : tie.Need-returns
 returns c = c .word-at2 .ensures ∙ ap (λ (k : ℕ). word (now (c .before .before .before .args .image)) k) (c .before .word-at .ensures)
 

@@ -4,12 +4,6 @@ use Rattle.referee.proofs.Writing.{both}
 use borrow.Author.Needs.{needs}
 use Rattle.referee.proofs.shown.put_line.Statement.{statement}
 use Rattle.referee.proofs.shown.put_line.Tie as tie
-use Rattle.referee.proofs.shown.put_line.Reads as reads
-use Rattle.referee.proofs.shown.put_line.Lts as lts
-use Rattle.referee.proofs.bytes.put.Reads as put-reads
-use Rattle.referee.proofs.shown.put_snakes.Reads as put-snakes-reads
-use Rattle.referee.proofs.shown.word_at.Reads as word-at-reads
-use Rattle.referee.proofs.text.put_head.Reads as put-head-reads
 
 word-at-requires : tie.Need-word-at-requires
 word-at-requires c κs = search needs

@@ -8,13 +8,6 @@ use Rattle.referee.proofs.Writing.{both}
 use borrow.Author.Needs.{needs}
 use Rattle.referee.proofs.shown.put_snake.Statement.{statement}
 use Rattle.referee.proofs.shown.put_snake.Tie as tie
-use Rattle.referee.proofs.shown.put_snake.Reads as reads
-use Rattle.referee.proofs.shown.put_snake.Lts as lts
-use Rattle.referee.proofs.bytes.put.Reads as put-reads
-use Rattle.referee.proofs.shown.first_of.Reads as first-of-reads
-use Rattle.referee.proofs.shown.word_at.Reads as word-at-reads
-use Rattle.referee.proofs.text.put_body.Reads as put-body-reads
-use Rattle.referee.proofs.text.put_events.Reads as put-events-reads
 
 mul-word-at : tie.Need-mul-word-at
 mul-word-at c = search needs

@@ -11,9 +11,6 @@ use Rattle.referee.specs.Text.{Wrote}
 use Rattle.referee.specs.Shown.{snakeShownBy}
 use Rattle.referee.proofs.shown.put_snakes.Statement.{statement}
 use Rattle.referee.proofs.shown.put_snakes.Tie as tie
-use Rattle.referee.proofs.shown.put_snakes.Reads as reads
-use Rattle.referee.proofs.shown.put_snakes.Lts as lts
-use Rattle.referee.proofs.shown.put_snake.Reads as put-snake-reads
 
 abbrev Inv-loop : tie.InvT-loop
 Inv-loop out₀ from image n events at₀ i₀ out at i = (i ≤ n) × Wrote out₀ out from at (concatBelow i (snakeShownBy image events)) (52 * i)

@@ -5,26 +5,19 @@ use lib.ListN.{List·getD-eq-default}
 use borrow.Author.Needs.{needs}
 use Rattle.referee.proofs.shown.word_at.Statement.{statement}
 use Rattle.referee.proofs.shown.word_at.Tie as tie
-use Rattle.referee.proofs.shown.word_at.Reads as reads
-use Rattle.referee.proofs.shown.word_at.Lts as lts
 
--- src/shown.rt:19:16
 mul-result : tie.Need-mul-result
 mul-result c = search needs
 
--- src/shown.rt:19:16
 shared-slice-read-result : tie.Need-shared-slice-read-result
 shared-slice-read-result c = search needs
 
--- src/shown.rt:19:16
 cast-result : tie.Need-cast-result
 cast-result c = omega (arith, c .shared-slice-known .given (c .before .before .args .k))
 
--- src/shown.rt:19:9
 returns : tie.Need-returns
 returns c = search needs
 
--- src/shown.rt:15:1
 returns-2 : tie.Need-returns-2
 returns-2 c = sym (List·getD-eq-default (now (c .before .args .image)) 0 (c .if1 .left))
 

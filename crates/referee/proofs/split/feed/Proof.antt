@@ -7,9 +7,6 @@ use mathlib.Core.Path.{_≡_, refl, ap, _∙_}
 use borrow.Author.Needs.{needs}
 use Rattle.referee.proofs.split.feed.Statement.{statement}
 use Rattle.referee.proofs.split.feed.Tie as tie
-use Rattle.referee.proofs.split.feed.Reads as reads
-use Rattle.referee.proofs.split.feed.Lts as lts
-use Rattle.referee.proofs.bytes.write_at.Reads as write-at-reads
 
 returns : tie.Need-returns
 returns c = record { most = omega arith; long = refl; holds = λ s h. fed-over (now (c .before .before .before .args .line)) s (now (c .before .before .before .args .part)) (c .before .before .before .args .fill) h (c .if1 .taken) }

@@ -4,11 +4,6 @@ use mathlib.Core.Path.{sym, _∙_}
 use borrow.Author.Needs.{needs}
 use Rattle.referee.proofs.turns.begin.Statement.{statement}
 use Rattle.referee.proofs.turns.begin.Tie as tie
-use Rattle.referee.proofs.turns.begin.Reads as reads
-use Rattle.referee.proofs.turns.begin.Lts as lts
-use Rattle.referee.proofs.lines.read_first.Reads as read-first-reads
-use Rattle.referee.proofs.turns.open.Reads as open-reads
-use Rattle.referee.proofs.turns.stop.Reads as stop-reads
 
 read-first-requires : tie.Need-read-first-requires
 read-first-requires c κs = search needs

@@ -2,11 +2,6 @@ use mathlib.Core.Path.{sym, _∙_}
 use borrow.Author.Needs.{needs}
 use Rattle.referee.proofs.turns.events_of.Statement.{statement}
 use Rattle.referee.proofs.turns.events_of.Tie as tie
-use Rattle.referee.proofs.turns.events_of.Reads as reads
-use Rattle.referee.proofs.turns.events_of.Lts as lts
-use Rattle.referee.proofs.game.ends_by.Reads as ends-by-reads
-use Rattle.referee.proofs.game.mark_all.Reads as mark-all-reads
-use Rattle.referee.proofs.shown.word_at.Reads as word-at-reads
 
 ends-by-requires : tie.Need-ends-by-requires
 ends-by-requires c κs = search needs

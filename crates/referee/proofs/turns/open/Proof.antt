@@ -19,14 +19,6 @@ use Prim.Native.Nat.{ℕ, _≤_, _-_}
 use borrow.Author.Needs.{needs}
 use Rattle.referee.proofs.turns.open.Statement.{statement}
 use Rattle.referee.proofs.turns.open.Tie as tie
-use Rattle.referee.proofs.turns.open.Reads as reads
-use Rattle.referee.proofs.turns.open.Lts as lts
-use Rattle.referee.proofs.game.no_events.Reads as no-events-reads
-use Rattle.referee.proofs.stub.initial_state.Reads as initial-state-reads
-use Rattle.referee.proofs.turns.fresh_match.Reads as fresh-match-reads
-use Rattle.referee.proofs.turns.number_of.Reads as number-of-reads
-use Rattle.referee.proofs.turns.show.Reads as show-reads
-use Rattle.referee.proofs.turns.stop.Reads as stop-reads
 
 initial-state-requires : tie.Need-initial-state-requires
 initial-state-requires c κs = search needs

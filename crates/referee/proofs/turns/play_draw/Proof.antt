@@ -19,13 +19,6 @@ use Prim.Native.Nat.{ℕ, _≤_, _-_}
 use borrow.Author.Needs.{needs}
 use Rattle.referee.proofs.turns.play_draw.Statement.{statement}
 use Rattle.referee.proofs.turns.play_draw.Tie as tie
-use Rattle.referee.proofs.turns.play_draw.Reads as reads
-use Rattle.referee.proofs.turns.play_draw.Lts as lts
-use Rattle.referee.proofs.game.no_events.Reads as no-events-reads
-use Rattle.referee.proofs.stub.draw.Reads as draw-reads
-use Rattle.referee.proofs.turns.number_of.Reads as number-of-reads
-use Rattle.referee.proofs.turns.show.Reads as show-reads
-use Rattle.referee.proofs.turns.stop.Reads as stop-reads
 
 draw-requires : tie.Need-draw-requires
 draw-requires c κs = search needs

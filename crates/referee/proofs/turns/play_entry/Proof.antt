@@ -8,11 +8,6 @@ use Prim.Native.Nat.{ℕ, _-_}
 use borrow.Author.Needs.{needs}
 use Rattle.referee.proofs.turns.play_entry.Statement.{statement}
 use Rattle.referee.proofs.turns.play_entry.Tie as tie
-use Rattle.referee.proofs.turns.play_entry.Reads as reads
-use Rattle.referee.proofs.turns.play_entry.Lts as lts
-use Rattle.referee.proofs.turns.play_draw.Reads as play-draw-reads
-use Rattle.referee.proofs.turns.play_move.Reads as play-move-reads
-use Rattle.referee.proofs.turns.stop.Reads as stop-reads
 
 enum-told : tie.Need-enum-told
 enum-told c = search needs

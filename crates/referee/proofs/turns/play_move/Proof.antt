@@ -24,12 +24,6 @@ use Prim.Native.Nat.{ℕ, _≤_, _-_}
 use borrow.Author.Needs.{needs}
 use Rattle.referee.proofs.turns.play_move.Statement.{statement}
 use Rattle.referee.proofs.turns.play_move.Tie as tie
-use Rattle.referee.proofs.turns.play_move.Reads as reads
-use Rattle.referee.proofs.turns.play_move.Lts as lts
-use Rattle.referee.proofs.stub.step.Reads as step-reads
-use Rattle.referee.proofs.turns.number_of.Reads as number-of-reads
-use Rattle.referee.proofs.turns.show_move.Reads as show-move-reads
-use Rattle.referee.proofs.turns.stop.Reads as stop-reads
 
 step-requires : tie.Need-step-requires
 step-requires c κs = search needs

@@ -3,10 +3,6 @@ use Rattle.referee.specs.Match.{Shows}
 use borrow.Author.Needs.{needs}
 use Rattle.referee.proofs.turns.show.Statement.{statement}
 use Rattle.referee.proofs.turns.show.Tie as tie
-use Rattle.referee.proofs.turns.show.Reads as reads
-use Rattle.referee.proofs.turns.show.Lts as lts
-use Rattle.referee.proofs.shown.put_line.Reads as put-line-reads
-use Rattle.referee.proofs.shown.word_at.Reads as word-at-reads
 
 word-at-requires : tie.Need-word-at-requires
 word-at-requires c κs = search needs

@@ -1,11 +1,6 @@
 use borrow.Author.Needs.{needs}
 use Rattle.referee.proofs.turns.show_move.Statement.{statement}
 use Rattle.referee.proofs.turns.show_move.Tie as tie
-use Rattle.referee.proofs.turns.show_move.Reads as reads
-use Rattle.referee.proofs.turns.show_move.Lts as lts
-use Rattle.referee.proofs.game.after_move.Reads as after-move-reads
-use Rattle.referee.proofs.turns.events_of.Reads as events-of-reads
-use Rattle.referee.proofs.turns.show.Reads as show-reads
 
 events-of-requires : tie.Need-events-of-requires
 events-of-requires c κs = search needs

@@ -10,12 +10,6 @@ use Prim.Native.Nat.{ℕ}
 use borrow.Author.Needs.{needs}
 use Rattle.referee.proofs.turns.turn.Statement.{statement}
 use Rattle.referee.proofs.turns.turn.Tie as tie
-use Rattle.referee.proofs.turns.turn.Reads as reads
-use Rattle.referee.proofs.turns.turn.Lts as lts
-use Rattle.referee.proofs.game.snakes_of.Reads as snakes-of-reads
-use Rattle.referee.proofs.lines.read_later.Reads as read-later-reads
-use Rattle.referee.proofs.turns.play_entry.Reads as play-entry-reads
-use Rattle.referee.proofs.turns.stop.Reads as stop-reads
 
 stop-requires : tie.Need-stop-requires
 stop-requires c κs = search needs
