@@ -5,11 +5,8 @@ use lib.ListN.{length}
 use Rattle.replay.specs.declared.Reader.{Reader}
 
 -- the image and the bytes that are held stand in their buffers
-pub record Room (r : Reader) (line image : List ℕ) : Type 0 where
+pub record Ready (r : Reader) (line image next out : List ℕ) : Type 0 where
   pub held : r .fill ≤ length line
   pub words : r .desk .words ≤ length image
-
-pub record Ready (r : Reader) (line image next out : List ℕ) : Type 0 where
-  pub room : Room r line image
   pub larger : length next ≤ length image
   pub text : 462 ≤ length out
