@@ -62,9 +62,9 @@ pub shown : (t : Turn) (m : Match) (old new out exit : List ℕ) (r : Turned) (l
     → Shows (t .game) letter over w es out exit r → Plays (gives t) m old new out exit r
 shown t m old new out exit r letter over w es i e n b s =
     let l : lineShown letter over w es (snakesIn w) ≡ t .text =
-      ap (λ (u : List ℕ). lineShown letter over u es (snakesIn u)) i
-      ∙ ap (λ (k : ℕ). lineShown letter over (imageOf (t .next)) es k) (snakes-is (t .next))
-      ∙ line-shown (t .next) letter over es ∙ e in
+    ap (λ (u : List ℕ). lineShown letter over u es (snakesIn u)) i
+    ∙ ap (λ (k : ℕ). lineShown letter over (imageOf (t .next)) es k) (snakes-is (t .next))
+    ∙ line-shown (t .next) letter over es ∙ e in
     record { more = s .more; game = s .game; words = s .words ∙ ap length i; image = n; long = ap length n ∙ over-same (imageOf (t .next)) old b; text = rw (← l) (s .text) }
 
 -- the words of an image that fits say at most eight snakes
@@ -80,10 +80,10 @@ shown-move m o old new out exit r w i n b over es p q s =
     let t : Bool = o .terminal in
     let v : List Event = eight (o .events) in
     let g : eventsShown m t w v ≡ (marked (o .next) v if endsBy m t else v) =
-      ap (λ (l : List Event). l if endsBy m t else v)
-      (ap (λ (u : List ℕ). filled (markShown u v) (snakesIn u) 8 blank) i
-      ∙ ap (λ (k : ℕ). filled (markShown (imageOf (o .next)) v) k 8 blank) (snakes-is (o .next))
-      ∙ marks-shown (o .next) v) in
+    ap (λ (l : List Event). l if endsBy m t else v)
+    (ap (λ (u : List ℕ). filled (markShown u v) (snakesIn u) 8 blank) i
+    ∙ ap (λ (k : ℕ). filled (markShown (imageOf (o .next)) v) k 8 blank) (snakes-is (o .next))
+    ∙ marks-shown (o .next) v) in
     let a : Shows (moved m t v) 109 t w (eventsShown m t w v) out exit r = rw (← p, ← q) s in
     shown (movedTurn m o) m old new out exit r 109 t w (eventsShown m t w v) i (ap (lineText 109 t (o .next)) g) n b a
 

@@ -1,6 +1,6 @@
 // The match as a value: what a move makes of it, which events its line shows, and its last line.
 use crate::Match;
-use crate::places::places;
+use crate::ranks::places;
 use crate::shown::word_at;
 use crate::text::put_places;
 use rules::Cause;

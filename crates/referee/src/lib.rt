@@ -1,11 +1,11 @@
 // The replay's library: lines read, the match played, lines and places written. The types that its modules share.
 mod bytes;
-mod play;
 mod fields;
 mod game;
 mod lines;
 mod numbers;
-mod places;
+mod play;
+mod ranks;
 mod shown;
 mod split;
 mod text;
@@ -16,12 +16,12 @@ pub use lines::read_later;
 pub use play::close;
 pub use play::new_desk;
 pub use play::take_line;
+use rules::Limit;
+use rules::Setting;
 pub use split::feed;
 pub use split::line_end;
 pub use turns::begin;
 pub use turns::turn;
-use rules::Limit;
-use rules::Setting;
 
 // ---- what is read
 

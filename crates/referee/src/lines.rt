@@ -128,10 +128,7 @@ fn next_number(s: &[u8], at: usize) -> Got
     }
     let end = piece_end(s, at, 32);
     let num = decimal(&s[at..end]);
-    Got {
-        num,
-        next: end + 1,
-    }
+    Got { num, next: end + 1 }
 }
 
 // n actions, in the fields after the letter, in one pass.

@@ -37,7 +37,14 @@ pub fn new_desk() -> Desk {
     }
 }
 
-fn ask(d: Desk, image: &[u16], next: &mut [u16], list: &mut [u16], line: &[u8], out: &mut [u8]) -> Turned
+fn ask(
+    d: Desk,
+    image: &[u16],
+    next: &mut [u16],
+    list: &mut [u16],
+    line: &[u8],
+    out: &mut [u8],
+) -> Turned
     requires { ⌜ 462 ≤ length (now out) ⌝ }
     ensures { λ r. ⌜ Plays (lineSays d (now (image .entry)) (now (line .entry)) (length (now (next .entry))) (length (now (list .entry)))) (d .game) (now (next .entry)) (now (next .exit)) (now (out .entry)) (now (out .exit)) r ⌝ }
 {
@@ -49,7 +56,14 @@ fn ask(d: Desk, image: &[u16], next: &mut [u16], list: &mut [u16], line: &[u8], 
 }
 
 // A line, with the image of the desk at the front of `image`.
-pub fn take_line(d: Desk, image: &mut [u16], next: &mut [u16], list: &mut [u16], line: &[u8], out: &mut [u8]) -> Turned
+pub fn take_line(
+    d: Desk,
+    image: &mut [u16],
+    next: &mut [u16],
+    list: &mut [u16],
+    line: &[u8],
+    out: &mut [u8],
+) -> Turned
     requires { ⌜ (d .words ≤ length (now image)) × (length (now next) ≤ length (now image)) × (462 ≤ length (now out)) ⌝ }
     ensures { λ r. ⌜ Plays (lineSays d (take (d .words) (now (image .entry))) (now (line .entry)) (length (now (next .entry))) (length (now (list .entry)))) (d .game) (now (image .entry)) (now (image .exit)) (now (out .entry)) (now (out .exit)) r ⌝ }
 {

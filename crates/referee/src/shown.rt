@@ -56,7 +56,14 @@ fn put_snakes(out: &mut [u8], from: usize, image: &[u16], events: [Event; 8], n:
 }
 
 // The line of n snakes, at the front of a lent buffer, with its length.
-pub fn put_line(out: &mut [u8], letter: u8, over: bool, image: &[u16], events: [Event; 8], n: usize) -> usize
+pub fn put_line(
+    out: &mut [u8],
+    letter: u8,
+    over: bool,
+    image: &[u16],
+    events: [Event; 8],
+    n: usize,
+) -> usize
     requires { ⌜ (n ≤ 8) × (462 ≤ length (now out)) ⌝ }
     ensures { λ r. ⌜ Wrote (now (out .entry)) (now (out .exit)) 0 r (lineShown letter over (now (image .entry)) events n) 462 ⌝ }
 {

@@ -64,7 +64,14 @@ fn stop(m: Match, out: &mut [u8], k: u64) -> Turned
 }
 
 // Prints the line of an image, and the match goes on.
-fn show(m: Match, letter: u8, over: bool, image: &[u16], events: [Event; 8], out: &mut [u8]) -> Turned
+fn show(
+    m: Match,
+    letter: u8,
+    over: bool,
+    image: &[u16],
+    events: [Event; 8],
+    out: &mut [u8],
+) -> Turned
     requires { ⌜ (snakesIn (now image) ≤ 8) × (462 ≤ length (now out)) ⌝ }
     ensures { λ r. ⌜ Shows m letter over (now (image .entry)) events (now (out .entry)) (now (out .exit)) r ⌝ }
 {
@@ -99,10 +106,24 @@ fn open(m: Match, setting: Setting, next: &mut [u16], out: &mut [u8]) -> Turned
     let Answer::Done(words) = answer else {
         return stop(m, out, number_of(answer));
     };
-    show(fresh_match(setting), b'i', false, &next[0..words], no_events(), out)
+    show(
+        fresh_match(setting),
+        b'i',
+        false,
+        &next[0..words],
+        no_events(),
+        out,
+    )
 }
 
-fn play_draw(m: Match, image: &[u16], index: u64, next: &mut [u16], list: &mut [u16], out: &mut [u8]) -> Turned
+fn play_draw(
+    m: Match,
+    image: &[u16],
+    index: u64,
+    next: &mut [u16],
+    list: &mut [u16],
+    out: &mut [u8],
+) -> Turned
     requires { ⌜ 462 ≤ length (now out) ⌝ }
     ensures { λ r. ⌜ Plays (seen (drawnTurn m) (drawSays (now (image .entry)) index (length (now (next .entry))) (length (now (list .entry))))) m (now (next .entry)) (now (next .exit)) (now (out .entry)) (now (out .exit)) r ⌝ }
 {
@@ -139,7 +160,15 @@ fn play_move(m: Match, image: &[u16], acts: &[u64], next: &mut [u16], out: &mut 
 }
 
 // A line after the first, as it was read.
-fn play_entry(m: Match, e: Entry, n: usize, image: &[u16], next: &mut [u16], list: &mut [u16], out: &mut [u8]) -> Turned
+fn play_entry(
+    m: Match,
+    e: Entry,
+    n: usize,
+    image: &[u16],
+    next: &mut [u16],
+    list: &mut [u16],
+    out: &mut [u8],
+) -> Turned
     requires { ⌜ (n ≡ snakesOf m) × (n ≤ 8) × (462 ≤ length (now out)) ⌝ }
     ensures { λ r. ⌜ Plays (asked m (now (image .entry)) (length (now (next .entry))) (length (now (list .entry))) e) m (now (next .entry)) (now (next .exit)) (now (out .entry)) (now (out .exit)) r ⌝ }
 {
@@ -167,7 +196,14 @@ pub fn begin(m: Match, line: &[u8], next: &mut [u16], out: &mut [u8]) -> Turned
 }
 
 // A line after the first, in match m with this image: the next image in `next`, the cells drawn in `list`, the line in `out`.
-pub fn turn(m: Match, image: &[u16], line: &[u8], next: &mut [u16], list: &mut [u16], out: &mut [u8]) -> Turned
+pub fn turn(
+    m: Match,
+    image: &[u16],
+    line: &[u8],
+    next: &mut [u16],
+    list: &mut [u16],
+    out: &mut [u8],
+) -> Turned
     requires { ⌜ 462 ≤ length (now out) ⌝ }
     ensures { λ r. ⌜ Plays (turnSays m (now (image .entry)) (now (line .entry)) (length (now (next .entry))) (length (now (list .entry)))) m (now (next .entry)) (now (next .exit)) (now (out .entry)) (now (out .exit)) r ⌝ }
 {

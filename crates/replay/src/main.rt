@@ -25,7 +25,15 @@ fn print(out: &[u8], n: usize) -> bool {
 }
 
 // The line that is held, taken and printed.
-fn take_held(r: Reader, at: usize, line: &[u8], image: &mut [u16], next: &mut [u16], list: &mut [u16], out: &mut [u8]) -> Reader
+fn take_held(
+    r: Reader,
+    at: usize,
+    line: &[u8],
+    image: &mut [u16],
+    next: &mut [u16],
+    list: &mut [u16],
+    out: &mut [u8],
+) -> Reader
     requires { ⌜ Ready r (now line) (now image) (now next) (now out) ⌝ }
     ensures { λ q. ⌜ (Ready q (now (line .entry)) (now (image .exit)) (now (next .exit)) (now (out .exit))) × (q .at ≡ at) ⌝ }
 {
@@ -49,7 +57,15 @@ fn take_held(r: Reader, at: usize, line: &[u8], image: &mut [u16], next: &mut [u
 }
 
 // What came, up to the end of a line: the line is taken there, or held where no newline came.
-fn take_part(r: Reader, part: &[u8], line: &mut [u8], image: &mut [u16], next: &mut [u16], list: &mut [u16], out: &mut [u8]) -> Reader
+fn take_part(
+    r: Reader,
+    part: &[u8],
+    line: &mut [u8],
+    image: &mut [u16],
+    next: &mut [u16],
+    list: &mut [u16],
+    out: &mut [u8],
+) -> Reader
     requires { ⌜ Ready r (now line) (now image) (now next) (now out) ⌝ }
     requires { ⌜ (r .at < length (now part)) × (201 ≤ length (now line)) ⌝ }
     ensures { λ q. ⌜ (Ready q (now (line .exit)) (now (image .exit)) (now (next .exit)) (now (out .exit))) × (r .at < q .at) ⌝ }
@@ -72,7 +88,15 @@ fn take_part(r: Reader, part: &[u8], line: &mut [u8], image: &mut [u16], next: &
 }
 
 // All lines that end in what came.
-fn take_all(first: Reader, part: &[u8], line: &mut [u8], image: &mut [u16], next: &mut [u16], list: &mut [u16], out: &mut [u8]) -> Reader
+fn take_all(
+    first: Reader,
+    part: &[u8],
+    line: &mut [u8],
+    image: &mut [u16],
+    next: &mut [u16],
+    list: &mut [u16],
+    out: &mut [u8],
+) -> Reader
     requires { ⌜ Ready first (now line) (now image) (now next) (now out) ⌝ }
     requires { ⌜ 201 ≤ length (now line) ⌝ }
     ensures { λ q. ⌜ Ready q (now (line .exit)) (now (image .exit)) (now (next .exit)) (now (out .exit)) ⌝ }
@@ -85,7 +109,14 @@ fn take_all(first: Reader, part: &[u8], line: &mut [u8], image: &mut [u16], next
 }
 
 // One read. It goes on until nothing comes, or the replay stops.
-fn read_some(r: Reader, line: &mut [u8], image: &mut [u16], next: &mut [u16], list: &mut [u16], out: &mut [u8]) -> Reader
+fn read_some(
+    r: Reader,
+    line: &mut [u8],
+    image: &mut [u16],
+    next: &mut [u16],
+    list: &mut [u16],
+    out: &mut [u8],
+) -> Reader
     requires { ⌜ Ready r (now line) (now image) (now next) (now out) ⌝ }
     requires { ⌜ 201 ≤ length (now line) ⌝ }
     ensures { λ q. ⌜ Ready q (now (line .exit)) (now (image .exit)) (now (next .exit)) (now (out .exit)) ⌝ }
@@ -105,7 +136,14 @@ fn read_some(r: Reader, line: &mut [u8], image: &mut [u16], next: &mut [u16], li
 }
 
 // The last line, where no newline ended it, and the places.
-fn finish(r: Reader, line: &[u8], image: &mut [u16], next: &mut [u16], list: &mut [u16], out: &mut [u8])
+fn finish(
+    r: Reader,
+    line: &[u8],
+    image: &mut [u16],
+    next: &mut [u16],
+    list: &mut [u16],
+    out: &mut [u8],
+)
     requires { ⌜ Ready r (now line) (now image) (now next) (now out) ⌝ }
 {
     let desk = r.desk;

@@ -7,8 +7,8 @@ use Rattle.lists.specs.Below.{filled}
 use Rattle.lists.proofs.Below.{filled-none, filled-more}
 use native.Mathlib.Omega.{arith}
 use borrow.Author.Needs.{needs}
-use Rattle.referee.proofs.places.places.Statement.{statement}
-use Rattle.referee.proofs.places.places.Tie as tie
+use Rattle.referee.proofs.ranks.places.Statement.{statement}
+use Rattle.referee.proofs.ranks.places.Tie as tie
 
 abbrev Inv-loop : tie.InvT-loop
 Inv-loop deaths n out₀ i₀ out i = (i ≤ n) × (out ≡ filled (placeOf n deaths) i 8 0)

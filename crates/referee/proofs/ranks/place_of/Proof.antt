@@ -5,8 +5,8 @@ use Rattle.referee.specs.Places.{placeOf, outlasts}
 use Rattle.lists.proofs.Below.{count-le}
 use borrow.Author.Tests.{eq-eqb, ne-eqb}
 use borrow.Author.Needs.{needs}
-use Rattle.referee.proofs.places.place_of.Statement.{statement}
-use Rattle.referee.proofs.places.place_of.Tie as tie
+use Rattle.referee.proofs.ranks.place_of.Statement.{statement}
+use Rattle.referee.proofs.ranks.place_of.Tie as tie
 
 mul-if1 : tie.Need-mul-if1
 mul-if1 c = search needs
