@@ -1,0 +1,21 @@
+use Rattle.rules.specs.declared.Limit.{Limit}
+use Rattle.referee.specs.Match.{reached}
+use mathlib.Core.Path.{sym, ap}
+use borrow.Author.Needs.{needs}
+use Rattle.referee.proofs.game.has_reached.Statement.{statement}
+use Rattle.referee.proofs.game.has_reached.Tie as tie
+
+enum-told : tie.Need-enum-told
+enum-told c = search needs
+
+enum-known-limit : tie.Need-enum-known-limit
+enum-known-limit c = search needs
+
+returns : tie.Need-returns
+returns c = search needs
+
+returns-2 : tie.Need-returns-2
+returns-2 c = rw (c .before .limit .given .1)
+
+pub has-reached-spec : {M : Type 1} → statement M
+has-reached-spec = tie.close (tie.spec enum-told enum-known-limit returns returns-2)

@@ -1,0 +1,201 @@
+-- The match as a value, what each line does to it, and the whole replay (01, 'Replay'). Assumes nothing.
+use Prim.Native.Nat.{ℕ, _+_}
+use mathlib.Core.Path.{_≡_}
+use mathlib.Core.Bool.{Bool, true, false, not, _&&_, _||_}
+use mathlib.Core.List.{List, [], _∷_, _++_}
+use lib.Dec.{ltb, leb, eqb}
+use lib.ListN.{length, getD, take, replicate}
+use Rattle.lists.specs.Choice.{_if_else_}
+use Rattle.lists.specs.Below.{filled}
+use Rattle.rules.specs.State.{State, count, snakeOf}
+use Rattle.rules.specs.Image.{imageOf, snakesIn}
+use Rattle.rules.specs.Step.{Outcome}
+use Rattle.rules.specs.Events.{blank, eight}
+use Rattle.rules.specs.Turns.{truncated}
+use Rattle.rules.specs.Says.{Says, refuses, gives, seen, beside, lent}
+use Rattle.rules.specs.Calls.{initialSays, stepSays, Draw, drawSays}
+use Rattle.rules.specs.declared.Setting.{Setting}
+use Rattle.rules.specs.declared.Limit.{Limit}
+use Rattle.rules.specs.declared.Limit.the-variants.{Unset, Is}
+use Rattle.rules.specs.declared.Event.{Event}
+use Rattle.referee.specs.Lines.{readFirst, readLater}
+use Rattle.referee.specs.Split.{linesOf}
+use Rattle.referee.specs.Places.{placesOf}
+use Rattle.referee.specs.Shown.{lineShown, markShown}
+use Rattle.referee.specs.Text.{lineText, refusalText, placesText, Wrote}
+use Rattle.referee.specs.declared.First.{First}
+use Rattle.referee.specs.declared.First.the-variants.{NoFirst, Opens}
+use Rattle.referee.specs.declared.Line.{Line}
+use Rattle.referee.specs.declared.Line.the-variants.{NoLine, DrawLine, MoveLine}
+use Rattle.referee.specs.declared.Entry.{Entry}
+use Rattle.referee.specs.declared.Match.{Match}
+use Rattle.referee.specs.declared.Desk.{Desk}
+use Rattle.referee.specs.declared.Turned.{Turned}
+
+-- what a line that is not refused does: the next state, the match, and the line that it prints
+pub record Turn : Type 0 where
+  pub next : State
+  pub game : Match
+  pub text : List ℕ
+
+-- no accepted setting has more than eight snakes
+abbrev pub snakesOf : Match → ℕ
+snakesOf m = 8 if ltb 8 (m .setting .snakes) else m .setting .snakes
+
+-- ---- the first line
+
+-- a match that has just begun
+abbrev pub fresh : Setting → Match
+fresh s = record { setting = s; moves = 0; deaths = replicate 8 0; over = false }
+
+abbrev pub opened : Setting → State → Turn
+opened s t = record {
+  next = t;
+  game = fresh s;
+  text = lineText 105 false t (eight []);
+}
+
+-- '32 before the call's own'; room is the length of the lent buffer
+abbrev pub openedBy : First → ℕ → Says Turn
+openedBy NoFirst room = refuses 32
+openedBy (Opens s) room = seen (opened s) (initialSays s room)
+
+unfoldable pub beginSays : List ℕ → ℕ → Says Turn
+beginSays line room = openedBy (readFirst line) room
+
+-- ---- a draw: 'Draws do not count'
+
+abbrev pub drawnTurn : Match → Draw → Turn
+drawnTurn m d = record { next = d .next; game = m; text = lineText 100 false (d .next) (eight []) }
+
+-- ---- a move
+
+-- one move more; 2^64 - 1 of them are never made
+abbrev pub counted : ℕ → ℕ
+counted k = k + 1 if ltb k 18446744073709551615 else k
+
+-- 'moves at or above max_ticks'
+abbrev pub reached : Limit → ℕ → Bool
+reached Unset k = false
+reached (Is most) k = leb most k
+
+-- 'After a move that is not terminal'
+abbrev pub endsBy : Match → Bool → Bool
+endsBy m over = not over && reached (m .setting .ticks) (counted (m .moves))
+
+-- 'marks the living y'
+abbrev pub markedAt : State → List Event → ℕ → Event
+markedAt t es i = truncated (getD es i blank) (snakeOf t i .alive)
+
+abbrev pub marked : State → List Event → List Event
+marked t es = filled (markedAt t es) (count t) 8 blank
+
+-- the move on which a snake died: this one, k, for those that die on it
+abbrev pub deathAt : ℕ → List ℕ → List Event → ℕ → ℕ
+deathAt k deaths es i = k if getD es i blank .died else getD deaths i 0
+
+abbrev pub deathsAfter : ℕ → List ℕ → List Event → List ℕ
+deathsAfter k deaths es = filled (deathAt k deaths es) 8 8 0
+
+-- the match after a move that was terminal or not, with these events
+abbrev pub moved : Match → Bool → List Event → Match
+moved m over es = record {
+  setting = m .setting;
+  moves = counted (m .moves);
+  deaths = deathsAfter (counted (m .moves)) (m .deaths) es;
+  over = over || endsBy m over;
+}
+
+-- 'marks the living y and ends the match; its line still shows terminal 0'
+unfoldable pub movedTurn : Match → Outcome → Turn
+movedTurn m o =
+    let es = eight (o .events) in
+    record {
+      next = o .next;
+      game = moved m (o .terminal) es;
+      text = lineText 109 (o .terminal) (o .next) (marked (o .next) es if endsBy m (o .terminal) else es);
+    }
+
+-- the same events, by the words of the image
+abbrev pub eventsShown : Match → Bool → List ℕ → List Event → List Event
+eventsShown m over w es = filled (markShown w es) (snakesIn w) 8 blank if endsBy m over else es
+
+-- ---- a line after the first: '33 comes before 32, 32 before the call's own'
+
+abbrev pub askedBy : Match → List ℕ → ℕ → ℕ → Line → List ℕ → Says Turn
+askedBy m w room cells NoLine acts = refuses 32
+askedBy m w room cells (DrawLine i) acts = seen (drawnTurn m) (drawSays w i room cells)
+askedBy m w room cells MoveLine acts = seen (movedTurn m) (stepSays (m .setting) w (take (snakesOf m) acts) room)
+
+abbrev pub asked : Match → List ℕ → ℕ → ℕ → Entry → Says Turn
+asked m w room cells e = askedBy m w room cells (e .line) (e .acts)
+
+-- w is the image; room and cells are the lengths of the lent buffers of the next image and of the cells drawn
+unfoldable pub turnSays : Match → List ℕ → List ℕ → ℕ → ℕ → Says Turn
+turnSays m w line room cells = refuses 33 if m .over else asked m w room cells (readLater (snakesOf m) line)
+
+-- what a line prints: a refusal its number
+abbrev pub said : Says Turn → List ℕ
+said (refuses k) = refusalText k
+said (gives t) = t .text
+
+-- the promise of a call that takes a line of match m: its answer, the next image in the lent words, the text in the lent bytes
+pub record Plays (turn : Says Turn) (m : Match) (old new out exit : List ℕ) (r : Turned) : Type 0 where
+  pub more : r .more ≡ beside (λ t. true) false turn
+  pub game : r .game ≡ beside (λ t. t .game) m turn
+  pub words : r .words ≡ beside (λ t. length (imageOf (t .next))) 0 turn
+  pub image : new ≡ lent (λ t. imageOf (t .next)) old turn
+  pub long : length new ≡ length old
+  pub text : Wrote out exit 0 (r .text) (said turn) 462
+
+-- its number, where it is a refusal
+abbrev pub refusalIn : {A : Type 0} → Says A → ℕ
+refusalIn (refuses k) = k
+refusalIn (gives a) = 0
+
+-- the two ways in which a call ends: a refusal printed, or the line of an image w
+pub record Stops (m : Match) (k : ℕ) (out exit : List ℕ) (r : Turned) : Type 0 where
+  pub more : r .more ≡ false
+  pub game : r .game ≡ m
+  pub words : r .words ≡ 0
+  pub text : Wrote out exit 0 (r .text) (refusalText k) 462
+
+pub record Shows (m : Match) (letter : ℕ) (over : Bool) (w : List ℕ) (es : List Event) (out exit : List ℕ) (r : Turned) : Type 0 where
+  pub more : r .more ≡ true
+  pub game : r .game ≡ m
+  pub words : r .words ≡ length w
+  pub text : Wrote out exit 0 (r .text) (lineShown letter over w es (snakesIn w)) 462
+
+-- ---- the end of the input
+
+-- '`p` and each place'
+unfoldable pub endText : Match → List ℕ
+endText m = placesText (placesOf (snakesOf m) (m .deaths)) (snakesOf m)
+
+-- what a line does at a desk, the first line or a later one; w is its image
+unfoldable pub lineSays : Desk → List ℕ → List ℕ → ℕ → ℕ → Says Turn
+lineSays d w line room cells = turnSays (d .game) w line room cells if d .begun else beginSays line room
+
+-- 'At the end of input, `p` and each place'; 'Empty input is 32'
+unfoldable pub closeText : Desk → List ℕ
+closeText d = endText (d .game) if d .begun else refusalText 32
+
+-- ---- the whole replay, with room for every image ('at most 9,253 words') and every list of cells
+
+-- what a line prints, and what is printed after it: 'A refusal prints `r` and its number and stops'
+abbrev pub onward : Says Turn → (Turn → List ℕ) → List ℕ
+onward (refuses k) after = refusalText k
+onward (gives t) after = t .text ++ after t
+
+-- 'At the end of input, `p`'
+unfoldable pub playOn : List (List ℕ) → Says Turn → List ℕ
+playOn [] s = onward s (λ t. endText (t .game))
+playOn (line ∷ lines) s = onward s (λ t. playOn lines (turnSays (t .game) (imageOf (t .next)) line 9253 1024))
+
+-- 'Empty input is 32'
+abbrev pub played : List (List ℕ) → List ℕ
+played [] = refusalText 32
+played (line ∷ lines) = playOn lines (beginSays line 9253)
+
+unfoldable pub replayOf : List ℕ → List ℕ
+replayOf input = played (linesOf input)

@@ -1,0 +1,216 @@
+// A line of the input, taken: the first one begins the match, the others make its turns. Each answer is taken apart, and a refusal stops.
+use crate::Entry;
+use crate::First;
+use crate::Line;
+use crate::Match;
+use crate::Turned;
+use crate::game::after_move;
+use crate::game::ends_by;
+use crate::game::mark_all;
+use crate::game::no_events;
+use crate::game::snakes_of;
+use crate::lines::read_first;
+use crate::lines::read_later;
+use crate::shown::put_line;
+use crate::shown::word_at;
+use crate::text::put_refusal;
+use rules::Answer;
+use rules::Event;
+use rules::Setting;
+ghost use mathlib.Core.Path.{_≡_};
+ghost use mathlib.Core.List.{List, []};
+ghost use Prim.Native.Nat.{ℕ, _≤_};
+ghost use lib.ListN.{length, take, replicate};
+ghost use Rattle.rules.specs.Events.{eight};
+ghost use Rattle.rules.specs.Image.{snakesIn};
+ghost use Rattle.rules.specs.Says.{says, seen};
+ghost use Rattle.rules.specs.Calls.{initialSays, stepSays, drawSays};
+ghost use Rattle.referee.specs.Match.{fresh, opened, drawnTurn, eventsShown, moved, movedTurn, snakesOf, asked, beginSays, turnSays, refusalIn, Plays, Stops, Shows};
+
+// A match that has just begun.
+fn fresh_match(setting: Setting) -> Match
+    ensures { λ r. ⌜ r ≡ fresh setting ⌝ }
+{
+    Match {
+        setting,
+        moves: 0,
+        deaths: [0u64; 8],
+        over: false,
+    }
+}
+
+// The number of a refusal.
+fn number_of(a: Answer) -> u64
+    ensures { λ r. ⌜ r ≡ refusalIn (says a) ⌝ }
+{
+    match a {
+        Answer::Done(_) => 0,
+        Answer::Refused(k) => k as u64,
+    }
+}
+
+// Prints a refusal, and the match ends there.
+fn stop(m: Match, out: &mut [u8], k: u64) -> Turned
+    requires { ⌜ 462 ≤ length (now out) ⌝ }
+    ensures { λ r. ⌜ Stops m k (now (out .entry)) (now (out .exit)) r ⌝ }
+{
+    let text = put_refusal(out, k);
+    Turned {
+        more: false,
+        game: m,
+        words: 0,
+        text,
+    }
+}
+
+// Prints the line of an image, and the match goes on.
+fn show(
+    m: Match,
+    letter: u8,
+    over: bool,
+    image: &[u16],
+    events: [Event; 8],
+    out: &mut [u8],
+) -> Turned
+    requires { ⌜ (snakesIn (now image) ≤ 8) × (462 ≤ length (now out)) ⌝ }
+    ensures { λ r. ⌜ Shows m letter over (now (image .entry)) events (now (out .entry)) (now (out .exit)) r ⌝ }
+{
+    let n = word_at(image, 0) as usize;
+    let text = put_line(out, letter, over, image, events, n);
+    Turned {
+        more: true,
+        game: m,
+        words: image.len(),
+        text,
+    }
+}
+
+// The events that a move's line shows: the living marked y where max_ticks ends the match.
+fn events_of(m: Match, over: bool, image: &[u16], events: [Event; 8]) -> [Event; 8]
+    requires { ⌜ snakesIn (now image) ≤ 8 ⌝ }
+    ensures { λ r. ⌜ r ≡ eventsShown m over (now (image .entry)) events ⌝ }
+{
+    if ends_by(m, over) {
+        let n = word_at(image, 0) as usize;
+        return mark_all(image, events, n);
+    }
+    events
+}
+
+// The first line's setting; m stands for the match where it is refused.
+fn open(m: Match, setting: Setting, next: &mut [u16], out: &mut [u8]) -> Turned
+    requires { ⌜ 462 ≤ length (now out) ⌝ }
+    ensures { λ r. ⌜ Plays (seen (opened setting) (initialSays setting (length (now (next .entry))))) m (now (next .entry)) (now (next .exit)) (now (out .entry)) (now (out .exit)) r ⌝ }
+{
+    let answer = arena::initial_state(setting, next);
+    let Answer::Done(words) = answer else {
+        return stop(m, out, number_of(answer));
+    };
+    show(
+        fresh_match(setting),
+        b'i',
+        false,
+        &next[0..words],
+        no_events(),
+        out,
+    )
+}
+
+fn play_draw(
+    m: Match,
+    image: &[u16],
+    index: u64,
+    next: &mut [u16],
+    list: &mut [u16],
+    out: &mut [u8],
+) -> Turned
+    requires { ⌜ 462 ≤ length (now out) ⌝ }
+    ensures { λ r. ⌜ Plays (seen (drawnTurn m) (drawSays (now (image .entry)) index (length (now (next .entry))) (length (now (list .entry))))) m (now (next .entry)) (now (next .exit)) (now (out .entry)) (now (out .exit)) r ⌝ }
+{
+    let d = arena::draw(image, index, next, list);
+    let answer = d.answer;
+    let Answer::Done(words) = answer else {
+        return stop(m, out, number_of(answer));
+    };
+    show(m, b'd', false, &next[0..words], no_events(), out)
+}
+
+// A move's line: its events, and the match after it.
+fn show_move(m: Match, over: bool, image: &[u16], events: [Event; 8], out: &mut [u8]) -> Turned
+    requires { ⌜ (snakesIn (now image) ≤ 8) × (462 ≤ length (now out)) ⌝ }
+    ensures { λ r. ⌜ Shows (moved m over events) 109 over (now (image .entry)) (eventsShown m over (now (image .entry)) events) (now (out .entry)) (now (out .exit)) r ⌝ }
+{
+    let shown = events_of(m, over, image, events);
+    let game = after_move(m, over, events);
+    show(game, b'm', over, image, shown, out)
+}
+
+fn play_move(m: Match, image: &[u16], acts: &[u64], next: &mut [u16], out: &mut [u8]) -> Turned
+    requires { ⌜ 462 ≤ length (now out) ⌝ }
+    ensures { λ r. ⌜ Plays (seen (movedTurn m) (stepSays (m .setting) (now (image .entry)) (now (acts .entry)) (length (now (next .entry))))) m (now (next .entry)) (now (next .exit)) (now (out .entry)) (now (out .exit)) r ⌝ }
+{
+    let setting = m.setting;
+    let s = arena::step(setting, image, acts, next);
+    let answer = s.answer;
+    let Answer::Done(words) = answer else {
+        return stop(m, out, number_of(answer));
+    };
+    let events = s.events;
+    show_move(m, s.terminal, &next[0..words], events, out)
+}
+
+// A line after the first, as it was read.
+fn play_entry(
+    m: Match,
+    e: Entry,
+    n: usize,
+    image: &[u16],
+    next: &mut [u16],
+    list: &mut [u16],
+    out: &mut [u8],
+) -> Turned
+    requires { ⌜ (n ≡ snakesOf m) × (n ≤ 8) × (462 ≤ length (now out)) ⌝ }
+    ensures { λ r. ⌜ Plays (asked m (now (image .entry)) (length (now (next .entry))) (length (now (list .entry))) e) m (now (next .entry)) (now (next .exit)) (now (out .entry)) (now (out .exit)) r ⌝ }
+{
+    let line = e.line;
+    match line {
+        Line::NoLine => stop(m, out, 32),
+        Line::DrawLine(index) => play_draw(m, image, index, next, list, out),
+        Line::MoveLine => {
+            let acts = e.acts;
+            play_move(m, image, &acts[0..n], next, out)
+        }
+    }
+}
+
+// The first line of the input: the match that it begins, its image in `next`, its line in `out`.
+pub fn begin(m: Match, line: &[u8], next: &mut [u16], out: &mut [u8]) -> Turned
+    requires { ⌜ 462 ≤ length (now out) ⌝ }
+    ensures { λ r. ⌜ Plays (beginSays (now (line .entry)) (length (now (next .entry)))) m (now (next .entry)) (now (next .exit)) (now (out .entry)) (now (out .exit)) r ⌝ }
+{
+    let first = read_first(line);
+    let First::Opens(setting) = first else {
+        return stop(m, out, 32);
+    };
+    open(m, setting, next, out)
+}
+
+// A line after the first, in match m with this image: the next image in `next`, the cells drawn in `list`, the line in `out`.
+pub fn turn(
+    m: Match,
+    image: &[u16],
+    line: &[u8],
+    next: &mut [u16],
+    list: &mut [u16],
+    out: &mut [u8],
+) -> Turned
+    requires { ⌜ 462 ≤ length (now out) ⌝ }
+    ensures { λ r. ⌜ Plays (turnSays m (now (image .entry)) (now (line .entry)) (length (now (next .entry))) (length (now (list .entry)))) m (now (next .entry)) (now (next .exit)) (now (out .entry)) (now (out .exit)) r ⌝ }
+{
+    if m.over {
+        return stop(m, out, 33);
+    }
+    let n = snakes_of(m);
+    let e = read_later(line, n);
+    play_entry(m, e, n, image, next, list, out)
+}

@@ -1,0 +1,115 @@
+use Rattle.replay.proofs.replay.Statement.{statement}
+use Rattle.replay.proofs.replay.Tie as tie
+use Rattle.replay.proofs.replay.Reads as reads
+use Rattle.replay.proofs.replay.Lts as lts
+use Rattle.referee.proofs.new_desk.Reads as new-desk-reads
+use Rattle.replay.proofs.finish.Reads as finish-reads
+use Rattle.replay.proofs.read_some.Reads as read-some-reads
+
+abbrev Inv-loop : tie.InvT-loop
+Inv-loop line₀ image₀ next₀ list₀ out₀ r₀ turns₀ line image next list out r turns = ?
+
+abbrev μ-loop : tie.MeasureT-loop
+μ-loop line₀ image₀ next₀ list₀ out₀ r₀ turns₀ line image next list out r turns = ?
+
+-- src/main.rt:168:15
+new-desk-requires : tie.Need-new-desk-requires Inv-loop μ-loop
+new-desk-requires c κs = ?
+
+-- src/main.rt:175:5
+loop-holds : tie.Need-loop-holds Inv-loop μ-loop
+loop-holds c = ?
+
+-- src/main.rt:176:9
+read-some-requires : tie.Need-read-some-requires Inv-loop μ-loop
+read-some-requires c κs = ?
+
+-- src/main.rt:177:9
+sub-turns : tie.Need-sub-turns Inv-loop μ-loop
+sub-turns c = ?
+
+-- src/main.rt:175:5
+loop-less : tie.Need-loop-less Inv-loop μ-loop
+loop-less c = ?
+
+-- src/main.rt:175:5
+loop-again : tie.Need-loop-again Inv-loop μ-loop
+loop-again c = ?
+
+-- src/main.rt:180:9
+finish-requires : tie.Need-finish-requires Inv-loop μ-loop
+finish-requires c κs = ?
+
+-- src/main.rt:164:1
+same-length : tie.Need-same-length Inv-loop μ-loop
+same-length c = ?
+
+-- src/main.rt:164:1
+same-length-2 : tie.Need-same-length-2 Inv-loop μ-loop
+same-length-2 c = ?
+
+-- src/main.rt:164:1
+same-length-3 : tie.Need-same-length-3 Inv-loop μ-loop
+same-length-3 c = ?
+
+-- src/main.rt:164:1
+same-length-4 : tie.Need-same-length-4 Inv-loop μ-loop
+same-length-4 c = ?
+
+-- src/main.rt:164:1
+same-length-5 : tie.Need-same-length-5 Inv-loop μ-loop
+same-length-5 c = ?
+
+-- src/main.rt:164:1
+returns : tie.Need-returns Inv-loop μ-loop
+returns c = ?
+
+-- src/main.rt:164:1
+same-length-6 : tie.Need-same-length-6 Inv-loop μ-loop
+same-length-6 c = ?
+
+-- src/main.rt:164:1
+same-length-7 : tie.Need-same-length-7 Inv-loop μ-loop
+same-length-7 c = ?
+
+-- src/main.rt:164:1
+same-length-8 : tie.Need-same-length-8 Inv-loop μ-loop
+same-length-8 c = ?
+
+-- src/main.rt:164:1
+same-length-9 : tie.Need-same-length-9 Inv-loop μ-loop
+same-length-9 c = ?
+
+-- src/main.rt:164:1
+same-length-10 : tie.Need-same-length-10 Inv-loop μ-loop
+same-length-10 c = ?
+
+-- src/main.rt:164:1
+returns-2 : tie.Need-returns-2 Inv-loop μ-loop
+returns-2 c = ?
+
+pub replay-spec : {M : Type 1} → statement M
+replay-spec =
+    tie.close
+    (tie.spec
+    Inv-loop
+    μ-loop
+    new-desk-requires
+    loop-holds
+    read-some-requires
+    sub-turns
+    loop-less
+    loop-again
+    finish-requires
+    same-length
+    same-length-2
+    same-length-3
+    same-length-4
+    same-length-5
+    returns
+    same-length-6
+    same-length-7
+    same-length-8
+    same-length-9
+    same-length-10
+    returns-2)
