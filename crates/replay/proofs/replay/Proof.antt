@@ -2,15 +2,8 @@ use borrow.Author.Needs.{needs}
 use Rattle.replay.specs.Room.{Ready}
 use lib.ListN.{length}
 use mathlib.Core.Path.{_≡_}
-use native.Mathlib.Omega.{arith}
-use Prim.Native.Nat.{ℕ, _≤_}
 use Rattle.replay.proofs.replay.Statement.{statement}
 use Rattle.replay.proofs.replay.Tie as tie
-use Rattle.replay.proofs.replay.Reads as reads
-use Rattle.replay.proofs.replay.Lts as lts
-use Rattle.referee.proofs.new_desk.Reads as new-desk-reads
-use Rattle.replay.proofs.finish.Reads as finish-reads
-use Rattle.replay.proofs.read_some.Reads as read-some-reads
 
 abbrev Inv-loop : tie.InvT-loop
 Inv-loop line₀ image₀ next₀ list₀ out₀ r₀ turns₀ line image next list out r turns = Ready r line image next out × (length line ≡ length line₀) × (length image ≡ length image₀) × (length next ≡ length next₀) × (length list ≡ length list₀) × (length out ≡ length out₀)

@@ -1,17 +1,13 @@
 use denote.Ref.{now}
 use borrow.Author.Tests.{ltb-true}
-use Prim.Native.Nat.{_<_}
+use Prim.Native.Nat.{_<_, _-_}
 use borrow.Author.Needs.{needs}
 use Rattle.replay.specs.Room.{Ready}
 use lib.ListN.{length}
 use mathlib.Core.Path.{_≡_}
 use native.Mathlib.Omega.{arith}
-use Prim.Native.Nat.{ℕ, _≤_, _-_}
 use Rattle.replay.proofs.take_all.Statement.{statement}
 use Rattle.replay.proofs.take_all.Tie as tie
-use Rattle.replay.proofs.take_all.Reads as reads
-use Rattle.replay.proofs.take_all.Lts as lts
-use Rattle.replay.proofs.take_part.Reads as take-part-reads
 
 abbrev Inv-loop : tie.InvT-loop
 Inv-loop part line₀ image₀ next₀ list₀ out₀ r₀ line image next list out r = Ready r line image next out × (length line ≡ length line₀) × (length image ≡ length image₀) × (length next ≡ length next₀) × (length list ≡ length list₀) × (length out ≡ length out₀)

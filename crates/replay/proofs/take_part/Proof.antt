@@ -1,17 +1,11 @@
 use Rattle.referee.proofs.Cutting.{piece-short}
 use lib.ListN.{length, drop, length-drop}
 use denote.Ref.{now}
-use mathlib.Core.Path.{_≡_}
 use native.Mathlib.Omega.{arith}
-use Prim.Native.Nat.{ℕ, _≤_}
+use Prim.Native.Nat.{_≤_}
 use borrow.Author.Needs.{needs}
 use Rattle.replay.proofs.take_part.Statement.{statement}
 use Rattle.replay.proofs.take_part.Tie as tie
-use Rattle.replay.proofs.take_part.Reads as reads
-use Rattle.replay.proofs.take_part.Lts as lts
-use Rattle.referee.proofs.feed.Reads as feed-reads
-use Rattle.referee.proofs.line_end.Reads as line-end-reads
-use Rattle.replay.proofs.take_held.Reads as take-held-reads
 
 line-end-requires : tie.Need-line-end-requires
 line-end-requires c κs = search needs
