@@ -164,8 +164,15 @@ fn finish(
 fn replay(line: &mut [u8], image: &mut [u16], next: &mut [u16], list: &mut [u16], out: &mut [u8])
     requires { ⌜ (length (now next) ≤ length (now image)) × (462 ≤ length (now out)) × (201 ≤ length (now line)) ⌝ }
 {
+    let fresh = referee::new_desk();
+    let game = fresh.game;
+    let desk = Desk {
+        begun: false,
+        game,
+        words: 0,
+    };
     let mut r = Reader {
-        desk: referee::new_desk(),
+        desk,
         fill: 0,
         at: 0,
         on: true,

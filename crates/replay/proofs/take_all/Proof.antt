@@ -1,78 +1,70 @@
+use denote.Ref.{now}
+use borrow.Author.Tests.{ltb-true}
+use Prim.Native.Nat.{_<_, _-_}
+use borrow.Author.Needs.{needs}
+use Rattle.replay.specs.Room.{Ready}
+use lib.ListN.{length}
+use mathlib.Core.Path.{_≡_}
+use native.Mathlib.Omega.{arith}
 use Rattle.replay.proofs.take_all.Statement.{statement}
 use Rattle.replay.proofs.take_all.Tie as tie
-use Rattle.replay.proofs.take_all.Reads as reads
-use Rattle.replay.proofs.take_all.Lts as lts
-use Rattle.replay.proofs.take_part.Reads as take-part-reads
 
 abbrev Inv-loop : tie.InvT-loop
-Inv-loop part line₀ image₀ next₀ list₀ out₀ r₀ line image next list out r = ?
+Inv-loop part line₀ image₀ next₀ list₀ out₀ r₀ line image next list out r = Ready r line image next out × (length line ≡ length line₀) × (length image ≡ length image₀) × (length next ≡ length next₀) × (length list ≡ length list₀) × (length out ≡ length out₀)
 
 abbrev μ-loop : tie.MeasureT-loop
-μ-loop part line₀ image₀ next₀ list₀ out₀ r₀ line image next list out r = ?
+μ-loop part line₀ image₀ next₀ list₀ out₀ r₀ line image next list out r = length part - r .at
 
--- src/main.rt:81:5
 loop-holds : tie.Need-loop-holds Inv-loop μ-loop
-loop-holds c = ?
+loop-holds c = search needs
 
--- src/main.rt:82:9
 take-part-requires : tie.Need-take-part-requires Inv-loop μ-loop
-take-part-requires c κs = ?
+take-part-requires c κs = let l = c .before .before .before .before .before .before .before .before .loop in (l .inv .0, (ltb-true (l .r .at) (length (now (c .before .before .before .before .before .before .before .before .before .before .before .before .before .before .before .args .part))) (c .before .before .before .before .before .if1 .taken), omega (arith, l .inv .1, c .before .before .before .before .before .before .before .before .before .before .before .before .before .before .before .pre .1)))
 
--- src/main.rt:81:5
 loop-less : tie.Need-loop-less Inv-loop μ-loop
-loop-less c = ?
+loop-less c =
+    let l = c .before .before .before .before .before .before .before .before .before .before .before .before .before .before .before .before .before .before .before .loop in
+    let h : l .r .at < length (now (c .before .before .before .before .before .before .before .before .before .before .before .before .before .before .before .before .before .before .before .before .before .before .before .before .before .before .args .part)) = ltb-true (l .r .at) (length (now (c .before .before .before .before .before .before .before .before .before .before .before .before .before .before .before .before .before .before .before .before .before .before .before .before .before .before .args .part))) (c .before .before .before .before .before .before .before .before .before .before .before .before .before .before .before .before .if1 .taken) in
+    omega (arith, c .before .before .before .before .before .before .before .before .before .before .take-part .ensures .1)
 
--- src/main.rt:81:5
 loop-again : tie.Need-loop-again Inv-loop μ-loop
-loop-again c = ?
+loop-again c = search needs
 
--- src/main.rt:75:1
 same-length : tie.Need-same-length Inv-loop μ-loop
-same-length c = ?
+same-length c = search needs
 
--- src/main.rt:75:1
 same-length-2 : tie.Need-same-length-2 Inv-loop μ-loop
-same-length-2 c = ?
+same-length-2 c = search needs
 
--- src/main.rt:75:1
 same-length-3 : tie.Need-same-length-3 Inv-loop μ-loop
-same-length-3 c = ?
+same-length-3 c = search needs
 
--- src/main.rt:75:1
 same-length-4 : tie.Need-same-length-4 Inv-loop μ-loop
-same-length-4 c = ?
+same-length-4 c = search needs
 
--- src/main.rt:75:1
 same-length-5 : tie.Need-same-length-5 Inv-loop μ-loop
-same-length-5 c = ?
+same-length-5 c = search needs
 
--- src/main.rt:75:1
 returns : tie.Need-returns Inv-loop μ-loop
-returns c = ?
+returns c = search needs
 
--- src/main.rt:75:1
 same-length-6 : tie.Need-same-length-6 Inv-loop μ-loop
-same-length-6 c = ?
+same-length-6 c = search needs
 
--- src/main.rt:75:1
 same-length-7 : tie.Need-same-length-7 Inv-loop μ-loop
-same-length-7 c = ?
+same-length-7 c = search needs
 
--- src/main.rt:75:1
 same-length-8 : tie.Need-same-length-8 Inv-loop μ-loop
-same-length-8 c = ?
+same-length-8 c = search needs
 
--- src/main.rt:75:1
 same-length-9 : tie.Need-same-length-9 Inv-loop μ-loop
-same-length-9 c = ?
+same-length-9 c = search needs
 
--- src/main.rt:75:1
 same-length-10 : tie.Need-same-length-10 Inv-loop μ-loop
-same-length-10 c = ?
+same-length-10 c = search needs
 
--- src/main.rt:75:1
 returns-2 : tie.Need-returns-2 Inv-loop μ-loop
-returns-2 c = ?
+returns-2 c = search needs
 
 pub take-all-spec : {M : Type 1} → statement M
 take-all-spec =

@@ -3,14 +3,9 @@ use lib.ListN.{length}
 use denote.Ref.{now}
 use mathlib.Core.Path.{_≡_, refl}
 use native.Mathlib.Omega.{arith}
-use Prim.Native.Nat.{ℕ, _≤_}
 use borrow.Author.Needs.{needs}
 use Rattle.replay.proofs.take_held.Statement.{statement}
 use Rattle.replay.proofs.take_held.Tie as tie
-use Rattle.replay.proofs.take_held.Reads as reads
-use Rattle.replay.proofs.take_held.Lts as lts
-use Rattle.referee.proofs.take_line.Reads as take-line-reads
-use Rattle.replay.proofs.print.Reads as print-reads
 
 sub-take-line : tie.Need-sub-take-line
 sub-take-line c = search needs

@@ -1,6 +1,4 @@
-use Rattle.rules.specs.declared.Limit.{Limit}
 use Rattle.referee.specs.Match.{reached}
-use mathlib.Core.Path.{sym, ap}
 use borrow.Author.Needs.{needs}
 use Rattle.referee.proofs.game.has_reached.Statement.{statement}
 use Rattle.referee.proofs.game.has_reached.Tie as tie

@@ -8,7 +8,6 @@ use Rattle.lists.specs.Below.{filled}
 use lib.ListN.{set, getD}
 use lib.Dec.{eqb}
 use mathlib.Core.List.{List}
-use mathlib.Core.Bool.{Bool}
 use mathlib.Core.Path.{_≡_, ap, _∙_}
 use native.Mathlib.Omega.{arith}
 use denote.Ref.{now}

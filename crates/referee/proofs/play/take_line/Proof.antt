@@ -5,10 +5,9 @@ use lib.Seq.{length-take-le}
 use lib.ListN.{length, take}
 use denote.Ref.{now}
 use mathlib.Core.Bool.{true, false}
-use mathlib.Core.Path.{_≡_, ap, _∙_, subst}
 use native.Mathlib.Omega.{arith}
 use native.Mathlib.Nat.{sub-zero}
-use Prim.Native.Nat.{ℕ, _-_, _≤_}
+use Prim.Native.Nat.{_-_, _≤_}
 use borrow.Author.Needs.{needs}
 use Rattle.referee.proofs.play.take_line.Statement.{statement}
 use Rattle.referee.proofs.play.take_line.Tie as tie

@@ -1,7 +1,6 @@
 use native.Mathlib.Omega.{arith}
 use Prim.Native.Nat.{ℕ}
-use mathlib.Core.Bool.{Bool}
-use mathlib.Core.Path.{ap, _≡_}
+use mathlib.Core.Path.{ap}
 use lib.Dec.{eqb}
 use Rattle.referee.specs.Shown.{snakeShown}
 use Rattle.referee.proofs.Writing.{both}

@@ -3,7 +3,7 @@ use Rattle.lists.proofs.Writes.{length-write}
 use Rattle.referee.proofs.Feeding.{fed-over, fed-past, fed-on}
 use native.Mathlib.Omega.{arith}
 use denote.Ref.{now}
-use mathlib.Core.Path.{_≡_, refl, ap, _∙_}
+use mathlib.Core.Path.{refl, ap, _∙_}
 use borrow.Author.Needs.{needs}
 use Rattle.referee.proofs.split.feed.Statement.{statement}
 use Rattle.referee.proofs.split.feed.Tie as tie

@@ -1,10 +1,9 @@
-use native.Mathlib.Omega.{arith}
 use Rattle.referee.proofs.Playing.{refused-line}
 use Rattle.referee.specs.Match.{snakesOf}
 use lib.ListN.{length, take}
-use mathlib.Core.Path.{_≡_, ap, _∙_}
+use mathlib.Core.Path.{_≡_}
 use native.Mathlib.Nat.{sub-zero}
-use Prim.Native.Nat.{ℕ, _-_}
+use Prim.Native.Nat.{_-_}
 use borrow.Author.Needs.{needs}
 use Rattle.referee.proofs.turns.play_entry.Statement.{statement}
 use Rattle.referee.proofs.turns.play_entry.Tie as tie

@@ -1,26 +1,18 @@
-use Rattle.referee.proofs.Playing.{shown-move}
-use Rattle.referee.specs.Match.{movedTurn}
-use lib.ListN.{replicate}
-use Rattle.rules.specs.Events.{blank}
-use Rattle.rules.specs.Says.{beside}
+use Rattle.referee.proofs.Playing.{shown-move, done-by, done, stopped, shown, few-in}
+use Rattle.referee.specs.Match.{movedTurn, refusalIn}
+use lib.ListN.{replicate, length, take}
+use Rattle.rules.specs.Events.{blank, eight}
+use Rattle.rules.specs.Says.{beside, says}
 use Rattle.rules.specs.Step.{Outcome}
 use Rattle.rules.specs.Calls.{stepSays}
 use Rattle.rules.specs.Image.{imageOf, snakesIn}
-use Rattle.referee.proofs.Saying.{refused-by, step-fits, draw-fits}
-use Rattle.referee.proofs.Playing.{done-by, done, stopped, shown, few-in}
-use Rattle.referee.specs.Match.{refusalIn}
+use Rattle.referee.proofs.Saying.{refused-by, step-fits}
 use Rattle.rules.specs.declared.Answer.the-variants.{Done as DoneWords, Refused}
 use Rattle.rules.specs.declared.Answer.{Answer}
-use Rattle.rules.specs.State.{State}
-use Rattle.rules.specs.Events.{eight}
-use Rattle.rules.specs.Says.{says}
-use native.Mathlib.Omega.{arith}
-use lib.ListN.{length, take}
 use denote.Ref.{now}
-use mathlib.Core.List.{List, []}
 use mathlib.Core.Bool.{false}
-use mathlib.Core.Path.{_≡_, refl, sym, ap, _∙_}
-use Prim.Native.Nat.{ℕ, _≤_, _-_}
+use mathlib.Core.Path.{_≡_, sym, ap, _∙_}
+use Prim.Native.Nat.{_≤_, _-_}
 use borrow.Author.Needs.{needs}
 use Rattle.referee.proofs.turns.play_move.Statement.{statement}
 use Rattle.referee.proofs.turns.play_move.Tie as tie

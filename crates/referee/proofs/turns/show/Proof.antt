@@ -1,5 +1,4 @@
 use mathlib.Core.Path.{refl}
-use Rattle.referee.specs.Match.{Shows}
 use borrow.Author.Needs.{needs}
 use Rattle.referee.proofs.turns.show.Statement.{statement}
 use Rattle.referee.proofs.turns.show.Tie as tie

@@ -1,8 +1,6 @@
-use Rattle.referee.specs.Match.{asked}
-use Rattle.referee.proofs.Playing.{turn-over, turn-on}
+use Rattle.referee.specs.Match.{snakesOf}
+use Rattle.referee.proofs.Playing.{turn-over, turn-on, refused-line}
 use lib.ListN.{length}
-use Rattle.referee.proofs.Playing.{refused-line}
-use Rattle.referee.specs.Match.{snakesOf, turnSays}
 use Rattle.referee.specs.Lines.{readLater}
 use mathlib.Core.Path.{_≡_, ap, _∙_}
 use denote.Ref.{now}
