@@ -28,3 +28,4 @@ pub mod SettingFacts
 pub mod InitialFacts
 pub mod Extremes
 pub mod TakenWords
+pub mod FairCalls
