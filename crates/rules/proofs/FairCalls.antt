@@ -4,20 +4,22 @@ use native.Mathlib.Nat.{le-refl, le-trans, not-suc-le-zero, le-of-suc-le-suc}
 use native.Mathlib.Omega.{arith}
 use mathlib.Core.Path.{_≡_, refl, sym, ap, subst, _∙_}
 use mathlib.Core.Bool.{Bool, true, false, not, _||_}
-use mathlib.Core.List.{List, _++_}
+use mathlib.Core.List.{List}
 use lib.Dec.{ltb, eqb}
 use lib.ListN.{length, take, drop}
 use lib.Seq.{take-append-seam}
-use borrow.Author.Tests.{ltb-true, ltb-false, lt-ltb, le-ltb, eqb-true, eqb-false, ne-eqb, not-false}
+use borrow.Author.Tests.{ltb-true, le-ltb, ne-eqb, not-false}
 use Rattle.lists.specs.Choice.{_if_else_}
-use Rattle.lists.specs.Lists.{overFront, ascending}
-use Rattle.lists.specs.Products.{falling}
-use Rattle.lists.proofs.Tests.{or-false-left, or-false-right}
+use Rattle.lists.specs.Below.{countBelow}
+use Rattle.lists.specs.Lists.{overFront, member, distinct}
+use Rattle.lists.specs.Equal.{sameList}
+use Rattle.lists.specs.Products.{falling, factorial}
+use Rattle.lists.proofs.Below.{count-ext}
 use Rattle.rules.specs.State.{State}
 use Rattle.rules.specs.Image.{dueIn, imageOf, stateOf, wellFormed}
-use Rattle.rules.specs.Chance.{free, drawSize, outcomes, drawn, afterDraw, rankOf, canRank}
+use Rattle.rules.specs.Chance.{free, drawSize, outcomes, drawn, withFood, afterDraw, rankOf, canRank}
 use Rattle.rules.specs.Births.{afterDraws}
-use Rattle.rules.specs.Says.{Says, refuses, gives, seen, lent, says, saysNumber}
+use Rattle.rules.specs.Says.{Says, refuses, gives, seen, beside, lent, says}
 use Rattle.rules.specs.Calls.{Draw, countSays, drawSays, rankSays}
 use Rattle.rules.specs.Promises.{Counts, Draws, Ranks}
 use Rattle.rules.specs.declared.Number.{Number}
@@ -28,8 +30,11 @@ use Rattle.rules.proofs.Answers.{number-one}
 use Rattle.rules.proofs.Facts.{sound}
 use Rattle.rules.proofs.Image.{state-back}
 use Rattle.rules.proofs.DrawFacts.{state-food, after-due}
-use Rattle.rules.proofs.Fairness.{Fair, fair}
+use Rattle.rules.proofs.Fairness.{Fair, fair, settled}
 use Rattle.rules.proofs.Births.{Ends, InRange, chain-ends}
+
+pub fair-image : (w : List ℕ) → wellFormed w ≡ true → Fair (stateOf w)
+fair-image w ok = fair (stateOf w) (state-food w (sound w ok))
 
 -- ---- an image with food due, whose count fits 64 bits
 
@@ -37,15 +42,12 @@ module _ (w : List ℕ) (ok : wellFormed w ≡ true) (due : 0 < dueIn w) (fits :
   some-due : eqb (dueIn w) 0 ≡ false
   some-due = ne-eqb (dueIn w) 0 (λ e. omega arith)
 
-  pub fair-here : Fair (stateOf w)
-  fair-here = fair (stateOf w) (state-food w (sound w ok))
-
   -- the count answers P, the product of k factors from n downward
   pub count-answers : (r : Number) → Counts w r → r ≡ Value (falling (length (free (stateOf w))) (drawSize (stateOf w)))
   unfolding countSays
   count-answers r c =
       let e : countSays w ≡ gives (outcomes (stateOf w)) = rw (ok, some-due, le-ltb (2 ^ 64 - 1) (outcomes (stateOf w)) fits) in
-      number-one r (Value (outcomes (stateOf w))) (c .answer ∙ e) ∙ ap Value (fair-here .count)
+      number-one r (Value (outcomes (stateOf w))) (c .answer ∙ e) ∙ ap Value (fair-image w ok .count)
 
   -- each list of k different free cells ranks as one index below P, whose draw is that list
   pub rank-answers : (l : List ℕ) → canRank (stateOf w) l ≡ true → (r : Number) → Ranks w l r → r ≡ Value (rankOf (stateOf w) l)
@@ -56,7 +58,7 @@ module _ (w : List ℕ) (ok : wellFormed w ≡ true) (due : 0 < dueIn w) (fits :
 
   -- ranking what an index draws gives the index back
   pub rank-back : (i : ℕ) → i < outcomes (stateOf w) → (r : Number) → Ranks w (drawn (stateOf w) i) r → r ≡ Value i
-  rank-back i h r c = rank-answers (drawn (stateOf w) i) (fair-here .rankable i h) r c ∙ ap Value (fair-here .back i h)
+  rank-back i h r c = rank-answers (drawn (stateOf w) i) (fair-image w ok .rankable i h) r c ∙ ap Value (fair-image w ok .back i h)
 
 -- ---- a draw that is answered
 
@@ -64,18 +66,20 @@ not-refused : {A B : Type 0} (f : A → B) (b : Bool) (k : ℕ) (x : Says A) (n 
 not-refused f true k x n e = let z : _≡_ {A = ℕ} 0 1 = cc in absurd (omega arith)
 not-refused f false k x n e = (refl, e)
 
-pub record Answered (w : List ℕ) (i : ℕ) (old new list cells : List ℕ) : Type 0 where
+pub record Answered (w : List ℕ) (i : ℕ) (old new list cells : List ℕ) (n k : ℕ) : Type 0 where
   pub formed : wellFormed w ≡ true
   pub below : i < outcomes (stateOf w)
   pub words : new ≡ overFront (imageOf (afterDraw (stateOf w) i)) old
   pub drawn-list : cells ≡ overFront (drawn (stateOf w) i) list
+  pub long : n ≡ length (imageOf (afterDraw (stateOf w) i))
+  pub many : k ≡ length (drawn (stateOf w) i)
 
 module _ (w : List ℕ) (i : ℕ) (old new list cells : List ℕ) (r : Drawn) (p : Draws w i old new list cells r) (n : ℕ) (done : r .answer ≡ Done n) where
   drawing : Draw
   drawing = record { next = afterDraw (stateOf w) i; cells = drawn (stateOf w) i }
 
   -- it was lawful, and the buffers hold the next image and the ordered list
-  pub draw-answers : Answered w i old new list cells
+  pub draw-answers : Answered w i old new list cells n (r .cells)
   unfolding drawSays drawing
   draw-answers =
       let f : Draw → ℕ = λ d. length (imageOf (d .next)) in
@@ -92,42 +96,110 @@ module _ (w : List ℕ) (i : ℕ) (old new list cells : List ℕ) (r : Drawn) (p
         below = ltb-true i (outcomes t) (not-false (ltb i (outcomes t)) (d .0));
         words = p .words ∙ ap (lent (λ (d : Draw). imageOf (d .next)) old) q;
         drawn-list = p .list ∙ ap (lent (λ (d : Draw). d .cells) list) q;
+        long = let z : seen f (gives drawing) ≡ gives n = sym (ap (seen f) q) ∙ e in cc;
+        many = p .cells ∙ ap (beside (λ (d : Draw). length (d .cells)) 0) q;
       }
 
--- ---- a chain of draws at birth
-
--- image j + 1 is what draw j wrote, and each draw with food due is answered
-pub record Drawing (image : ℕ → List ℕ) (index : ℕ → ℕ) (j : ℕ) : Type 0 where
+-- a draw that is answered: the image and the list are the words that it says it wrote
+pub record Written (w : List ℕ) (i : ℕ) (image list : List ℕ) : Type 0 where
   pub old : List ℕ
   pub new : List ℕ
-  pub list : List ℕ
+  pub lent-list : List ℕ
   pub cells : List ℕ
   pub answer : Drawn
   pub count : ℕ
-  pub meets : Draws (image j) (index j) old new list cells answer
+  pub meets : Draws w i old new lent-list cells answer
   pub done : answer .answer ≡ Done count
-  pub next : image (suc j) ≡ take (length (imageOf (afterDraw (stateOf (image j)) (index j)))) new
+  pub image-is : image ≡ take count new
+  pub list-is : list ≡ take (answer .cells) cells
+
+front-is : (s old new : List ℕ) (n : ℕ) → new ≡ overFront s old → n ≡ length s → take n new ≡ s
+unfolding overFront
+front-is s old new n e q = rw (q, e) (take-append-seam s (drop (length s) old))
+
+module _ (w : List ℕ) (i : ℕ) (image list : List ℕ) (d : Written w i image list) where
+  answered : Answered w i (d .old) (d .new) (d .lent-list) (d .cells) (d .count) (d .answer .cells)
+  answered = draw-answers w i (d .old) (d .new) (d .lent-list) (d .cells) (d .answer) (d .meets) (d .count) (d .done)
+
+  -- the image is that of the state after the draw, and the list the cells drawn
+  pub written-image : image ≡ imageOf (afterDraw (stateOf w) i)
+  written-image = d .image-is ∙ front-is (imageOf (afterDraw (stateOf w) i)) (d .old) (d .new) (d .count) (answered .words) (answered .long)
+
+  pub written-list : list ≡ drawn (stateOf w) i
+  written-list = d .list-is ∙ front-is (drawn (stateOf w) i) (d .lent-list) (d .cells) (d .answer .cells) (answered .drawn-list) (answered .many)
+
+  pub written-state : stateOf image ≡ afterDraw (stateOf w) i
+  written-state = ap stateOf written-image ∙ state-back (afterDraw (stateOf w) i)
+
+  pub written-below : i < outcomes (stateOf w)
+  written-below = answered .below
+
+-- ---- the draw of the calls is fair
+
+module _ (w : List ℕ) (ok : wellFormed w ≡ true) where
+  -- an index draws k different free cells, and its list can be ranked
+  pub list-fair : (i : ℕ) (image list : List ℕ) → Written w i image list
+      → (length list ≡ drawSize (stateOf w)) × (distinct list ≡ true) × ((c : ℕ) → member c list ≡ true → member c (free (stateOf w)) ≡ true) × (canRank (stateOf w) list ≡ true)
+  list-fair i image list d =
+      let h = written-below w i image list d in
+      rw (written-list w i image list d) (fair-image w ok .long i h, fair-image w ok .once i h, fair-image w ok .among i h, fair-image w ok .rankable i h)
+
+  -- each list of k different free cells is what the draw of its rank lists
+  pub list-forth : (l image list : List ℕ) → canRank (stateOf w) l ≡ true → Written w (rankOf (stateOf w) l) image list → list ≡ l
+  list-forth l image list h d = written-list w (rankOf (stateOf w) l) image list d ∙ fair-image w ok .forth l h
+
+  -- two indices that list the same cells in the same order are one
+  pub list-one : (i j : ℕ) (image other list : List ℕ) → Written w i image list → Written w j other list → i ≡ j
+  list-one i j image other list d e =
+      sym (fair-image w ok .back i (written-below w i image list d))
+      ∙ ap (rankOf (stateOf w)) (sym (written-list w i image list d) ∙ written-list w j other list e)
+      ∙ fair-image w ok .back j (written-below w j other list e)
+
+  -- each set of k free cells is added by exactly k! of the indices below P
+  pub sets-fair : (image list : ℕ → List ℕ) → ((i : ℕ) → i < outcomes (stateOf w) → Written w i (image i) (list i)) → (s : List ℕ) → canRank (stateOf w) s ≡ true
+      → countBelow (outcomes (stateOf w)) (λ i. sameList (stateOf (image i) .food) (withFood (stateOf w .food) s)) ≡ factorial (drawSize (stateOf w))
+  sets-fair image list d s h =
+      count-ext (outcomes (stateOf w)) (λ i. sameList (stateOf (image i) .food) (withFood (stateOf w .food) s)) (λ i. sameList (afterDraw (stateOf w) i .food) (withFood (stateOf w .food) s))
+      (λ i l. ap (λ (t : State). sameList (t .food) (withFood (stateOf w .food) s)) (written-state w i (image i) (list i) (d i l)))
+      ∙ fair-image w ok .sets s h
+
+-- nothing changes but the food and what is due, which becomes 0; the food is the old food and the cells drawn
+pub record Changed (w image list : List ℕ) : Type 0 where
+  pub side : stateOf image .side ≡ stateOf w .side
+  pub snakes : stateOf image .snakes ≡ stateOf w .snakes
+  pub birth : stateOf image .birth ≡ stateOf w .birth
+  pub due : stateOf image .due ≡ 0
+  pub food : stateOf image .food ≡ withFood (stateOf w .food) list
+
+pub draw-changes : (w : List ℕ) (i : ℕ) (image list : List ℕ) → stateOf w .birth ≡ false → Written w i image list → Changed w image list
+draw-changes w i image list b d =
+    let e = written-state w i image list d in
+    let s = settled (stateOf w) i b in
+    record {
+      side = ap (λ (t : State). t .side) e ∙ s .side;
+      snakes = ap (λ (t : State). t .snakes) e ∙ s .snakes;
+      birth = ap (λ (t : State). t .birth) e ∙ s .birth ∙ sym b;
+      due = ap (λ (t : State). t .due) e ∙ s .due;
+      food = ap (λ (t : State). t .food) e ∙ s .food ∙ ap (withFood (stateOf w .food)) (sym (written-list w i image list d));
+    }
+
+-- ---- a chain of draws at birth: image j + 1 is what draw j wrote, and each draw with food due is answered
+
+pub record Drawing (image : ℕ → List ℕ) (index : ℕ → ℕ) (j : ℕ) : Type 0 where
+  pub list : List ℕ
+  pub writes : Written (image j) (index j) (image (suc j)) list
 
 module _ (image : ℕ → List ℕ) (index : ℕ → ℕ) (draws : (j : ℕ) → 0 < stateOf (image j) .due → Drawing image index j) where
   drawn-next : (j : ℕ) → 0 < stateOf (image j) .due → stateOf (image (suc j)) ≡ afterDraw (stateOf (image j)) (index j)
-  unfolding overFront
-  drawn-next j h =
-      let d = draws j h in
-      let s = afterDraw (stateOf (image j)) (index j) in
-      let a = draw-answers (image j) (index j) (d .old) (d .new) (d .list) (d .cells) (d .answer) (d .meets) (d .count) (d .done) in
-      ap stateOf (d .next ∙ ap (take (length (imageOf s))) (a .words) ∙ take-append-seam (imageOf s) (drop (length (imageOf s)) (d .old))) ∙ state-back s
+  drawn-next j h = let d = draws j h in written-state (image j) (index j) (image (suc j)) (d .list) (d .writes)
 
   drawn-below : (j : ℕ) → 0 < stateOf (image j) .due → index j < outcomes (stateOf (image j))
-  drawn-below j h =
-      let d = draws j h in
-      draw-answers (image j) (index j) (d .old) (d .new) (d .list) (d .cells) (d .answer) (d .meets) (d .count) (d .done) .below
+  drawn-below j h = let d = draws j h in written-below (image j) (index j) (image (suc j)) (d .list) (d .writes)
 
 -- the chain without its first draw
 later : (image : ℕ → List ℕ) (index : ℕ → ℕ) → ((j : ℕ) → 0 < stateOf (image j) .due → Drawing image index j)
     → (j : ℕ) → 0 < stateOf (image (suc j)) .due → Drawing (λ k. image (suc k)) (λ k. index (suc k)) j
-later image index draws j h =
-    let d = draws (suc j) h in
-    record { old = d .old; new = d .new; list = d .list; cells = d .cells; answer = d .answer; count = d .count; meets = d .meets; done = d .done; next = d .next }
+later image index draws j h = let d = draws (suc j) h in record { list = d .list; writes = d .writes }
 
 -- what is due does not grow
 due-falls : (k : ℕ) (index : ℕ → ℕ) (t : State) → afterDraws index k t .due ≤ t .due
