@@ -1,11 +1,10 @@
 -- Bodies below the span lie apart and inside, so that the numbers alone tell 12 or nothing. Assumes nothing.
-use Prim.Native.Nat.{ℕ, zero, suc, _+_, _*_, _-_, _/_, _<_, _≤_}
-use native.Mathlib.Nat.{not-suc-le-zero, le-of-suc-le-suc, div-le-self, div-lt-iff-lt-mul, mul-le-mul}
+use Prim.Native.Nat.{ℕ, suc, _+_, _*_, _-_, _/_, _<_, _≤_}
+use native.Mathlib.Nat.{not-suc-le-zero, div-le-self, div-lt-iff-lt-mul, mul-le-mul}
 use native.Mathlib.Omega.{arith}
 use mathlib.Core.Path.{_≡_, refl, sym, ap, _∙_}
-use mathlib.Core.Bool.{Bool, true, false, not, _&&_, _||_, or-true}
-use mathlib.Core.Logic.{⊎-elim}
-use mathlib.Core.List.{List, [], _∷_, _++_, map}
+use mathlib.Core.Bool.{Bool, true, false, not, _&&_, _||_}
+use mathlib.Core.List.{List, _∷_, map}
 use lib.Dec.{ltb}
 use lib.IntN.{ℤ, pos, negsuc}
 use lib.ListN.{length, take}
@@ -15,73 +14,21 @@ use Rattle.lists.specs.Choice.{_if_else_}
 use Rattle.lists.specs.Below.{allBelow, someBelow, concatBelow}
 use Rattle.lists.specs.Lists.{member, distinct}
 use Rattle.lists.proofs.Below.{all-at, some-never, some-false, concat-ext}
-use Rattle.lists.proofs.Distinct.{distinct-front, distinct-back}
-use Rattle.lists.proofs.Lists.{member-append}
-use Rattle.lists.proofs.Members.{clash, fails, member-none, member-first, member-more, member-cases, distinct-none, distinct-first, distinct-rest, distinct-more}
-use Rattle.lists.proofs.Shorter.{of-take, distinct-take}
-use Rattle.lists.proofs.Tests.{and-left, and-right, or-second, or-false-right, ordered, less, more}
-use Rattle.rules.specs.Places.{ahead, cellOf}
+use Rattle.lists.proofs.Distinct.{distinct-cut}
+use Rattle.lists.proofs.Shorter.{map-take}
+use Rattle.lists.proofs.Tests.{and-left, and-right, or-second, ordered, less, more}
+use Rattle.rules.specs.Places.{cellOf}
 use Rattle.rules.specs.Placement.{tracing, unblocked, trail, traced, placed}
 use Rattle.rules.specs.Setting.{sideOf}
 use Rattle.rules.specs.SettingParts.{Limited, startPlace, someShortOf, placeCheck, cellsOf}
-use Rattle.rules.specs.declared.Heading.{Heading}
 use Rattle.rules.specs.declared.Place.{Place}
 use Rattle.rules.specs.declared.Setting.{Setting}
+use Rattle.rules.proofs.Placement.{trail-take}
 use Rattle.rules.proofs.Starts.{side-small}
 use Rattle.rules.proofs.PlaceCheck.{check-cells, all-long}
 use Rattle.setting.specs.Apart.{spanOf}
 
--- ---- lists
-
-pub take-map : {A B : Type 0} (f : A → B) (k : ℕ) (l : List A) → map f (take k l) ≡ take k (map f l)
-take-map f zero l = refl
-take-map f (suc k) [] = refl
-take-map f (suc k) (x ∷ l) = ap (λ (t : List _). f x ∷ t) (take-map f k l)
-
--- two lists with no number twice and none in both
-distinct-join : (a b : List ℕ) → distinct a ≡ true → distinct b ≡ true → ((x : ℕ) → member x a ≡ true → member x b ≡ false) → distinct (a ++ b) ≡ true
-distinct-join [] b u v h = v
-distinct-join (y ∷ a) b u v h =
-    distinct-more y (a ++ b) (member-append y a b ∙ rw (distinct-first y a u, h y (member-first y a)))
-    (distinct-join a b (distinct-rest y a u) v (λ x m. h x (member-more x y a m)))
-
-distinct-cross : (x : ℕ) (a b : List ℕ) → distinct (a ++ b) ≡ true → member x a ≡ true → member x b ≡ false
-distinct-cross x [] b u m = absurd (member-none x m)
-distinct-cross x (y ∷ a) b u m =
-    ⊎-elim (λ e. rw e (or-false-right (member y a) (member y b) (sym (member-append y a b) ∙ distinct-first y (a ++ b) u)))
-    (λ r. distinct-cross x a b (distinct-rest y (a ++ b) u) r) (member-cases x y a m)
-
-either : (a b c d : Bool) → (a ≡ true → c ≡ true) → (b ≡ true → d ≡ true) → (a || b) ≡ true → (c || d) ≡ true
-either true b c d h k e = rw (h refl)
-either false b c d h k e = rw (k e) (or-true c)
-
-module _ (f : ℕ → List ℕ) (k : ℕ) where
-  of-cut : (x n : ℕ) → member x (concatBelow n (λ i. take k (f i))) ≡ true → member x (concatBelow n f) ≡ true
-  unfolding concatBelow
-  of-cut x zero m = m
-  of-cut x (suc n) m =
-      let a = concatBelow n (λ i. take k (f i)) in
-      member-append x (concatBelow n f) (f n)
-      ∙ either (member x a) (member x (take k (f n))) (member x (concatBelow n f)) (member x (f n)) (of-cut x n) (of-take x k (f n))
-      (sym (member-append x a (take k (f n))) ∙ m)
-
-  distinct-cut : (n : ℕ) → distinct (concatBelow n f) ≡ true → distinct (concatBelow n (λ i. take k (f i))) ≡ true
-  unfolding concatBelow
-  distinct-cut zero u = distinct-none
-  distinct-cut (suc n) u =
-      distinct-join (concatBelow n (λ i. take k (f i))) (take k (f n)) (distinct-cut n (distinct-front (concatBelow n f) (f n) u))
-      (distinct-take k (f n) (distinct-back (concatBelow n f) (f n) u))
-      (λ x m. fails (member x (take k (f n))) (λ t. clash (of-take x k (f n) t) (distinct-cross x (concatBelow n f) (f n) u (of-cut x n m))))
-
--- ---- a shorter trace is the first part of a longer one
-
-trail-take : (g : ℤ) (j k : ℕ) (ds : List Heading) (p : Place) → j ≤ k → trail j g ds p ≡ take j (trail k g ds p)
-unfolding trail
-trail-take g zero k ds p h = refl
-trail-take g (suc j) zero ds p h = absurd (not-suc-le-zero h)
-trail-take g (suc j) (suc k) [] p h = refl
-trail-take g (suc j) (suc k) (d ∷ ds) p h =
-    ap (λ (l : List Place). ahead d p ∷ l) (trail-take g j k (unblocked g (d ∷ ds) (ahead d p)) (ahead d p) (le-of-suc-le-suc h))
+-- ---- a shorter body is the first part of a longer one
 
 placed-take : (g : ℤ) (n j k i : ℕ) → 1 ≤ j → j ≤ k → placed g n j i ≡ take j (placed g n k i)
 unfolding placed
@@ -109,7 +56,7 @@ module _ (g n k m : ℕ) (some : 1 ≤ k) (h : k ≤ m) (l : lies g n m ≡ true
       le-ltb (length (placed (pos g) n k i)) k (omega arith))
 
   cells-cut : (i : ℕ) → cellsOf g n k i ≡ take k (cellsOf g n m i)
-  cells-cut i = ap (map (cellOf g)) (placed-take (pos g) n k m i some h) ∙ take-map (cellOf g) k (placed (pos g) n m i)
+  cells-cut i = ap (map (cellOf g)) (placed-take (pos g) n k m i some h) ∙ map-take (cellOf g) k (placed (pos g) n m i)
 
   apart : distinct (concatBelow n (cellsOf g n k)) ≡ true
   unfolding lies
