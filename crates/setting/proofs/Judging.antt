@@ -10,7 +10,7 @@ use lib.IntN.{ℤ, pos}
 use lib.ListN.{length, take, drop, length-map}
 use lib.Seq.{take-append-seam}
 use borrow.Author.Tests.{not-true, not-false, lt-ltb, le-ltb}
-use Rattle.lists.specs.Choice.{_if_else_}
+use Rattle.lists.specs.Choice.{_if_else_, firstOf}
 use Rattle.lists.specs.Below.{concatBelow}
 use Rattle.lists.specs.Boards.{Under}
 use Rattle.lists.specs.Lists.{writeAt, overFront, distinct}
@@ -18,7 +18,7 @@ use Rattle.lists.proofs.Tests.{ordered, less, more}
 use Rattle.lists.proofs.Writes.{write-front}
 use Rattle.rules.specs.Places.{cellOf}
 use Rattle.rules.specs.Setting.{sideOf, settingCheck}
-use Rattle.rules.specs.SettingParts.{firstOf, limitsCheck, allOf, someShortOf, placeCheck, cellsOf}
+use Rattle.rules.specs.SettingParts.{limitsCheck, allOf, someShortOf, placeCheck, cellsOf}
 use Rattle.rules.specs.Says.{Says, refuses, first}
 use Rattle.rules.specs.declared.Setting.{Setting}
 use Rattle.rules.proofs.SettingParts.{check-parts}
