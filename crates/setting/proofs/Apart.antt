@@ -107,17 +107,15 @@ module _ (s : Setting) (l : Limited s) (g : ℕ) (e : g ≡ sideOf (s .grid)) wh
   pub apart-side : g ≤ 32
   apart-side = rw e (side-small (s .grid) (l .grid-max))
 
-  module _ (r : ℕ) (q : r ≡ spanOf g (s .snakes)) (t : s .size < r) where
-    below : s .size < spanOf g (s .snakes)
-    below = rw q at t
-
-    pub apart-total : s .snakes * s .size ≤ 1024
-    apart-total =
-        let k : s .size ≤ 128 = omega (arith, apart-side, below, div-le-self (2 * g) (s .snakes + 1)) in
+  module _ (r : ℕ) (q : r ≡ spanOf g (s .snakes)) where
+    pub apart-total : s .size ≤ r → s .snakes * s .size ≤ 1024
+    apart-total t =
+        let k : s .size ≤ 128 = omega (arith, apart-side, q, div-le-self (2 * g) (s .snakes + 1)) in
         mul-le-mul (l .snakes-max) k
 
-    pub apart-check : (12 if ltb (g * g - s .snakes * s .size) (s .food) else 0) ≡ placeCheck (s .grid) (s .snakes) (s .size) (s .food)
-    apart-check =
+    pub apart-check : s .size < r → (12 if ltb (g * g - s .snakes * s .size) (s .food) else 0) ≡ placeCheck (s .grid) (s .snakes) (s .size) (s .food)
+    apart-check t =
+        let below : s .size < spanOf g (s .snakes) = rw q at t in
         let low = span-side g (s .snakes) (s .size) (l .snakes-min) (l .size-min) below in
         sym (short-check g (s .snakes) (s .size) low apart-side (l .snakes-min) (l .snakes-max) (l .size-min) below (s .food))
         ∙ ap (λ (z : ℤ). placeCheck z (s .snakes) (s .size) (s .food)) (ap pos e ∙ sym (grid-is (s .grid) (rw e at low)))

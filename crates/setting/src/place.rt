@@ -3,9 +3,8 @@ use crate::limits::side_of;
 use crate::trace::place_snakes;
 use rules::Setting;
 ghost use mathlib.Core.Path.{_≡_};
-ghost use mathlib.Core.Bool.{true, false};
 ghost use lib.Dec.{ltb};
-ghost use lib.IntN.{ℤ, pos};
+ghost use lib.IntN.{pos};
 ghost use lib.ListN.{length};
 ghost use Rattle.lists.specs.Choice.{_if_else_};
 ghost use Prim.Native.Nat.{_-_, _≤_};
@@ -81,6 +80,7 @@ pub fn place_check(setting: Setting, cells: &mut [u16]) -> u8
     judge(cells, places::plain(grid), n, size as usize, food)
 }
 
+// The length below which all bodies lie apart and inside.
 fn span(g: u64, n: u64) -> u64
     requires { ⌜ (g ≤ 32) × (n ≤ 8) ⌝ }
     ensures { λ r. ⌜ r ≡ spanOf g n ⌝ }
@@ -88,7 +88,7 @@ fn span(g: u64, n: u64) -> u64
     g / 3 + 2 * g / (n + 1)
 }
 
-// Where no cell is asked for: bodies below the span lie apart and inside, so that they need no trace.
+// The same where no cell is asked for: bodies below the span need no trace.
 pub fn place_number(setting: Setting) -> u8
     requires { ⌜ Limited setting ⌝ }
     ensures { λ r. ⌜ r ≡ placeCheck (setting .grid) (setting .snakes) (setting .size) (setting .food) ⌝ }

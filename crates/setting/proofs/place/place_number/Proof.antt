@@ -33,14 +33,14 @@ mul-full-2 c =
     let b = c .before .before .before .before in
     let s = b .args .setting in
     let e : toZ w32 (ofZ w32 (s .grid)) ≡ s .grid = search needs in
-    record { fits = omega (arith, apart-total s (b .pre) _ (c .before .before .side-of .ensures ∙ ap sideOf e) _ (c .before .span .ensures) (c .if1 .taken)) }
+    record { fits = omega (arith, apart-total s (b .pre) _ (c .before .before .side-of .ensures ∙ ap sideOf e) _ (c .before .span .ensures) (omega (arith, c .if1 .taken))) }
 
 full-requires : tie.Need-full-requires
 full-requires c κs =
     let b = c .before .before .before .before in
     let s = b .args .setting in
     let e : toZ w32 (ofZ w32 (s .grid)) ≡ s .grid = search needs in (
-      apart-total s (b .pre) _ (c .before .before .side-of .ensures ∙ ap sideOf e) _ (c .before .span .ensures) (c .if1 .taken),
+      apart-total s (b .pre) _ (c .before .before .side-of .ensures ∙ ap sideOf e) _ (c .before .span .ensures) (omega (arith, c .if1 .taken)),
       omega (arith, b .pre .food-max, square-le (sideOf (s .grid)) (side-small (s .grid) (b .pre .grid-max))),
     )
 
