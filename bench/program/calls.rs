@@ -15,9 +15,10 @@ pub struct Case {
     pub state: String,
 }
 
-pub fn state_named(name: &str) -> State {
-    let all = states::five().into_iter().chain(states::growth()).chain([states::thirty()]);
-    all.into_iter().find(|s| s.name == name).unwrap_or_else(|| panic!("no state {name}"))
+/// All states stay: freed blocks between them would change what the Rust's own allocations cost.
+pub fn state_named(name: &str) -> &'static State {
+    let all: Vec<State> = states::five().into_iter().chain(states::growth()).chain([states::thirty()]).collect();
+    all.leak().iter().find(|s| s.name == name).unwrap_or_else(|| panic!("no state {name}"))
 }
 
 fn setting_named(name: &str) -> Setting {
@@ -70,9 +71,9 @@ fn of_port(call: &str, name: &str, times: u64) {
         return repeat(times, || port::well_formed(black_box(&image)));
     }
     let s = state_named(name);
-    let due = due(call, &s);
+    let due = due(call, s);
     let (image, setting, index) = (s.image(due), port::setting(&s.setting), s.outcome(due.max(1)));
-    let actions = actions(call, &s);
+    let actions = actions(call, s);
     let (mut list, mut events) = (vec![0; port::LIST_WORDS], vec![0; 8]);
     let mut obs = vec![0.0; port::PLANE_NUMBERS];
     match call {
@@ -104,9 +105,9 @@ fn of_rust(call: &str, name: &str, times: u64) {
         _ => {}
     }
     let s = state_named(name);
-    let due = due(call, &s);
-    let (state, index) = (rust::state(&s, due), s.outcome(due.max(1)) as usize);
-    let actions: Vec<usize> = actions(call, &s).iter().map(|&a| a as usize).collect();
+    let due = due(call, s);
+    let (state, index) = (rust::state(s, due), s.outcome(due.max(1)) as usize);
+    let actions: Vec<usize> = actions(call, s).iter().map(|&a| a as usize).collect();
     let seen = |state: &SnakeState, agent| egocentric_parts(&state.snakes, &state.food, i32::from(s.side), agent);
     match call {
         "step" | "step2" => repeat(times, || game.step(black_box(&state), &actions)),

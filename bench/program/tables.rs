@@ -58,14 +58,18 @@ fn head(title: &str, columns: &[String]) {
     println!("|---|{}", "--:|".repeat(columns.len()));
 }
 
-/// The ratio that a call is to stay within, where one is set.
+/// The ratio that a call is to stay within on one of the five states, where one is set.
 fn aim(call: &str, state: &str) -> Option<f64> {
-    match (call, state) {
-        ("step" | "step2", _) => Some(0.5),
-        ("draw1" | "drawk", "small" | "middle") => Some(0.5),
-        ("draw1" | "drawk", _) => Some(0.2),
-        ("see0" | "seeall", "small") => Some(2.0),
-        ("see0" | "seeall", _) => Some(1.0),
+    let (draw, view) = match state {
+        "small" => (0.5, 2.0),
+        "middle" => (0.5, 1.0),
+        "large" | "huge" | "corpses" => (0.2, 1.0),
+        _ => return None,
+    };
+    match call {
+        "step" | "step2" => Some(0.5),
+        "draw1" | "drawk" => Some(draw),
+        "see0" | "seeall" => Some(view),
         _ => None,
     }
 }
@@ -198,15 +202,19 @@ fn growth(counts: &Counts) {
         book.row(title(call).0, |s| Some(format!("{:.1}", counts.of("port", call, &s.name)? / s.words() as f64)));
     }
     println!();
-    head("the port's, for each word more than in the column before", &names);
+    // The last two images differ by nine words and in kind: both are held against the one of 5,000 words.
+    let pairs: Vec<(&State, &State)> =
+        (1..book.states.len()).map(|i| (&book.states[(i - 1).min(6)], &book.states[i])).collect();
+    let names = pairs.iter().map(|(a, b)| format!("{} to {}", whole(a.words() as f64), whole(b.words() as f64)));
+    head("the port's, for each word more", &names.collect::<Vec<_>>());
     for call in GROWTH_PORT {
-        let price = |i: usize| {
-            let (now, before) = (&book.states[i], &book.states[i.checked_sub(1)?]);
-            let more = counts.of("port", call, &now.name)? - counts.of("port", call, &before.name)?;
-            Some(format!("{:.1}", more / (now.words() - before.words()) as f64))
+        let price = |(less, more): &(&State, &State)| {
+            let rise = counts.of("port", call, &more.name)? - counts.of("port", call, &less.name)?;
+            Some(format!("{:.1}", rise / (more.words() - less.words()) as f64))
         };
-        row(title(call).0, (0..names.len()).map(|i| price(i).unwrap_or_default()));
+        row(title(call).0, pairs.iter().map(|p| price(p).unwrap_or_default()));
     }
+    println!("\nEight snakes on grid 32. In the last two columns one cell is free, or none, and all eight die in the step.");
 }
 
 fn checks(counts: &Counts) {
