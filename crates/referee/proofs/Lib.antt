@@ -1,4 +1,4 @@
-pub mod Sample
+pub mod Cases
 pub mod Cutting
 pub mod Reading
 pub mod Signs

@@ -7,3 +7,4 @@ pub mod Text
 pub mod Shown
 pub mod Match
 pub mod Sample
+pub mod Cases
