@@ -7,3 +7,4 @@ pub mod Showing
 pub mod Saying
 pub mod Playing
 pub mod Feeding
+pub mod Whole
