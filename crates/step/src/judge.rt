@@ -94,7 +94,8 @@ fn cause_of(image: &[u16], all: [Move; 8], n: usize, i: usize) -> Cause
     }
     let g = image[1];
     let inside = places::on_grid(g, head);
-    if head_on(all, n, i, head) {
+    let met = head_on(all, n, i, head);
+    if met {
         return Cause::HeadOn;
     }
     if !inside {

@@ -57,12 +57,13 @@ fn goes_on(image: &[u16], start: u16, len: u16, heading: Heading) -> Move
             eats: true,
         };
     }
+    let rest = len - 1;
     Move {
         moves: true,
         heading,
         head,
         start,
-        keep: len - 1,
+        keep: rest,
         eats: false,
     }
 }
