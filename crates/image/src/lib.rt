@@ -35,8 +35,8 @@ pub use words::write_record;
 
 // A snake's four words, read.
 pub struct SnakeRecord {
-    pub start: usize,
-    pub len: usize,
+    pub start: u16,
+    pub len: u16,
     pub heading: Heading,
     pub alive: bool,
 }

@@ -38,7 +38,15 @@ pub fn write_bodies(out: &mut [u16], from: usize, image: &[u16], all: [After; 8]
     let mut i = 0;
     while i < n {
         let a = all[i];
-        at = image::write_body(out, at, image, a.start, a.keep, a.cell, a.lives);
+        at = image::write_body(
+            out,
+            at,
+            image,
+            a.start as usize,
+            a.keep as usize,
+            a.cell,
+            a.lives,
+        );
         i += 1;
     }
     at
