@@ -1,16 +1,16 @@
 -- Where a body lies: in each case what the body query hands back. Assumes nothing.
-use Prim.Native.Nat.{ℕ, _<_, _≤_, _+_, _-_}
-use mathlib.Core.Path.{_≡_, refl, sym, ap, _∙_}
+use Prim.Native.Nat.{ℕ, _<_, _≤_, _-_}
+use mathlib.Core.Path.{_≡_, sym}
 use mathlib.Core.Bool.{Bool, true, false, _&&_, and-false}
-use mathlib.Core.List.{List, []}
+use mathlib.Core.List.{List}
 use native.Mathlib.Omega.{arith}
 use lib.Dec.{ltb}
-use lib.ListN.{length, take, drop, length-drop}
+use lib.ListN.{length, drop, length-drop}
 use lib.Seq.{length-take-le}
 use borrow.Author.Tests.{lt-ltb, le-ltb}
 use Rattle.rules.specs.Calls.{bodyAsked}
 use Rattle.rules.specs.Facts.{Sound}
-use Rattle.rules.specs.Image.{snakesIn, startAt, lengthAt, bodyAt, wellFormed}
+use Rattle.rules.specs.Image.{snakesIn, startAt, lengthAt, wellFormed}
 use Rattle.image.specs.Memory.{startAsked}
 use Rattle.bindings.specs.Flat.{FlatBody}
 
