@@ -83,11 +83,39 @@ static void bodies(void) {
     CHECK(lundaspro_body(image, 14, UINT64_MAX).len == 0);
 }
 
+/* The calls that need no more than their answer read. */
+static void every_other_call(void) {
+    lundaspro_setting setting = {.snakes = 2, .grid = 3, .size = 1, .lead_set = true, .lead = 0, .ticks_set = true, .ticks = 5};
+    CHECK(lundaspro_validate(setting) == 3);
+    setting.lead_set = false;
+    CHECK(lundaspro_validate(setting) == 0);
+    CHECK(lundaspro_well_formed(image, 14) && !lundaspro_well_formed(image, 13));
+    lundaspro_actor_answer actor = lundaspro_actor(image, 14);
+    CHECK(actor.refusal == 0 && !actor.chance && lundaspro_actor(image, 13).refusal == 20);
+    lundaspro_legal legal = lundaspro_legal_actions(image, 14, 0);
+    CHECK(legal.refusal == 0 && legal.actions == 3 && lundaspro_legal_actions(image, 14, 1).actions == 0);
+    CHECK(lundaspro_count(image, 14).refusal == 23);
+    image[2] = 1;
+    lundaspro_number count = lundaspro_count(image, 14);
+    CHECK(count.refusal == 0 && count.value == 8);
+    image[2] = 0;
+    lundaspro_key key = lundaspro_length_cell(image, 14);
+    CHECK(key.refusal == 0 && !key.some && key.key == 0);
+    uint16_t both[18] = {2, 3, 0, 0, 0, 13, 4, 0, 1, 17, 1, 0, 1, 0, 1, 2, 3, 4};
+    key = lundaspro_length_cell(both, 18);
+    CHECK(key.refusal == 0 && key.some && key.key == 1);
+    lundaspro_space box = lundaspro_observation_space(7), three = lundaspro_action_space(), none = lundaspro_observation_space(33);
+    CHECK(box.refusal == 0 && !box.discrete && box.count == 0 && box.planes == 5 && box.high == 7 && box.wide == 7 && box.low == 0.0f && box.top == 1.0f);
+    CHECK(three.refusal == 0 && three.discrete && three.count == 3 && three.planes == 0);
+    CHECK(none.refusal == 5 && !none.discrete && none.count == 0);
+}
+
 int main(void) {
     short_events();
     other_bits();
     nan_weights();
     bodies();
+    every_other_call();
     printf("%d checks passed\n", checks);
     return 0;
 }

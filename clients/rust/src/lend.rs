@@ -25,7 +25,12 @@ pub fn initial_state(setting: &Setting, out: &mut [u16]) -> Result<usize, Refusa
 }
 
 /// Refusals 1 to 12, 20, 21, 22, 24, 25, 29.
-pub fn step(setting: &Setting, image: &[u16], actions: &[u64], out: &mut [u16]) -> Result<Stepped, Refusal> {
+pub fn step(
+    setting: &Setting,
+    image: &[u16],
+    actions: &[u64],
+    out: &mut [u16],
+) -> Result<Stepped, Refusal> {
     let mut events = [0; 8];
     let a = unsafe {
         raw::lundaspro_step(
@@ -41,7 +46,11 @@ pub fn step(setting: &Setting, image: &[u16], actions: &[u64], out: &mut [u16]) 
         )
     };
     Refusal::check(a.refusal)?;
-    Ok(Stepped { words: a.words, terminal: a.terminal, events: events.map(Event::from_number) })
+    Ok(Stepped {
+        words: a.words,
+        terminal: a.terminal,
+        events: events.map(Event::from_number),
+    })
 }
 
 /// Refusals 20, 23, 28.
@@ -51,11 +60,27 @@ pub fn count(image: &[u16]) -> Result<u64, Refusal> {
 }
 
 /// Refusals 20, 23, 28, 27, 29.
-pub fn draw(image: &[u16], index: u64, out: &mut [u16], list: &mut [u16]) -> Result<Drawn, Refusal> {
+pub fn draw(
+    image: &[u16],
+    index: u64,
+    out: &mut [u16],
+    list: &mut [u16],
+) -> Result<Drawn, Refusal> {
     let a = unsafe {
-        raw::lundaspro_draw(image.as_ptr(), image.len(), index, out.as_mut_ptr(), out.len(), list.as_mut_ptr(), list.len())
+        raw::lundaspro_draw(
+            image.as_ptr(),
+            image.len(),
+            index,
+            out.as_mut_ptr(),
+            out.len(),
+            list.as_mut_ptr(),
+            list.len(),
+        )
     };
-    Refusal::check(a.refusal).map(|()| Drawn { words: a.words, cells: a.cells })
+    Refusal::check(a.refusal).map(|()| Drawn {
+        words: a.words,
+        cells: a.cells,
+    })
 }
 
 /// Refusals 20, 23, 28, 30.
@@ -66,6 +91,14 @@ pub fn rank(image: &[u16], list: &[u16]) -> Result<u64, Refusal> {
 
 /// Refusals 20, 26, 29.
 pub fn observe(image: &[u16], agent: u64, obs: &mut [f32]) -> Result<usize, Refusal> {
-    let a = unsafe { raw::lundaspro_observe(image.as_ptr(), image.len(), agent, obs.as_mut_ptr(), obs.len()) };
+    let a = unsafe {
+        raw::lundaspro_observe(
+            image.as_ptr(),
+            image.len(),
+            agent,
+            obs.as_mut_ptr(),
+            obs.len(),
+        )
+    };
     Refusal::check(a.refusal).map(|()| a.words)
 }

@@ -122,8 +122,21 @@ impl Event {
             Some(Cause::OppBody) => 3,
             Some(Cause::HeadOn) => 4,
         };
-        let flags = [self.ate, self.died, self.killed, self.won, self.lost, self.drew, self.survived];
-        flags.iter().enumerate().map(|(bit, &flag)| u16::from(flag) << bit).sum::<u16>() + 256 * cause
+        let flags = [
+            self.ate,
+            self.died,
+            self.killed,
+            self.won,
+            self.lost,
+            self.drew,
+            self.survived,
+        ];
+        flags
+            .iter()
+            .enumerate()
+            .map(|(bit, &flag)| u16::from(flag) << bit)
+            .sum::<u16>()
+            + 256 * cause
     }
 }
 
@@ -196,7 +209,11 @@ impl Image {
     pub fn step(&self, setting: &Setting, actions: &[u64]) -> Result<Step, Refusal> {
         let mut words = vec![0; IMAGE_WORDS];
         let a = lend::step(setting, &self.0, actions, &mut words)?;
-        Ok(Step { next: Image::cut(words, a.words), terminal: a.terminal, events: a.events[..actions.len()].to_vec() })
+        Ok(Step {
+            next: Image::cut(words, a.words),
+            terminal: a.terminal,
+            events: a.events[..actions.len()].to_vec(),
+        })
     }
 
     /// Refusals 20, 23, 28.
@@ -209,7 +226,10 @@ impl Image {
         let mut words = vec![0; IMAGE_WORDS];
         let mut list = [0; LIST_WORDS];
         let a = lend::draw(&self.0, index, &mut words, &mut list)?;
-        Ok(Draw { next: Image::cut(words, a.words), cells: list[..a.cells].to_vec() })
+        Ok(Draw {
+            next: Image::cut(words, a.words),
+            cells: list[..a.cells].to_vec(),
+        })
     }
 
     /// The index whose draw gives that list. Refusals 20, 23, 28, 30.
@@ -234,7 +254,13 @@ impl Image {
     /// Refusal 20.
     pub fn actor(&self) -> Result<Actor, Refusal> {
         let a = unsafe { raw::lundaspro_actor(self.0.as_ptr(), self.0.len()) };
-        Refusal::check(a.refusal).map(|()| if a.chance { Actor::Chance } else { Actor::Simultaneous })
+        Refusal::check(a.refusal).map(|()| {
+            if a.chance {
+                Actor::Chance
+            } else {
+                Actor::Simultaneous
+            }
+        })
     }
 
     /// Actions 0, 1 and 2, or none. Refusals 20, 26.
@@ -245,7 +271,9 @@ impl Image {
 
     /// The event with its survival flag set to whether the agent lives. Refusals 20, 26.
     pub fn truncation(&self, agent: u64, event: Event) -> Result<Event, Refusal> {
-        let a = unsafe { raw::lundaspro_truncation(self.0.as_ptr(), self.0.len(), agent, event.number()) };
+        let a = unsafe {
+            raw::lundaspro_truncation(self.0.as_ptr(), self.0.len(), agent, event.number())
+        };
         Refusal::check(a.refusal).map(|()| Event::from_number(a.event))
     }
 }
@@ -280,7 +308,13 @@ pub fn reward(weights: &Weights, event: Event) -> Result<f64, Refusal> {
 /// The shape of what is seen or done.
 #[derive(Clone, Copy, Debug, PartialEq)]
 pub enum Space {
-    Box { planes: usize, high: usize, wide: usize, low: f32, top: f32 },
+    Box {
+        planes: usize,
+        high: usize,
+        wide: usize,
+        low: f32,
+        top: f32,
+    },
     Discrete(usize),
 }
 
@@ -289,7 +323,13 @@ fn space(a: raw::Space) -> Result<Space, Refusal> {
     if a.discrete {
         return Ok(Space::Discrete(a.count));
     }
-    Ok(Space::Box { planes: a.planes, high: a.high, wide: a.wide, low: a.low, top: a.top })
+    Ok(Space::Box {
+        planes: a.planes,
+        high: a.high,
+        wide: a.wide,
+        low: a.low,
+        top: a.top,
+    })
 }
 
 /// Refusal 5.

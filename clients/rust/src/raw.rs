@@ -50,14 +50,30 @@ extern "C" {
         list: *mut u16,
         list_len: usize,
     ) -> Drawn;
-    pub fn lundaspro_rank(image: *const u16, image_len: usize, list: *const u16, list_len: usize) -> Number;
-    pub fn lundaspro_observe(image: *const u16, image_len: usize, agent: u64, obs: *mut f32, obs_len: usize) -> Written;
+    pub fn lundaspro_rank(
+        image: *const u16,
+        image_len: usize,
+        list: *const u16,
+        list_len: usize,
+    ) -> Number;
+    pub fn lundaspro_observe(
+        image: *const u16,
+        image_len: usize,
+        agent: u64,
+        obs: *mut f32,
+        obs_len: usize,
+    ) -> Written;
     pub fn lundaspro_observation_space(grid: i32) -> Space;
     pub fn lundaspro_action_space() -> Space;
     pub fn lundaspro_length_cell(image: *const u16, image_len: usize) -> Key;
     pub fn lundaspro_actor(image: *const u16, image_len: usize) -> Actor;
     pub fn lundaspro_legal_actions(image: *const u16, image_len: usize, agent: u64) -> Legal;
-    pub fn lundaspro_truncation(image: *const u16, image_len: usize, agent: u64, event: u16) -> Marked;
+    pub fn lundaspro_truncation(
+        image: *const u16,
+        image_len: usize,
+        agent: u64,
+        event: u16,
+    ) -> Marked;
     pub fn lundaspro_reward(weights: Weights, event: u16) -> Sum;
     pub fn lundaspro_relative_to_absolute(heading: u8, action: u8) -> u8;
 }

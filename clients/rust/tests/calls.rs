@@ -16,6 +16,6 @@ macro_rules! tests {
 }
 
 tests! {
-    sample_match settings draws turned_picture facing_neighbours length_cells refused_images refused_steps refused_draws short_buffers
+    sample_match settings draws longest_list turned_picture facing_neighbours length_cells refused_images refused_steps refused_draws short_buffers
     rewards turns events_as_numbers spaces sentences
 }

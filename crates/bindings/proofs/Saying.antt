@@ -1,8 +1,8 @@
 -- What the arena's answer says, part by part, is what the flat answer says. Assumes nothing.
 use Prim.Native.Nat.{ℕ, zero, suc, _+_, _<_, _≤_}
-use mathlib.Core.Path.{_≡_, refl, sym, ap, ap₂, _∙_}
+use mathlib.Core.Path.{_≡_, refl, ap, ap₂}
 use mathlib.Core.Bool.{Bool, true, false, not}
-use mathlib.Core.List.{List, [], _∷_, _++_}
+use mathlib.Core.List.{List, [], _++_}
 use native.Mathlib.Omega.{arith}
 use borrow.Author.Tests.{lt-ltb, le-ltb}
 use lib.Dec.{ltb, eqb}
@@ -21,7 +21,6 @@ use Rattle.rules.specs.declared.Answer.{Answer}
 use Rattle.rules.specs.declared.Answer.the-variants.{Done, Refused}
 use Rattle.bindings.specs.declared.FlatWritten.{FlatWritten}
 use Rattle.bindings.specs.declared.FlatStepped.{FlatStepped}
-use Rattle.bindings.specs.declared.FlatDrawn.{FlatDrawn}
 use Rattle.bindings.specs.Flat.{flatWritten, flatStepped, flatDrawn, partIn, tellsOf, Tells, roomBeside}
 
 abbrev Apart : Type 0

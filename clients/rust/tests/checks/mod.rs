@@ -5,6 +5,7 @@ pub const ALL: &[(&str, fn())] = &[
     ("sample_match", sample_match),
     ("settings", settings),
     ("draws", draws),
+    ("longest_list", longest_list),
     ("turned_picture", turned_picture),
     ("facing_neighbours", facing_neighbours),
     ("length_cells", length_cells),
@@ -26,14 +27,23 @@ struct Snake<'a> {
 }
 
 fn alive(heading: u16, body: &[u16]) -> Snake<'_> {
-    Snake { heading, alive: 1, body }
+    Snake {
+        heading,
+        alive: 1,
+        body,
+    }
 }
 
 fn image(side: u16, due: u16, birth: u16, snakes: &[Snake], food: &[u16]) -> Image {
     let mut words = vec![snakes.len() as u16, side, due, birth, food.len() as u16];
     let mut start = 5 + 4 * snakes.len();
     for snake in snakes {
-        words.extend([start as u16, snake.body.len() as u16, snake.heading, snake.alive]);
+        words.extend([
+            start as u16,
+            snake.body.len() as u16,
+            snake.heading,
+            snake.alive,
+        ]);
         start += snake.body.len();
     }
     for snake in snakes {
@@ -48,7 +58,13 @@ fn number<T: std::fmt::Debug>(answer: Result<T, Refusal>) -> u8 {
 }
 
 fn setting(snakes: u64, grid: i32, size: u64, food: u64) -> Setting {
-    Setting { snakes, grid, size, food, ..Setting::default() }
+    Setting {
+        snakes,
+        grid,
+        size,
+        food,
+        ..Setting::default()
+    }
 }
 
 fn letters(e: Event) -> String {
@@ -73,7 +89,11 @@ fn letters(e: Event) -> String {
             text += letter;
         }
     }
-    if text.is_empty() { "-".into() } else { text }
+    if text.is_empty() {
+        "-".into()
+    } else {
+        text
+    }
 }
 
 // A line as the replay prints it.
@@ -84,7 +104,12 @@ fn line(letter: char, terminal: bool, image: &Image, events: &[Event]) -> String
         let body = image.body(i as u64);
         let first = body.first().map_or("-".into(), |cell| cell.to_string());
         let shown = events.get(i).copied().unwrap_or_default();
-        text += &format!(" {}:{}:{first}:{}", w[8 + 4 * i], body.len(), letters(shown));
+        text += &format!(
+            " {}:{}:{first}:{}",
+            w[8 + 4 * i],
+            body.len(),
+            letters(shown)
+        );
     }
     text
 }
@@ -134,15 +159,44 @@ fn settings() {
     assert_eq!(number(setting(1, 3, 1, 1).validate()), 1);
     assert_eq!(number(setting(9, 3, 1, 1).validate()), 1);
     assert_eq!(number(setting(2, 3, 0, 1).validate()), 2);
-    assert_eq!(number(Setting { lead: Some(0), ..setting(2, 3, 1, 1) }.validate()), 3);
-    assert_eq!(number(Setting { lead: Some(1), ..setting(3, 5, 1, 1) }.validate()), 4);
-    assert_eq!(Setting { lead: Some(1), ticks: Some(0), ..setting(2, 3, 1, 1) }.validate(), Ok(()));
+    assert_eq!(
+        number(
+            Setting {
+                lead: Some(0),
+                ..setting(2, 3, 1, 1)
+            }
+            .validate()
+        ),
+        3
+    );
+    assert_eq!(
+        number(
+            Setting {
+                lead: Some(1),
+                ..setting(3, 5, 1, 1)
+            }
+            .validate()
+        ),
+        4
+    );
+    assert_eq!(
+        Setting {
+            lead: Some(1),
+            ticks: Some(0),
+            ..setting(2, 3, 1, 1)
+        }
+        .validate(),
+        Ok(())
+    );
     assert_eq!(number(setting(2, 33, 1, 1).validate()), 5);
     assert_eq!(number(setting(2, 3, 1, 10).validate()), 6);
     assert_eq!(number(setting(2, i32::MIN, 1, 1).validate()), 6);
     // the same numbers where an image is asked for
     assert_eq!(number(setting(2, 3, 7, 1).initial_state()), 9);
-    assert_eq!(setting(2, 3, 1, 1).initial_state().unwrap().words(), [2, 3, 1, 1, 0, 13, 1, 1, 1, 14, 1, 3, 1, 4, 5]);
+    assert_eq!(
+        setting(2, 3, 1, 1).initial_state().unwrap().words(),
+        [2, 3, 1, 1, 0, 13, 1, 1, 1, 14, 1, 3, 1, 4, 5]
+    );
 }
 
 fn draws() {
@@ -163,9 +217,29 @@ fn draws() {
     }
 }
 
+// 20 cells are the longest list: 21 factorial is above 2^64.
+fn longest_list() {
+    let body: Vec<u16> = (0..5).collect();
+    let full = image(5, 1024, 0, &[alive(0, &body), alive(0, &[0])], &[]);
+    let count = full.count().unwrap();
+    assert_eq!(count, 2_432_902_008_176_640_000);
+    let last = full.draw(count - 1).unwrap();
+    assert_eq!(last.cells, (5..25).rev().collect::<Vec<u16>>());
+    assert_eq!(
+        (last.cells.len(), full.rank(&last.cells)),
+        (LIST_WORDS, Ok(count - 1))
+    );
+    assert_eq!(
+        number(image(5, 1024, 0, &[alive(0, &body[1..]), alive(0, &[1])], &[]).count()),
+        28
+    );
+}
+
 fn turned_picture() {
     for (heading, row, column) in [(1, 0, 1), (3, 2, 1)] {
-        let seen = image(3, 0, 0, &[alive(heading, &[0]), alive(0, &[1])], &[5]).observe(0).unwrap();
+        let seen = image(3, 0, 0, &[alive(heading, &[0]), alive(0, &[1])], &[5])
+            .observe(0)
+            .unwrap();
         let food: Vec<usize> = (0..9).filter(|&k| seen[36 + k] == 1.0).collect();
         assert_eq!((seen.len(), food), (45, vec![3 * row + column]));
     }
@@ -173,21 +247,49 @@ fn turned_picture() {
 
 fn facing_neighbours() {
     let setting = setting(2, 5, 1, 0);
-    let both = image(5, 0, 0, &[alive(1, &[7, 6]), alive(3, &[8, 9])], &[]).step(&setting, &[0, 0]).unwrap();
-    let drew = Event { died: true, cause: Some(Cause::OppBody), drew: true, ..Event::default() };
+    let both = image(5, 0, 0, &[alive(1, &[7, 6]), alive(3, &[8, 9])], &[])
+        .step(&setting, &[0, 0])
+        .unwrap();
+    let drew = Event {
+        died: true,
+        cause: Some(Cause::OppBody),
+        drew: true,
+        ..Event::default()
+    };
     assert_eq!((both.terminal, both.events), (true, vec![drew, drew]));
-    let one = image(5, 0, 0, &[alive(1, &[7]), alive(3, &[8, 9])], &[]).step(&setting, &[0, 0]).unwrap();
-    let lost = Event { died: true, cause: Some(Cause::OppBody), lost: true, ..Event::default() };
-    let won = Event { killed: true, won: true, ..Event::default() };
+    let one = image(5, 0, 0, &[alive(1, &[7]), alive(3, &[8, 9])], &[])
+        .step(&setting, &[0, 0])
+        .unwrap();
+    let lost = Event {
+        died: true,
+        cause: Some(Cause::OppBody),
+        lost: true,
+        ..Event::default()
+    };
+    let won = Event {
+        killed: true,
+        won: true,
+        ..Event::default()
+    };
     assert_eq!((one.terminal, one.events), (true, vec![lost, won]));
     assert_eq!((one.next.body(0), one.next.body(1)), (&[][..], &[7, 8][..]));
 }
 
 fn length_cells() {
     let long: Vec<u16> = (0..30).collect();
-    assert_eq!(image(6, 0, 0, &[alive(0, &[0, 1, 2]), alive(0, &long)], &[]).length_cell(), Ok(Some(65545)));
-    let dead = Snake { heading: 0, alive: 0, body: &[3] };
-    assert_eq!(image(6, 0, 0, &[alive(0, &[0, 1, 2]), dead], &[]).length_cell(), Ok(None));
+    assert_eq!(
+        image(6, 0, 0, &[alive(0, &[0, 1, 2]), alive(0, &long)], &[]).length_cell(),
+        Ok(Some(65545))
+    );
+    let dead = Snake {
+        heading: 0,
+        alive: 0,
+        body: &[3],
+    };
+    assert_eq!(
+        image(6, 0, 0, &[alive(0, &[0, 1, 2]), dead], &[]).length_cell(),
+        Ok(None)
+    );
 }
 
 fn refused_images() {
@@ -212,7 +314,20 @@ fn refused_images() {
 
 fn refused_steps() {
     let set = setting(2, 3, 1, 0);
-    let good = image(3, 0, 0, &[alive(0, &[4]), Snake { heading: 0, alive: 0, body: &[] }], &[]);
+    let good = image(
+        3,
+        0,
+        0,
+        &[
+            alive(0, &[4]),
+            Snake {
+                heading: 0,
+                alive: 0,
+                body: &[],
+            },
+        ],
+        &[],
+    );
     let due = image(3, 1, 0, &[alive(0, &[4]), alive(0, &[3])], &[]);
     assert_eq!(number(good.step(&setting(2, 3, 0, 0), &[])), 2);
     assert_eq!(number(good.step(&setting(2, 4, 1, 0), &[])), 21);
@@ -245,16 +360,36 @@ fn short_buffers() {
     let start = set.initial_state().unwrap();
     let mut list = [9u16; 3];
     out = [9; 20];
-    assert_eq!(number(lend::draw(start.words(), 0, &mut out[..15], &mut list)), 29);
-    assert_eq!(number(lend::draw(start.words(), 0, &mut out, &mut list[..0])), 29);
+    assert_eq!(
+        number(lend::draw(start.words(), 0, &mut out[..15], &mut list)),
+        29
+    );
+    assert_eq!(
+        number(lend::draw(start.words(), 0, &mut out, &mut list[..0])),
+        29
+    );
     assert_eq!((out, list), ([9; 20], [9; 3]));
-    assert_eq!(lend::draw(start.words(), 0, &mut out, &mut list), Ok(lend::Drawn { words: 16, cells: 1 }));
+    assert_eq!(
+        lend::draw(start.words(), 0, &mut out, &mut list),
+        Ok(lend::Drawn {
+            words: 16,
+            cells: 1
+        })
+    );
     assert_eq!((&out[16..], list), (&[9; 4][..], [0, 9, 9]));
     let next = start.draw(0).unwrap().next;
     out = [9; 20];
-    assert_eq!(number(lend::step(&set, next.words(), &[0, 0], &mut out[..15])), 29);
+    assert_eq!(
+        number(lend::step(&set, next.words(), &[0, 0], &mut out[..15])),
+        29
+    );
     assert_eq!(out, [9; 20]);
-    assert_eq!(lend::step(&set, next.words(), &[0, 0], &mut out).unwrap().words, 16);
+    assert_eq!(
+        lend::step(&set, next.words(), &[0, 0], &mut out)
+            .unwrap()
+            .words,
+        16
+    );
     assert_eq!(out[16..], [9; 4]);
     let mut obs = [9f32; 50];
     assert_eq!(number(lend::observe(next.words(), 0, &mut obs[..44])), 29);
@@ -264,12 +399,53 @@ fn short_buffers() {
 }
 
 fn rewards() {
-    let w = Weights { step: -0.5, food: 1.0, loss: -8.0, draw: 0.25, kill: 2.0, win: 4.0, survival: 16.0 };
+    let w = Weights {
+        step: -0.5,
+        food: 1.0,
+        loss: -8.0,
+        draw: 0.25,
+        kill: 2.0,
+        win: 4.0,
+        survival: 16.0,
+    };
     let e = Event::default();
     assert_eq!(reward(&w, e), Ok(-0.5));
-    assert_eq!(reward(&w, Event { ate: true, killed: true, won: true, survived: true, ..e }), Ok(22.5));
-    assert_eq!(reward(&w, Event { died: true, lost: true, ate: true, ..e }), Ok(-8.5));
-    assert_eq!(reward(&w, Event { died: true, drew: true, ..e }), Ok(-0.25));
+    assert_eq!(
+        reward(
+            &w,
+            Event {
+                ate: true,
+                killed: true,
+                won: true,
+                survived: true,
+                ..e
+            }
+        ),
+        Ok(22.5)
+    );
+    assert_eq!(
+        reward(
+            &w,
+            Event {
+                died: true,
+                lost: true,
+                ate: true,
+                ..e
+            }
+        ),
+        Ok(-8.5)
+    );
+    assert_eq!(
+        reward(
+            &w,
+            Event {
+                died: true,
+                drew: true,
+                ..e
+            }
+        ),
+        Ok(-0.25)
+    );
     for bad in [f64::NAN, -f64::NAN, f64::INFINITY, f64::NEG_INFINITY] {
         assert_eq!(number(reward(&Weights { survival: bad, ..w }, e)), 31);
     }
@@ -294,17 +470,51 @@ fn turns() {
 
 // Every event goes out as a number and comes back with the survival flag of a living and of a dead agent.
 fn events_as_numbers() {
-    let image = image(3, 0, 0, &[alive(0, &[4]), Snake { heading: 0, alive: 0, body: &[] }], &[]);
+    let image = image(
+        3,
+        0,
+        0,
+        &[
+            alive(0, &[4]),
+            Snake {
+                heading: 0,
+                alive: 0,
+                body: &[],
+            },
+        ],
+        &[],
+    );
     for number in (0..5u16).flat_map(|cause| (0..128).map(move |flags| 256 * cause + flags)) {
         let event = Event::from_number(number);
         assert_eq!(event.number(), number);
-        assert_eq!(image.truncation(0, event), Ok(Event { survived: true, ..event }));
-        assert_eq!(image.truncation(1, event), Ok(Event { survived: false, ..event }));
+        assert_eq!(
+            image.truncation(0, event),
+            Ok(Event {
+                survived: true,
+                ..event
+            })
+        );
+        assert_eq!(
+            image.truncation(1, event),
+            Ok(Event {
+                survived: false,
+                ..event
+            })
+        );
     }
 }
 
 fn spaces() {
-    assert_eq!(observation_space(7), Ok(Space::Box { planes: 5, high: 7, wide: 7, low: 0.0, top: 1.0 }));
+    assert_eq!(
+        observation_space(7),
+        Ok(Space::Box {
+            planes: 5,
+            high: 7,
+            wide: 7,
+            low: 0.0,
+            top: 1.0
+        })
+    );
     assert_eq!(number(observation_space(0)), 5);
     assert_eq!(number(observation_space(33)), 5);
     assert_eq!(action_space(), Ok(Space::Discrete(3)));
