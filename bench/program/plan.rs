@@ -4,7 +4,8 @@ use crate::calls::{state_named, Case};
 use crate::states;
 
 pub const PORT: [&str; 13] = [
-    "well", "validate", "initial", "step", "step2", "count1", "countk", "draw1", "drawk", "rank1", "rankk", "see0", "seeall",
+    "well", "validate", "initial", "step", "step2", "count1", "countk", "draw1", "drawk", "rank1", "rankk", "see0",
+    "seeall",
 ];
 /// What the Rust has no call for: the check of an image, and ranking.
 const PORT_ALONE: [&str; 3] = ["well", "rank1", "rankk"];

@@ -27,6 +27,10 @@ impl Counts {
         self.0.get(&case).map(|v| v.iter().sum::<f64>() / v.len() as f64)
     }
 
+    fn seeds(&self) -> usize {
+        self.0.values().map(Vec::len).max().unwrap_or(0)
+    }
+
     /// How far apart the seeds' counts lie, as a part of their mean.
     fn spread(&self, call: &str, state: &str) -> f64 {
         let case = Case { side: "rust".to_string(), call: call.to_string(), state: state.to_string() };
@@ -46,7 +50,11 @@ fn whole(x: f64) -> String {
         }
         text.push(d);
     }
-    if x < -0.5 { format!("-{text}") } else { text }
+    if x < -0.5 {
+        format!("-{text}")
+    } else {
+        text
+    }
 }
 
 fn row(title: &str, cells: impl Iterator<Item = String>) {
@@ -133,9 +141,7 @@ impl Book<'_> {
     fn above(&self) -> (usize, usize) {
         let calls = ["step", "step2", "draw1", "drawk", "see0", "seeall"];
         let all = self.states.iter().flat_map(|s| calls.iter().map(move |c| (s, *c)));
-        let aimed: Vec<bool> = all
-            .filter_map(|(s, c)| Some(aim(c, &s.name)? < self.ratio(c, s)?))
-            .collect();
+        let aimed: Vec<bool> = all.filter_map(|(s, c)| Some(aim(c, &s.name)? < self.ratio(c, s)?)).collect();
         (aimed.iter().filter(|&&above| above).count(), aimed.len())
     }
 }
@@ -175,10 +181,19 @@ fn five(counts: &Counts) {
     book.count("rust", "clone");
     let (above, all) = book.above();
     println!("\n{} of {all} ratios with an aim are within it.", all - above);
+    if counts.seeds() == 1 {
+        return;
+    }
     let wide = ["validate", "step", "step2", "count1", "countk", "draw1", "drawk"]
         .map(|c| book.states.iter().map(|s| counts.spread(c, &s.name)).fold(0.0, f64::max));
-    println!("The Rust's counts lie apart by hash seed, at most: `validate` {:.2} %, `step` {:.2} %, `chance_node` {:.2} %, `apply_chance_node` {:.2} %.",
-        100.0 * wide[0], 100.0 * wide[1].max(wide[2]), 100.0 * wide[3].max(wide[4]), 100.0 * wide[5].max(wide[6]));
+    let part = |x: f64| format!("{:.2} %", 100.0 * x);
+    println!(
+        "The Rust's counts lie apart by hash seed, at most: `validate` {}, `step` {}, `chance_node` {}, `apply_chance_node` {}.",
+        part(wide[0]),
+        part(wide[1].max(wide[2])),
+        part(wide[3].max(wide[4])),
+        part(wide[5].max(wide[6]))
+    );
 }
 
 fn growth(counts: &Counts) {
@@ -214,15 +229,21 @@ fn growth(counts: &Counts) {
         };
         row(title(call).0, pairs.iter().map(|p| price(p).unwrap_or_default()));
     }
-    println!("\nEight snakes on grid 32. In the last two columns one cell is free, or none, and all eight die in the step.");
+    println!(
+        "\nEight snakes on grid 32. In the last two columns one cell is free, or none, and all eight die in the step."
+    );
 }
 
 fn checks(counts: &Counts) {
     println!("\n### Checks\n");
     head("`well_formed`", &["30 words", "9,253 words", "69,253 words, refused by the length"].map(str::to_string));
-    row("instructions", ["w30", "w9253", "overlong"].iter().map(|s| counts.of("port", "well", s).map_or("-".to_string(), whole)));
+    row(
+        "instructions",
+        ["w30", "w9253", "overlong"].iter().map(|s| counts.of("port", "well", s).map_or("-".to_string(), whole)),
+    );
     println!();
-    let columns = ["2 of 5 on grid 10", "8 of 16 on 32", "2 of 71 on 32, the longest", "2 of 2^64 - 1 on 32, refused by 9"];
+    let columns =
+        ["2 of 5 on grid 10", "8 of 16 on 32", "2 of 71 on 32, the longest", "2 of 2^64 - 1 on 32, refused by 9"];
     head("`validate`", &columns.map(str::to_string));
     let named = ["small", "large"].iter().chain(&SETTINGS);
     for (side, title) in [("port", "the port's"), ("rust", "the Rust's")] {
