@@ -4,8 +4,8 @@ use denote.Ref.{now}
 use mathlib.Core.Path.{_≡_, refl}
 use native.Mathlib.Omega.{arith}
 use borrow.Author.Needs.{needs}
-use Rattle.replay.proofs.take_held.Statement.{statement}
-use Rattle.replay.proofs.take_held.Tie as tie
+use Rattle.reader.proofs.take_held.Statement.{statement}
+use Rattle.reader.proofs.take_held.Tie as tie
 
 sub-take-line : tie.Need-sub-take-line
 sub-take-line c = search needs
@@ -43,7 +43,7 @@ returns c =
     let w = words-fit _ _ _ _ _ _ _ (k .ensures) in
     let n : length next ≡ length (now (a .next)) = search needs in
     let r = c .before .before .before .before .before .before .before .before .before .before .before .before .before .before .before .before .before .before .before .before .before .before .before .before .pre in
-    (record { held = omega arith; words = w; larger = omega (arith, k .ensures .long, r .larger); text = omega (arith, k .ensures .text .long, r .text) }, refl)
+    (record { held = omega arith; wide = r .wide; words = w; larger = omega (arith, k .ensures .long, r .larger); text = omega (arith, k .ensures .text .long, r .text) }, refl)
 
 pub take-held-spec : {M : Type 1} → statement M
 take-held-spec =

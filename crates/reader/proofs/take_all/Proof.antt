@@ -2,12 +2,12 @@ use denote.Ref.{now}
 use borrow.Author.Tests.{ltb-true}
 use Prim.Native.Nat.{_<_, _-_}
 use borrow.Author.Needs.{needs}
-use Rattle.replay.specs.Room.{Ready}
+use Rattle.reader.specs.Room.{Ready}
 use lib.ListN.{length}
 use mathlib.Core.Path.{_≡_}
 use native.Mathlib.Omega.{arith}
-use Rattle.replay.proofs.take_all.Statement.{statement}
-use Rattle.replay.proofs.take_all.Tie as tie
+use Rattle.reader.proofs.take_all.Statement.{statement}
+use Rattle.reader.proofs.take_all.Tie as tie
 
 abbrev Inv-loop : tie.InvT-loop
 Inv-loop part line₀ image₀ next₀ list₀ out₀ r₀ line image next list out r = Ready r line image next out × (length line ≡ length line₀) × (length image ≡ length image₀) × (length next ≡ length next₀) × (length list ≡ length list₀) × (length out ≡ length out₀)
@@ -19,12 +19,15 @@ loop-holds : tie.Need-loop-holds Inv-loop μ-loop
 loop-holds c = search needs
 
 take-part-requires : tie.Need-take-part-requires Inv-loop μ-loop
-take-part-requires c κs = let l = c .before .before .before .before .before .before .before .before .loop in (l .inv .0, (ltb-true (l .r .at) (length (now (c .before .before .before .before .before .before .before .before .before .before .before .before .before .before .before .args .part))) (c .before .before .before .before .before .if1 .taken), omega (arith, l .inv .1, c .before .before .before .before .before .before .before .before .before .before .before .before .before .before .before .pre .1)))
+take-part-requires c κs =
+    let l = c .before .before .before .before .before .before .before .before .loop in
+    (l .inv .0, ltb-true (l .r .at) (length (now (c .before .before .before .before .before .before .before .before .before .before .before .before .before .before .before .before .args .part))) (c .before .before .before .before .before .if1 .taken))
 
 loop-less : tie.Need-loop-less Inv-loop μ-loop
 loop-less c =
     let l = c .before .before .before .before .before .before .before .before .before .before .before .before .before .before .before .before .before .before .before .loop in
-    let h : l .r .at < length (now (c .before .before .before .before .before .before .before .before .before .before .before .before .before .before .before .before .before .before .before .before .before .before .before .before .before .before .args .part)) = ltb-true (l .r .at) (length (now (c .before .before .before .before .before .before .before .before .before .before .before .before .before .before .before .before .before .before .before .before .before .before .before .before .before .before .args .part))) (c .before .before .before .before .before .before .before .before .before .before .before .before .before .before .before .before .if1 .taken) in
+    let n = length (now (c .before .before .before .before .before .before .before .before .before .before .before .before .before .before .before .before .before .before .before .before .before .before .before .before .before .before .before .args .part)) in
+    let h : l .r .at < n = ltb-true (l .r .at) n (c .before .before .before .before .before .before .before .before .before .before .before .before .before .before .before .before .if1 .taken) in
     omega (arith, c .before .before .before .before .before .before .before .before .before .before .take-part .ensures .1)
 
 loop-again : tie.Need-loop-again Inv-loop μ-loop
