@@ -25,8 +25,10 @@ pub use Rattle.referee.proofs.Whole.{run-prints}
 pub use Rattle.rules.proofs.View.{ahead-above}
 -- Demand 2: a corpse changes no one's fate; a casualty that lost has someone alive
 pub use Rattle.rules.proofs.Step.{corpse-harmless, lost-to-someone}
--- Demand 2: an agent cannot see other snakes' headings, alive flags, food due or birth; truncation changes the survival flag alone
-pub use Rattle.view.proofs.Theorems.{hidden-unseen, only-survival}
+-- Demand 2: an agent cannot see other snakes' headings, alive flags, food due or birth
+pub use Rattle.view.proofs.Theorems.{hidden-unseen}
+-- Demand 2: truncation changes the survival flag alone
+pub use Rattle.agent.proofs.Theorems.{only-survival}
 -- Demand 3, of the definitions: free cells, count, one to one, rank, k! indices a set; what a draw changes, at birth too
 pub use Rattle.rules.proofs.Fairness.{Fair, fair, settled, born, born-full}
 -- Demand 3, of the calls' answers: the count is P; an index draws k different free cells; a draw is undone by its rank and a rank by its draw
