@@ -25,11 +25,11 @@ use Rattle.rules.specs.declared.Verdict.{Verdict}
 use Rattle.rules.specs.declared.Verdict.the-variants.{Accepted, Refused}
 use Rattle.rules.proofs.Facts.{sound}
 use Rattle.rules.proofs.Parts.{state-count, state-snake}
-use Rattle.step.specs.declared.Judged.{Judged}
-use Rattle.step.specs.World.{Judges}
+use Rattle.judge.specs.declared.Judged.{Judged}
+use Rattle.judge.specs.World.{Judges}
 use Rattle.step.specs.Applied.{Ready, Applied, roomFor}
 use Rattle.step.specs.Asked.{numberIn, askedOf, asked, RefusedBy}
-use Rattle.step.proofs.Judging.{cause-judged}
+use Rattle.judge.proofs.Judging.{cause-judged}
 
 -- ---- numbers
 

@@ -22,9 +22,9 @@ use Rattle.rules.specs.Image.{snakesIn, sideIn, foodAt}
 use Rattle.rules.specs.Places.{cellOf}
 use Rattle.rules.specs.State.{nobody}
 use Rattle.rules.specs.Step.{Moved, causeOf, after, ateNow, killerOf, credited, leads, isTerminal, eventOf, eatenBy, outcomeOf}
-use Rattle.step.specs.declared.Judged.{Judged}
+use Rattle.judge.specs.declared.Judged.{Judged}
 use Rattle.step.specs.declared.after.After.{After}
-use Rattle.step.specs.World.{untouched, causesOf, judgedWorld}
+use Rattle.judge.specs.World.{untouched, causesOf, judgedWorld}
 use Rattle.step.specs.After.{settled, gone, part, later, snakes, cells, living, eating, causes, leadsIn, creditedTo, eventAt, Parts, Short}
 use Rattle.step.specs.Next.{outcomeIn}
 use Rattle.step.specs.Applied.{Ready}

@@ -18,7 +18,7 @@ use Rattle.rules.specs.declared.Event.{Event}
 use Rattle.rules.specs.Events.{dies}
 use Rattle.rules.specs.Places.{cellOf}
 use Rattle.rules.specs.State.{Snake}
-use Rattle.step.specs.declared.Judged.{Judged}
+use Rattle.judge.specs.declared.Judged.{Judged}
 use Rattle.step.specs.declared.after.After.{After}
 use Rattle.step.specs.declared.after.Counts.{Counts}
 use Rattle.step.specs.declared.food.Eaten.{Eaten}

@@ -1,5 +1,5 @@
 // The snakes after the step, and how many live, died, and how many cells they have.
-use crate::Judged;
+use judge::Judged;
 use rules::Cause;
 use rules::Heading;
 ghost use mathlib.Core.Path.{_≡_};
@@ -8,7 +8,7 @@ ghost use Rattle.lists.specs.Choice.{bit};
 ghost use lib.ListN.{getD};
 ghost use Rattle.lists.specs.Below.{filled};
 ghost use Rattle.rules.specs.Events.{dies};
-ghost use Rattle.step.specs.World.{untouched};
+ghost use Rattle.judge.specs.World.{untouched};
 ghost use Rattle.step.specs.After.{settled, gone, sizeOf, Short, Counted};
 
 // A snake after the step: its body is the cell of its moved head, if it lives, and then the part of the image.
