@@ -2,7 +2,7 @@
 use Prim.Native.Nat.{ℕ, zero, suc, _+_, _<_, _≤_}
 use native.Mathlib.Numerals.{add-one}
 use native.Mathlib.Omega.{arith}
-use mathlib.Core.Bool.{Bool, true, false, not, _&&_, and-false, and-true, false≢true}
+use mathlib.Core.Bool.{Bool, true, false, not, _&&_, and-true, false≢true}
 use mathlib.Core.List.{List, [], _∷_}
 use mathlib.Core.Path.{_≡_, refl, sym, _∙_}
 use lib.Dec.{eqb}
@@ -12,7 +12,7 @@ use lib.Seq.{getD-set-same, getD-set-other, getD-take, getD-drop, drop-cons}
 use borrow.Author.Tests.{eq-eqb, ne-eqb}
 use Rattle.lists.specs.Lists.{member, distinct}
 use Rattle.lists.specs.Boards.{Under, Board}
-use Rattle.lists.proofs.Tests.{compared, same, other, ordered, less, more}
+use Rattle.lists.proofs.Tests.{compared, same, other, ordered, less, more, gather}
 
 -- the pass: no cell of the list has the stamp when its turn comes
 unfoldable pub fresh : ℕ → List ℕ → List ℕ → Bool
@@ -28,12 +28,6 @@ swap : (m h u : Bool) → (m && (h && u)) ≡ (h && (m && u))
 swap true h u = refl
 swap false true u = refl
 swap false false u = refl
-
-gather : (m h d u : Bool) → (m && (d && (h && u))) ≡ ((h && d) && (m && u))
-gather false h d u = sym (and-false (h && d))
-gather true true d u = refl
-gather true false true u = refl
-gather true false false u = refl
 
 -- one cell more has the stamp
 one-more : (s x : ℕ) (b l : List ℕ) → x < length b → unmarked s (set b x s) l ≡ (not (member x l) && unmarked s b l)

@@ -1,7 +1,7 @@
 -- Tests taken apart and put together: conjunctions, lists of tests, a comparison with what it says. Assumes nothing.
-use mathlib.Core.Path.{_≡_, refl, sym, ap, _∙_}
+use mathlib.Core.Path.{_≡_, refl, sym, _∙_}
 use mathlib.Core.Logic.{_⊎_, inl, inr}
-use mathlib.Core.Bool.{Bool, true, false, not, _&&_, _||_, and-true, and-assoc, false≢true, true≢false}
+use mathlib.Core.Bool.{Bool, true, false, _&&_, _||_, and-false, false≢true, true≢false}
 use mathlib.Core.List.{List, [], _∷_}
 use Prim.Native.Nat.{ℕ, zero, suc, _≤_, _<_}
 use native.Mathlib.Omega.{arith}
@@ -53,6 +53,13 @@ and-right false b e = absurd (false≢true e)
 
 pub both : {a b : Bool} → a ≡ true → b ≡ true → (a && b) ≡ true
 both p q = rw (p, q)
+
+-- four tests, the second and the third put together first
+pub gather : (m h d u : Bool) → (m && (d && (h && u))) ≡ ((h && d) && (m && u))
+gather false h d u = sym (and-false (h && d))
+gather true true d u = refl
+gather true false true u = refl
+gather true false false u = refl
 
 pub or-second : (a b : Bool) → a ≡ false → (a || b) ≡ true → b ≡ true
 or-second true b e t = absurd (true≢false e)

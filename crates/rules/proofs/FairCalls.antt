@@ -6,8 +6,7 @@ use mathlib.Core.Path.{_≡_, refl, sym, ap, subst, _∙_}
 use mathlib.Core.Bool.{Bool, true, false, not, _||_}
 use mathlib.Core.List.{List}
 use lib.Dec.{ltb, eqb}
-use lib.ListN.{length, take, drop}
-use lib.Seq.{take-append-seam}
+use lib.ListN.{length, take}
 use borrow.Author.Tests.{ltb-true, le-ltb, ne-eqb, not-false}
 use Rattle.lists.specs.Choice.{_if_else_}
 use Rattle.lists.specs.Below.{countBelow}
@@ -15,6 +14,7 @@ use Rattle.lists.specs.Lists.{overFront, member, distinct}
 use Rattle.lists.specs.Equal.{sameList}
 use Rattle.lists.specs.Products.{falling, factorial}
 use Rattle.lists.proofs.Below.{count-ext}
+use Rattle.lists.proofs.Insert.{over-take}
 use Rattle.rules.specs.State.{State}
 use Rattle.rules.specs.Image.{dueIn, imageOf, stateOf, wellFormed}
 use Rattle.rules.specs.Chance.{free, drawSize, outcomes, drawn, withFood, afterDraw, rankOf, canRank}
@@ -29,7 +29,8 @@ use Rattle.rules.specs.declared.Answer.the-variants.{Done}
 use Rattle.rules.proofs.Answers.{number-one}
 use Rattle.rules.proofs.Facts.{sound}
 use Rattle.rules.proofs.Image.{state-back}
-use Rattle.rules.proofs.DrawFacts.{state-food, after-due}
+use Rattle.rules.proofs.Parts.{state-food}
+use Rattle.rules.proofs.DrawFacts.{after-due}
 use Rattle.rules.proofs.Fairness.{Fair, fair, settled}
 use Rattle.rules.proofs.Births.{Ends, InRange, chain-ends}
 
@@ -114,8 +115,7 @@ pub record Written (w : List ℕ) (i : ℕ) (image list : List ℕ) : Type 0 whe
   pub list-is : list ≡ take (answer .cells) cells
 
 front-is : (s old new : List ℕ) (n : ℕ) → new ≡ overFront s old → n ≡ length s → take n new ≡ s
-unfolding overFront
-front-is s old new n e q = rw (q, e) (take-append-seam s (drop (length s) old))
+front-is s old new n e q = rw (q, e) (over-take s old)
 
 module _ (w : List ℕ) (i : ℕ) (image list : List ℕ) (d : Written w i image list) where
   answered : Answered w i (d .old) (d .new) (d .lent-list) (d .cells) (d .count) (d .answer .cells)

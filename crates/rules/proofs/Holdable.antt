@@ -1,23 +1,22 @@
 -- The image of a state that an image can hold is well-formed, and a well-formed image holds such a state. Assumes nothing.
-use Prim.Native.Nat.{ℕ, zero, suc, _+_, _-_, _*_, _<_, _≤_}
+use Prim.Native.Nat.{ℕ, _+_, _-_, _<_, _≤_}
 use native.Mathlib.Nat.{le-refl}
 use native.Mathlib.Omega.{arith}
 use mathlib.Core.Path.{_≡_, refl, sym, ap, ap₂, _∙_}
-use mathlib.Core.Bool.{Bool, true, false, not, _&&_, _||_, true≢false}
-use mathlib.Core.List.{List, [], _∷_, _++_}
+use mathlib.Core.Bool.{Bool, true, false, not, _||_}
+use mathlib.Core.List.{List}
 use lib.Dec.{leb, ltb, eqb}
-use lib.ListN.{length, getD, drop, take, length-drop}
-use lib.Seq.{getD-drop, getD-take}
-use borrow.Author.Tests.{le-leb, lt-ltb, eq-eqb, eqb-true}
-use Rattle.lists.specs.Choice.{bit}
-use Rattle.lists.specs.Below.{allBelow, concatBelow}
-use Rattle.lists.specs.Lists.{every, all, distinct, ascending}
-use Rattle.lists.proofs.Tests.{every-true, both, bit-le, tell}
+use lib.ListN.{length, drop}
+use borrow.Author.Tests.{le-leb, eq-eqb, eqb-true}
+use Rattle.lists.specs.Below.{concatBelow}
+use Rattle.lists.specs.Lists.{all, distinct, ascending}
+use Rattle.lists.proofs.Tests.{every-true, both, bit-le}
 use Rattle.lists.proofs.Below.{all-true}
-use Rattle.lists.proofs.Lists.{all-append, all-each}
+use Rattle.lists.proofs.Lists.{all-append}
+use Rattle.lists.proofs.Repeats.{all-concat}
 use Rattle.rules.specs.Headings.{numberOf}
 use Rattle.rules.specs.State.{Snake, State, count, snakeOf, area}
-use Rattle.rules.specs.Image.{front, bodyOf, startOf, imageOf, word, snakesIn, sideIn, dueIn, birthIn, foodCountIn, areaIn, startAt, lengthAt, headingAt, aliveAt, startDue, foodStart, bodyAt, foodAt, snakeAt, stateOf, between, longEnough, contentsFit, recordFits, rangesFit, startsFit, totalFits, cellsFit, bodiesFit, foodFits, wellFormed}
+use Rattle.rules.specs.Image.{front, bodyOf, imageOf, snakesIn, foodCountIn, areaIn, startAt, lengthAt, headingAt, aliveAt, startDue, bodyAt, stateOf, longEnough, contentsFit, recordFits, rangesFit, startsFit, totalFits, cellsFit, bodiesFit, foodFits, wellFormed}
 use Rattle.rules.specs.Facts.{Sound, Holdable}
 use Rattle.rules.specs.declared.Heading.{Heading}
 use Rattle.rules.specs.declared.Heading.the-variants.{Up, Right, Down, Left}
@@ -31,11 +30,6 @@ number-le Up = omega arith
 number-le Right = omega arith
 number-le Down = omega arith
 number-le Left = omega arith
-
-all-concat : (p : ℕ → Bool) (n : ℕ) (f : ℕ → List ℕ) → ((i : ℕ) → i < n → all p (f i) ≡ true) → all p (concatBelow n f) ≡ true
-unfolding concatBelow all
-all-concat p zero f h = refl
-all-concat p (suc n) f h = all-append p (concatBelow n f) (f n) ∙ both (all-concat p n f (λ i l. h i (omega arith))) (h n (le-refl _))
 
 -- a test that holds where another does
 implies : (a b : Bool) → (a ≡ true → b ≡ true) → (not a || b) ≡ true

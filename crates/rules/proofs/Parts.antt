@@ -9,7 +9,7 @@ use lib.Dec.{ltb}
 use lib.ListN.{length, getD, drop, length-drop}
 use lib.Seq.{getD-take, getD-drop}
 use borrow.Author.Tests.{lt-ltb}
-use Rattle.lists.specs.Lists.{all}
+use Rattle.lists.specs.Lists.{all, ascending}
 use Rattle.lists.specs.Boards.{Under}
 use Rattle.lists.proofs.Below.{each-at, each-long}
 use Rattle.lists.proofs.Lists.{part-long, all-each}
@@ -86,3 +86,7 @@ module _ (w : List ℕ) (s : Sound w) where
 
   pub food-all : all (λ c. ltb c (areaIn w)) (foodAt w) ≡ true
   food-all = all-each (λ c. ltb c (areaIn w)) (foodAt w) 0 (λ k l. lt-ltb _ _ (food-under k))
+
+  pub state-food : ascending 0 (stateOf w .food) ≡ true
+  unfolding stateOf
+  state-food = s .rising

@@ -1,13 +1,13 @@
 -- Where all places are inside, the first bad cell is the first cell that stands twice. Assumes nothing.
 use Prim.Native.Nat.{ℕ}
-use mathlib.Core.Path.{_≡_, refl, sym, ap, ap₂, _∙_}
-use mathlib.Core.Bool.{Bool, true, false, not, cond, _&&_, _||_, and-true, and-false}
+use mathlib.Core.Path.{_≡_, refl, ap, ap₂, _∙_}
+use mathlib.Core.Bool.{Bool, true, false, not, cond, _&&_, _||_, and-true}
 use mathlib.Core.List.{List, [], _∷_, map}
 use lib.Dec.{eqb}
 use lib.IntN.{pos}
 use Rattle.lists.specs.Choice.{_if_else_}
 use Rattle.lists.specs.Lists.{all, any, member, distinct}
-use Rattle.lists.proofs.Tests.{and-left, and-right, both, eqb-sym}
+use Rattle.lists.proofs.Tests.{and-left, and-right, both, eqb-sym, gather}
 use Rattle.rules.specs.Places.{inside, same, cellOf}
 use Rattle.rules.specs.Setting.{badCell}
 use Rattle.rules.specs.declared.Place.{Place}
@@ -28,12 +28,6 @@ swap false true true v = refl
 swap false true false v = refl
 swap false false true v = refl
 swap false false false v = refl
-
-gather : (m u d v : Bool) → (m && (d && (u && v))) ≡ ((u && d) && (m && v))
-gather false u d v = sym (and-false (u && d))
-gather true true d v = refl
-gather true false true v = refl
-gather true false false v = refl
 
 one-more : (x : ℕ) (b l : List ℕ) → noneIn (x ∷ b) l ≡ (not (member x l) && noneIn b l)
 unfolding noneIn member
