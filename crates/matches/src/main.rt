@@ -134,7 +134,7 @@ fn take_some(
         };
     }
     let mark = f.mark;
-    let end = referee::line_end(part, at);
+    let end = text::line_end(part, at);
     let after = end + 1;
     if end == part.len() {
         let reader = take_text(f, &part[at..end], line, image, next, list, out);

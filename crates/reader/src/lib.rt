@@ -80,8 +80,8 @@ fn take_part(
     ensures { λ q. ⌜ (Ready q (now (line .exit)) (now (image .exit)) (now (next .exit)) (now (out .exit))) × (r .at < q .at) ⌝ }
 {
     let at = r.at;
-    let end = referee::line_end(part, at);
-    let fill = referee::feed(line, r.fill, &part[at..end]);
+    let end = text::line_end(part, at);
+    let fill = text::feed(line, r.fill, &part[at..end]);
     let desk = r.desk;
     let held = Reader {
         desk,

@@ -9,12 +9,12 @@ use Rattle.rules.specs.Image.{imageOf, stateOf, longEnough, contentsFit, ranges
 use Rattle.rules.specs.Step.{causeOf, outcomeOf, stepped}
 use Rattle.rules.specs.Chance.{freeFrom, free, outcomes, digits, pick, drawnFrom, drawn, withFood, afterDraw}
 use Rattle.rules.specs.Calls.{initialSays, stepSays, drawSays}
-use Rattle.referee.specs.Numbers.{allDigits, readOn, digitsFit, decimalOf, gridOf, boundOf, flagOf}
-use Rattle.referee.specs.Fields.{upTo, pastEach}
-use Rattle.referee.specs.Lines.{settingIn, readFirst, drawIn, actionsIn, moveIn, entryIn, readLater}
-use Rattle.referee.specs.Split.{lessLast, linesOf}
+use Rattle.text.specs.Numbers.{allDigits, readOn, digitsFit, decimalOf, gridOf, boundOf, flagOf}
+use Rattle.text.specs.Fields.{upTo, pastEach}
+use Rattle.text.specs.Lines.{settingIn, readFirst, drawIn, actionsIn, moveIn, entryIn, readLater}
+use Rattle.text.specs.Split.{lessLast, linesOf}
 use Rattle.referee.specs.Places.{placeOf, placesOf}
-use Rattle.referee.specs.Text.{digitsUpTo, deedsText, endsText, eventsText, bodyText, snakeText, headText, lineText, refusalText, placesText}
+use Rattle.text.specs.Text.{digitsUpTo, deedsText, endsText, eventsText, bodyText, snakeText, headText, lineText, refusalText, placesText}
 use Rattle.referee.specs.Match.{beginSays, movedTurn, turnSays, endText, playOn, replayOf}
 use Rattle.referee.specs.Sample.{bytes, text, sampleIn, sampleOut}
 use Rattle.referee.specs.Cases.{printed, expected, theCases}

@@ -9,15 +9,15 @@ use lib.ListN.{length, take}
 use Rattle.lists.proofs.Writes.{write-front}
 use Rattle.rules.specs.Image.{imageOf}
 use Rattle.rules.specs.Says.{Says, refuses, gives}
-use Rattle.referee.specs.Fields.{upTo}
-use Rattle.referee.specs.Lines.{readFirst, readLater}
-use Rattle.referee.specs.Split.{linesOf}
-use Rattle.referee.specs.Text.{Wrote}
+use Rattle.text.specs.Fields.{upTo}
+use Rattle.text.specs.Lines.{readFirst, readLater}
+use Rattle.text.specs.Split.{linesOf}
+use Rattle.text.specs.Text.{Wrote}
 use Rattle.referee.specs.Match.{Turn, snakesOf, openedBy, beginSays, turnSays, said, lineSays, closeText, Plays, onward, playOn, played, replayOf}
 use Rattle.referee.specs.Run.{Took, Closed, deskAfter, Run, holds, goes, stops, ends, goes-last, stops-last}
 use Rattle.referee.specs.declared.Desk.{Desk}
 use Rattle.referee.specs.declared.Turned.{Turned}
-use Rattle.referee.proofs.Feeding.{held-first, held-later, ends-by, line-first, line-last, line-none}
+use Rattle.text.proofs.Feeding.{held-first, held-later, ends-by, line-first, line-last, line-none}
 use Rattle.referee.proofs.Playing.{close-begun, close-new, line-begun, line-new}
 use Rattle.referee.proofs.Saying.{front-back}
 

@@ -4,9 +4,9 @@ use mathlib.Core.Path.{_≡_}
 use mathlib.Core.Bool.{true, false}
 use mathlib.Core.List.{List, [], _∷_, _++_}
 use lib.ListN.{length, take}
-use Rattle.referee.specs.Fields.{upTo}
-use Rattle.referee.specs.Split.{Holds}
-use Rattle.referee.specs.Text.{Wrote}
+use Rattle.text.specs.Fields.{upTo}
+use Rattle.text.specs.Split.{Holds}
+use Rattle.text.specs.Text.{Wrote}
 use Rattle.referee.specs.Match.{lineSays, closeText, Plays}
 use Rattle.referee.specs.declared.Desk.{Desk}
 use Rattle.referee.specs.declared.Turned.{Turned}
