@@ -71,7 +71,7 @@ module _ (buffer s : List ℕ) (fill : ℕ) (b : 201 ≤ length buffer) (h : Hol
 -- ---- an input is cut where its newlines stand
 
 -- s has no newline: it ends where it is cut
-ends-by : (t : Bool) (x : ℕ) (s : List ℕ) → cond t [] (x ∷ upTo 10 s) ≡ x ∷ s → (t ≡ false) × (upTo 10 s ≡ s)
+pub ends-by : (t : Bool) (x : ℕ) (s : List ℕ) → cond t [] (x ∷ upTo 10 s) ≡ x ∷ s → (t ≡ false) × (upTo 10 s ≡ s)
 ends-by true x s e = let z : _≡_ {A = ℕ} 0 1 = cc in absurd (omega arith)
 ends-by false x s e = let p : upTo 10 s ≡ s = cc in (refl, p)
 

@@ -1,4 +1,4 @@
-pub mod Sample
+pub mod Cases
 pub mod Cutting
 pub mod Reading
 pub mod Signs
@@ -7,3 +7,4 @@ pub mod Showing
 pub mod Saying
 pub mod Playing
 pub mod Feeding
+pub mod Whole

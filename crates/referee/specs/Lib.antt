@@ -6,4 +6,6 @@ pub mod Places
 pub mod Text
 pub mod Shown
 pub mod Match
+pub mod Run
 pub mod Sample
+pub mod Cases

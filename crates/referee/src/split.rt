@@ -10,7 +10,7 @@ ghost use Rattle.referee.specs.Split.{Feeds};
 // Where the line that goes on at `from` ends: at a newline, or at the end of what came.
 pub fn line_end(part: &[u8], from: usize) -> usize
     requires { ⌜ from ≤ length (now part) ⌝ }
-    ensures { λ r. ⌜ r ≡ from + length (upTo 10 (drop from (now (part .entry)))) ⌝ }
+    ensures { λ r. ⌜ (r ≡ from + length (upTo 10 (drop from (now (part .entry))))) × (from ≤ r) × (r ≤ length (now (part .entry))) ⌝ }
 {
     piece_end(part, from, 10)
 }

@@ -1,6 +1,5 @@
 pub mod World
 pub mod After
-pub mod Left
 pub mod Next
 pub mod Applied
 pub mod Moving

@@ -15,11 +15,11 @@ ghost use Rattle.step.specs.After.{settled, gone, sizeOf, Short, Counted
 pub struct After {
     pub heading: Heading,
     pub lives: bool,
-    pub cell: u16,
-    pub start: usize,
-    pub keep: usize,
     pub ate: bool,
     pub cause: Cause,
+    pub cell: u16,
+    pub start: u16,
+    pub keep: u16,
 }
 
 // How many live, how many died, and how many cells all bodies have.
@@ -96,7 +96,7 @@ pub fn size_of(a: After) -> usize
     requires { ⌜ a .keep ≤ 1024 ⌝ }
     ensures { λ r. ⌜ r ≡ sizeOf a ⌝ }
 {
-    more_if(a.keep, a.lives)
+    more_if(a.keep as usize, a.lives)
 }
 
 pub fn count_all(all: [After; 8], n: usize) -> Counts

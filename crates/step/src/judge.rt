@@ -2,7 +2,6 @@
 use crate::Judged;
 use crate::Move;
 use crate::moves::move_all;
-use crate::moves::on_grid;
 use rules::Cause;
 use rules::Heading;
 use rules::Place;
@@ -42,7 +41,7 @@ fn stops(image: &[u16], i: usize, j: usize, you: Move, cell: u16) -> bool
     if !you.moves {
         return false;
     }
-    image::holds_in(image, you.start, you.keep, cell)
+    image::holds_in(image, you.start as usize, you.keep as usize, cell)
 }
 
 // Whether some snake has the cell so. Heads are not asked: a head there was head-on.
@@ -73,7 +72,7 @@ fn body_cause(image: &[u16], all: [Move; 8], n: usize, i: usize, cell: u16) -> C
         return Cause::NoCause;
     }
     let me = all[i];
-    if image::holds_in(image, me.start, me.keep, cell) {
+    if image::holds_in(image, me.start as usize, me.keep as usize, cell) {
         return Cause::SelfBody;
     }
     if stopped(image, all, n, i, cell) {
@@ -94,8 +93,9 @@ fn cause_of(image: &[u16], all: [Move; 8], n: usize, i: usize) -> Cause
         return Cause::NoCause;
     }
     let g = image[1];
-    let inside = on_grid(g, head);
-    if head_on(all, n, i, head) {
+    let inside = places::on_grid(g, head);
+    let met = head_on(all, n, i, head);
+    if met {
         return Cause::HeadOn;
     }
     if !inside {

@@ -20,10 +20,10 @@ use rules::Place;
 pub struct Move {
     pub moves: bool,
     pub heading: Heading,
-    pub head: Place,
-    pub start: usize,
-    pub keep: usize,
     pub eats: bool,
+    pub head: Place,
+    pub start: u16,
+    pub keep: u16,
 }
 
 // A move and what it led to.

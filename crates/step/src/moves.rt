@@ -4,40 +4,14 @@ use rules::Heading;
 use rules::Place;
 ghost use mathlib.Core.Path.{_≡_};
 ghost use Prim.Native.Nat.{_<_};
-ghost use lib.IntN.{pos};
 ghost use lib.ListN.{length};
 ghost use Rattle.lists.specs.Below.{filled};
-ghost use Rattle.rules.specs.Headings.{clockwise, counterclockwise, turned, actionOf};
-ghost use Rattle.rules.specs.Places.{inside};
+ghost use Rattle.rules.specs.Headings.{turned, actionOf};
 ghost use Rattle.rules.specs.Image.{snakesIn, sideIn, foodAt};
 ghost use Rattle.rules.specs.Facts.{Sound};
 ghost use Rattle.rules.specs.Step.{onFood};
 ghost use Rattle.step.specs.World.{still};
 ghost use Rattle.step.specs.Moving.{going, moveBy, moveAt};
-
-// cw of the Rust.
-fn clockwise(heading: Heading) -> Heading
-    ensures { λ r. ⌜ r ≡ clockwise heading ⌝ }
-{
-    match heading {
-        Heading::Up => Heading::Right,
-        Heading::Right => Heading::Down,
-        Heading::Down => Heading::Left,
-        Heading::Left => Heading::Up,
-    }
-}
-
-// ccw of the Rust.
-fn counterclockwise(heading: Heading) -> Heading
-    ensures { λ r. ⌜ r ≡ counterclockwise heading ⌝ }
-{
-    match heading {
-        Heading::Up => Heading::Left,
-        Heading::Left => Heading::Down,
-        Heading::Down => Heading::Right,
-        Heading::Right => Heading::Up,
-    }
-}
 
 // relative_to_absolute of the Rust, by the action's number.
 fn turned_by(heading: Heading, action: u64) -> Heading
@@ -47,15 +21,9 @@ fn turned_by(heading: Heading, action: u64) -> Heading
         return heading;
     }
     if action == 1 {
-        return counterclockwise(heading);
+        return places::counterclockwise(heading);
     }
-    clockwise(heading)
-}
-
-pub fn on_grid(g: u16, p: Place) -> bool
-    ensures { λ r. ⌜ r ≡ inside (pos g) p ⌝ }
-{
-    places::is_inside(g as i32, p)
+    places::clockwise(heading)
 }
 
 // Whether there is food at a place.
@@ -64,7 +32,7 @@ fn on_food(image: &[u16], p: Place) -> bool
     ensures { λ r. ⌜ r ≡ onFood (sideIn (now (image .entry))) (foodAt (now (image .entry))) p ⌝ }
 {
     let g = image[1];
-    if !on_grid(g, p) {
+    if !places::on_grid(g, p) {
         return false;
     }
     let food = image::food_of(image);
@@ -72,12 +40,13 @@ fn on_food(image: &[u16], p: Place) -> bool
 }
 
 // The body of `len` words from `start` on goes one place on; its tail stays only where the new head is on food.
-fn goes_on(image: &[u16], start: usize, len: usize, heading: Heading) -> Move
+fn goes_on(image: &[u16], start: u16, len: u16, heading: Heading) -> Move
     requires { ⌜ Sound (now image) ⌝ }
     requires { ⌜ (start < length (now image)) × (0 < len) ⌝ }
     ensures { λ r. ⌜ r ≡ going (now (image .entry)) start len heading ⌝ }
 {
-    let head = places::ahead(heading, places::place_of(image[1], image[start]));
+    let here = places::place_of(image[1], image[start as usize]);
+    let head = places::ahead(heading, here);
     if on_food(image, head) {
         return Move {
             moves: true,
@@ -88,12 +57,13 @@ fn goes_on(image: &[u16], start: usize, len: usize, heading: Heading) -> Move
             eats: true,
         };
     }
+    let rest = len - 1;
     Move {
         moves: true,
         heading,
         head,
         start,
-        keep: len - 1,
+        keep: rest,
         eats: false,
     }
 }

@@ -5,39 +5,15 @@ use rules::Heading;
 use rules::Legal;
 use rules::RelativeAction;
 use rules::Truncated;
-ghost use mathlib.Core.Path.{_≡_};
-ghost use Rattle.rules.specs.Headings.{clockwise, counterclockwise};
 ghost use Rattle.rules.specs.Promises.{Turns, ActsNext, Allows, Truncates};
-
-fn to_the_right(heading: Heading) -> Heading
-    ensures { λ r. ⌜ r ≡ clockwise heading ⌝ }
-{
-    match heading {
-        Heading::Up => Heading::Right,
-        Heading::Right => Heading::Down,
-        Heading::Down => Heading::Left,
-        Heading::Left => Heading::Up,
-    }
-}
-
-fn to_the_left(heading: Heading) -> Heading
-    ensures { λ r. ⌜ r ≡ counterclockwise heading ⌝ }
-{
-    match heading {
-        Heading::Up => Heading::Left,
-        Heading::Left => Heading::Down,
-        Heading::Down => Heading::Right,
-        Heading::Right => Heading::Up,
-    }
-}
 
 pub fn relative_to_absolute(heading: Heading, action: RelativeAction) -> Heading
     ensures { λ r. ⌜ Turns heading action r ⌝ }
 {
     match action {
         RelativeAction::Forward => heading,
-        RelativeAction::TurnLeft => to_the_left(heading),
-        RelativeAction::TurnRight => to_the_right(heading),
+        RelativeAction::TurnLeft => places::counterclockwise(heading),
+        RelativeAction::TurnRight => places::clockwise(heading),
     }
 }
 

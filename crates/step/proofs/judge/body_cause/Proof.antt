@@ -48,11 +48,17 @@ mul-me c = search needs
 array-copy-out-me : tie.Need-array-copy-out-me
 array-copy-out-me c = search needs
 
+cast-holds-in : tie.Need-cast-holds-in
+cast-holds-in c = search needs
+
+cast-holds-in-2 : tie.Need-cast-holds-in-2
+cast-holds-in-2 c = search needs
+
 holds-in-requires : tie.Need-holds-in-requires
-holds-in-requires c κs = let s = c .before .before .before .before .before in s .pre .1 .0 .fits (s .args .i)
+holds-in-requires c κs = let s = c .before .before .before .before .before .before .before in s .pre .1 .0 .fits (s .args .i)
 
 returns-2 : tie.Need-returns-2
-returns-2 c = let a = c .before .before .before .before .before .before .before .args in body-by (now (a .image)) (a .t2) (a .i) (a .cell) (a .n) (sym (c .before .holds-in .ensures) ∙ c .if2 .taken) refl
+returns-2 c = let a = c .before .before .before .before .before .before .before .before .before .args in body-by (now (a .image)) (a .t2) (a .i) (a .cell) (a .n) (sym (c .before .holds-in .ensures) ∙ c .if2 .taken) refl
 
 stopped-requires : tie.Need-stopped-requires
 stopped-requires c κs = search needs
@@ -60,13 +66,13 @@ stopped-requires c κs = search needs
 returns-3 : tie.Need-returns-3
 returns-3 c =
     let e = c .before .before in
-    let a = e .before .before .before .before .before .before .before .args in
+    let a = e .before .before .before .before .before .before .before .before .before .args in
     body-by (now (a .image)) (a .t2) (a .i) (a .cell) (a .n) (sym (e .before .holds-in .ensures) ∙ e .if2 .left) (sym (c .before .stopped .ensures) ∙ c .if3 .taken)
 
 returns-4 : tie.Need-returns-4
 returns-4 c =
     let e = c .before .before in
-    let a = e .before .before .before .before .before .before .before .args in
+    let a = e .before .before .before .before .before .before .before .before .before .args in
     body-by (now (a .image)) (a .t2) (a .i) (a .cell) (a .n) (sym (e .before .holds-in .ensures) ∙ e .if2 .left) (sym (c .before .stopped .ensures) ∙ c .if3 .left)
 
 pub body-cause-spec : {M : Type 1} → statement M
@@ -83,6 +89,8 @@ body-cause-spec =
     returns
     mul-me
     array-copy-out-me
+    cast-holds-in
+    cast-holds-in-2
     holds-in-requires
     returns-2
     stopped-requires

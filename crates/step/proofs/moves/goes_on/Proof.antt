@@ -36,8 +36,8 @@ returns c =
     let w = now (a .image) in
     goes-by w (a .start) (a .len) (a .heading) (p .ahead .result) (p .ahead .ensures ∙ ap (ahead (a .heading)) (p .before .place-of .ensures)) (sym (c .before .on-food .ensures) ∙ c .if1 .taken)
 
-sub-t9 : tie.Need-sub-t9
-sub-t9 c = search needs
+sub-rest : tie.Need-sub-rest
+sub-rest c = search needs
 
 returns-2 : tie.Need-returns-2
 returns-2 c =
@@ -57,5 +57,5 @@ goes-on-spec =
     ahead-requires
     on-food-requires
     returns
-    sub-t9
+    sub-rest
     returns-2)

@@ -1,0 +1,49 @@
+-- The headline theorems by name, each under the demand that it answers; the file named has the statement. Assumes nothing.
+
+-- Demand 1: what each call's definition says is its table of refusals, in document 01's order, and one answer where no row holds
+pub use Rattle.theorems.proofs.Refusals.{setting-order, initial-order, step-order, observe-order, count-order, draw-order, rank-order, actor-order, legal-order, key-order, truncation-order, reward-order, space-order}
+-- Demand 1: a table refuses by the number of its first row that holds, and by no other
+pub use Rattle.theorems.proofs.Tables.{table-gives, table-refuses, table-first}
+-- Demand 1: so a call's refusal has that number
+pub use Rattle.theorems.proofs.Refusals.{validate-number, initial-number, step-number, observe-number, count-number, draw-number, rank-number, actor-number, legal-number, key-number, truncation-number, reward-number, space-number}
+-- Demand 1: a refusal leaves every lent word, both buffers of a draw
+pub use Rattle.theorems.proofs.Refusals.{initial-untouched, step-untouched, observe-untouched, draw-untouched}
+-- Demand 1: an answer is a count of words, and the words after them keep their values
+pub use Rattle.theorems.proofs.Refusals.{initial-after, step-after, observe-after, draw-after}
+-- Demand 2: where no row holds, each call answers what its definition says
+pub use Rattle.theorems.proofs.Definitions.{turn-is, check-is, body-is, validate-is, initial-is, step-is, observe-is, count-is, draw-is, rank-is, actor-is, legal-is, key-is, truncation-is, reward-is, space-is, action-space-is}
+-- Demand 2: document 01's twelve examples, one table; two moves more
+pub use Rattle.rules.proofs.Examples.{examples-hold, more-hold}
+-- Demand 2: its sample match, as states and as text
+pub use Rattle.rules.proofs.Sample.{sample-holds as sample-played}
+pub use Rattle.referee.proofs.Cases.{sample-holds as sample-printed}
+-- Demand 2: where the replay is subtle, input and output as one table
+pub use Rattle.referee.proofs.Cases.{cases-hold}
+-- Demand 2: what a program prints that takes the lines of its input one by one is the replay of that input
+pub use Rattle.referee.proofs.Whole.{run-prints}
+-- Demand 2: the cell ahead shows above the head, for each heading
+pub use Rattle.rules.proofs.View.{ahead-above}
+-- Demand 2: a corpse changes no one's fate; a casualty that lost has someone alive
+pub use Rattle.rules.proofs.Step.{corpse-harmless, lost-to-someone}
+-- Demand 2: an agent cannot see other snakes' headings, alive flags, food due or birth; truncation changes the survival flag alone
+pub use Rattle.view.proofs.Theorems.{hidden-unseen, only-survival}
+-- Demand 3, of the definitions: free cells, count, one to one, rank, k! indices a set; what a draw changes, at birth too
+pub use Rattle.rules.proofs.Fairness.{Fair, fair, settled, born, born-full}
+-- Demand 3, of the calls' answers: the count is P; an index draws k different free cells; a draw is undone by its rank and a rank by its draw
+pub use Rattle.rules.proofs.FairCalls.{count-answers, list-fair, rank-answers, rank-back, list-forth, list-one}
+-- Demand 3, of the calls' answers: each set of k free cells comes of exactly k! indices, and nothing else changes
+pub use Rattle.rules.proofs.FairCalls.{sets-fair, draw-changes}
+-- Demand 3: a birth chain with p due ends after exactly min(p, n + 1) draws
+pub use Rattle.rules.proofs.Births.{chain-count}
+pub use Rattle.rules.proofs.FairCalls.{chain-ended, chain-not-before}
+-- Tightness: two answers that meet one promise are equal, and so are the lent buffers
+pub use Rattle.rules.proofs.Answers.{one-turn, one-check, one-verdict, one-start, one-step, one-view, one-count, one-draw, one-rank, one-actor, one-legal, one-key, one-truncation, one-reward, one-space, one-action-space, one-body}
+-- Tightness: two parts that the body query may hand back have equal words at one address
+pub use Rattle.theorems.proofs.Definitions.{one-part}
+-- One image for each state
+pub use Rattle.rules.proofs.Image.{state-back}
+pub use Rattle.rules.proofs.Words.{image-back}
+-- Calls chain: what the initial state, a step and a draw write is well-formed again
+pub use Rattle.rules.proofs.InitialFacts.{initial-again}
+pub use Rattle.rules.proofs.StepFacts.{step-again}
+pub use Rattle.rules.proofs.Again.{draw-again}

@@ -1,0 +1,4 @@
+pub mod Tables
+pub mod Refusals
+pub mod Definitions
+pub mod Headlines

@@ -1,0 +1,217 @@
+-- Demand 1 of each call: an answer, or exactly the table's number in the table's order; a refusal leaves every lent word, and an answer
+-- the words after those that it wrote. A call is spoken of by its promise, which its code is proved to meet. Assumes nothing.
+use Prim.Native.Nat.{ℕ}
+use native.Mathlib.Omega.{arith}
+use mathlib.Core.Path.{_≡_, refl, sym, ap, _∙_}
+use mathlib.Core.Bool.{true, false}
+use mathlib.Core.List.{List}
+use lib.IntN.{ℤ}
+use lib.Ieee.{Float}
+use lib.ListN.{length, drop}
+use lib.Seq.{drop-append-seam}
+use Rattle.lists.specs.Lists.{overFront}
+use Rattle.rules.specs.State.{snakeOf}
+use Rattle.rules.specs.Image.{imageOf, stateOf}
+use Rattle.rules.specs.Setting.{sideOf, initialState}
+use Rattle.rules.specs.Step.{Outcome, stepped}
+use Rattle.rules.specs.Chance.{outcomes, drawn, afterDraw, rankOf}
+use Rattle.rules.specs.View.{view, lit}
+use Rattle.rules.specs.LengthKey.{lengthKey}
+use Rattle.rules.specs.Turns.{chanceActs, legalFor, truncated}
+use Rattle.rules.specs.Reward.{rewardOf}
+use Rattle.rules.specs.Says.{Says, refuses, gives, seen, beside, lent, says, saysVerdict, saysNumber, saysKey, saysActor, saysLegal, saysMark, saysSum, box, saysSpace}
+use Rattle.rules.specs.Calls.{settingSays, initialSays, stepSays, observeSays, countSays, Draw, drawSays, rankSays, actorSays, legalSays, keySays, truncationSays, rewardSays, spaceSays}
+use Rattle.rules.specs.Promises.{Validates, Starts, Steps, Observes, Counts, Draws, Ranks, ActsNext, Allows, Keys, Truncates, Rewards, ObservationSpace}
+use Rattle.rules.specs.declared.Setting.{Setting}
+use Rattle.rules.specs.declared.Event.{Event}
+use Rattle.rules.specs.declared.Weights.{Weights}
+use Rattle.rules.specs.declared.Verdict.{Verdict}
+use Rattle.rules.specs.declared.Verdict.the-variants.{Refused as RefusedVerdict}
+use Rattle.rules.specs.declared.Answer.{Answer}
+use Rattle.rules.specs.declared.Answer.the-variants.{Done, Refused as RefusedAnswer}
+use Rattle.rules.specs.declared.Stepped.{Stepped}
+use Rattle.rules.specs.declared.Drawn.{Drawn}
+use Rattle.rules.specs.declared.Number.{Number}
+use Rattle.rules.specs.declared.Number.the-variants.{Refused as RefusedNumber}
+use Rattle.rules.specs.declared.LengthCell.{LengthCell}
+use Rattle.rules.specs.declared.LengthCell.the-variants.{Refused as RefusedKey}
+use Rattle.rules.specs.declared.Actor.{Actor}
+use Rattle.rules.specs.declared.Actor.the-variants.{Refused as RefusedActor}
+use Rattle.rules.specs.declared.Legal.{Legal}
+use Rattle.rules.specs.declared.Legal.the-variants.{Refused as RefusedLegal}
+use Rattle.rules.specs.declared.Truncated.{Truncated}
+use Rattle.rules.specs.declared.Truncated.the-variants.{Refused as RefusedMark}
+use Rattle.rules.specs.declared.Reward.{Reward}
+use Rattle.rules.specs.declared.Reward.the-variants.{Refused as RefusedSum}
+use Rattle.rules.specs.declared.Space.{Space}
+use Rattle.rules.specs.declared.Space.the-variants.{Refused as RefusedSpace}
+use Rattle.theorems.specs.Orders.{Table, byTable, FirstRow, settingOrder, initialRows, initialOrder, stepRows, stepOrder, observeOrder, countOrder, drawOrder, rankOrder, imageOrder, agentOrder, rewardOrder, spaceOrder}
+use Rattle.theorems.proofs.Tables.{table-both, table-refuses, setting-table}
+
+-- what each call's definition says is its table, and what comes where no row holds
+pub setting-order : (s : Setting) → settingSays s ≡ byTable (settingOrder s) (gives tt)
+unfolding settingSays
+setting-order s = setting-table s (gives tt)
+
+pub initial-order : (s : Setting) (room : ℕ) → initialSays s room ≡ byTable (initialOrder s room) (gives (initialState s))
+unfolding initialSays byTable
+initial-order s room = setting-table s _ ∙ sym (table-both (settingOrder s) (initialRows s room) (gives (initialState s)))
+
+pub step-order : (s : Setting) (w acts : List ℕ) (room : ℕ) → stepSays s w acts room ≡ byTable (stepOrder s w acts room) (gives (stepped s (stateOf w) acts))
+unfolding stepSays byTable
+step-order s w acts room = setting-table s _ ∙ sym (table-both (settingOrder s) (stepRows s w acts room) (gives (stepped s (stateOf w) acts)))
+
+pub observe-order : (w : List ℕ) (a room : ℕ) → observeSays w a room ≡ byTable (observeOrder w a room) (gives (view (stateOf w) a))
+unfolding observeSays byTable
+observe-order w a room = refl
+
+pub count-order : (w : List ℕ) → countSays w ≡ byTable (countOrder w) (gives (outcomes (stateOf w)))
+unfolding countSays byTable
+count-order w = refl
+
+pub draw-order : (w : List ℕ) (i room listRoom : ℕ)
+    → drawSays w i room listRoom ≡ byTable (drawOrder w i room listRoom) (gives (record { next = afterDraw (stateOf w) i; cells = drawn (stateOf w) i }))
+unfolding drawSays byTable
+draw-order w i room listRoom = refl
+
+pub rank-order : (w l : List ℕ) → rankSays w l ≡ byTable (rankOrder w l) (gives (rankOf (stateOf w) l))
+unfolding rankSays byTable
+rank-order w l = refl
+
+pub actor-order : (w : List ℕ) → actorSays w ≡ byTable (imageOrder w) (gives (chanceActs (stateOf w)))
+unfolding actorSays byTable
+actor-order w = refl
+
+pub legal-order : (w : List ℕ) (a : ℕ) → legalSays w a ≡ byTable (agentOrder w a) (gives (legalFor (stateOf w) a))
+unfolding legalSays byTable
+legal-order w a = refl
+
+pub key-order : (w : List ℕ) → keySays w ≡ byTable (imageOrder w) (gives (lengthKey (stateOf w)))
+unfolding keySays byTable
+key-order w = refl
+
+pub truncation-order : (w : List ℕ) (a : ℕ) (e : Event) → truncationSays w a e ≡ byTable (agentOrder w a) (gives (truncated e (snakeOf (stateOf w) a .alive)))
+unfolding truncationSays byTable
+truncation-order w a e = refl
+
+pub reward-order : (w : Weights) (e : Event) → rewardSays w e ≡ byTable (rewardOrder w) (gives (rewardOf w e))
+unfolding rewardSays byTable
+reward-order w e = refl
+
+pub space-order : (g : ℤ) → spaceSays g ≡ byTable (spaceOrder g) (gives (box 5 (sideOf g) (sideOf g) (lit false) (lit true)))
+unfolding spaceSays byTable
+space-order g = refl
+
+-- ---- a refusal's number is that of the first row that holds, for each call that refuses
+
+module _ {A B : Type 0} (f : A → B) where
+  seen-refuses : (x : Says A) (k : ℕ) → seen f x ≡ refuses k → x ≡ refuses k
+  seen-refuses (refuses n) k h = let z : n ≡ k = cc in ap refuses z
+  seen-refuses (gives a) k h = let z : _≡_ {A = ℕ} 0 1 = cc in absurd (omega arith)
+
+  first-row : (x : Says A) (t : Table) (a : A) (k : ℕ) → x ≡ byTable t (gives a) → seen f x ≡ refuses k → FirstRow t k
+  first-row x t a k o h = table-refuses t a k (sym o ∙ seen-refuses x k h)
+
+module _ (k : ℕ) where
+  pub validate-number : (s : Setting) (r : Verdict) → Validates s r → r ≡ RefusedVerdict k → FirstRow (settingOrder s) k
+  validate-number s r p e = table-refuses (settingOrder s) tt k (sym (setting-order s) ∙ sym (p .answer) ∙ ap saysVerdict e)
+
+  pub initial-number : (s : Setting) (old new : List ℕ) (r : Answer) → Starts s old new r → r ≡ RefusedAnswer k → FirstRow (initialOrder s (length old)) k
+  initial-number s old new r p e = first-row _ (initialSays s (length old)) (initialOrder s (length old)) _ k (initial-order s (length old)) (sym (p .answer) ∙ ap says e)
+
+  pub step-number : (s : Setting) (w acts old new : List ℕ) (r : Stepped) → Steps s w acts old new r → r .answer ≡ RefusedAnswer k → FirstRow (stepOrder s w acts (length old)) k
+  step-number s w acts old new r p e =
+      first-row _ (stepSays s w acts (length old)) (stepOrder s w acts (length old)) _ k (step-order s w acts (length old)) (sym (p .answer) ∙ ap says e)
+
+  pub observe-number : (w : List ℕ) (a : ℕ) (old new : List Float) (r : Answer) → Observes w a old new r → r ≡ RefusedAnswer k → FirstRow (observeOrder w a (length old)) k
+  observe-number w a old new r p e =
+      first-row _ (observeSays w a (length old)) (observeOrder w a (length old)) _ k (observe-order w a (length old)) (sym (p .answer) ∙ ap says e)
+
+  pub count-number : (w : List ℕ) (r : Number) → Counts w r → r ≡ RefusedNumber k → FirstRow (countOrder w) k
+  count-number w r p e = table-refuses (countOrder w) _ k (sym (count-order w) ∙ sym (p .answer) ∙ ap saysNumber e)
+
+  pub draw-number : (w : List ℕ) (i : ℕ) (old new list cells : List ℕ) (r : Drawn) → Draws w i old new list cells r → r .answer ≡ RefusedAnswer k
+      → FirstRow (drawOrder w i (length old) (length list)) k
+  draw-number w i old new list cells r p e =
+      first-row _ (drawSays w i (length old) (length list)) (drawOrder w i (length old) (length list)) _ k (draw-order w i (length old) (length list)) (sym (p .answer) ∙ ap says e)
+
+  pub rank-number : (w l : List ℕ) (r : Number) → Ranks w l r → r ≡ RefusedNumber k → FirstRow (rankOrder w l) k
+  rank-number w l r p e = table-refuses (rankOrder w l) _ k (sym (rank-order w l) ∙ sym (p .answer) ∙ ap saysNumber e)
+
+  pub actor-number : (w : List ℕ) (r : Actor) → ActsNext w r → r ≡ RefusedActor k → FirstRow (imageOrder w) k
+  actor-number w r p e = table-refuses (imageOrder w) _ k (sym (actor-order w) ∙ sym (p .answer) ∙ ap saysActor e)
+
+  pub legal-number : (w : List ℕ) (a : ℕ) (r : Legal) → Allows w a r → r ≡ RefusedLegal k → FirstRow (agentOrder w a) k
+  legal-number w a r p e = table-refuses (agentOrder w a) _ k (sym (legal-order w a) ∙ sym (p .answer) ∙ ap saysLegal e)
+
+  pub key-number : (w : List ℕ) (r : LengthCell) → Keys w r → r ≡ RefusedKey k → FirstRow (imageOrder w) k
+  key-number w r p e = table-refuses (imageOrder w) _ k (sym (key-order w) ∙ sym (p .answer) ∙ ap saysKey e)
+
+  pub truncation-number : (w : List ℕ) (a : ℕ) (v : Event) (r : Truncated) → Truncates w a v r → r ≡ RefusedMark k → FirstRow (agentOrder w a) k
+  truncation-number w a v r p e = table-refuses (agentOrder w a) _ k (sym (truncation-order w a v) ∙ sym (p .answer) ∙ ap saysMark e)
+
+  pub reward-number : (w : Weights) (v : Event) (r : Reward) → Rewards w v r → r ≡ RefusedSum k → FirstRow (rewardOrder w) k
+  reward-number w v r p e = table-refuses (rewardOrder w) _ k (sym (reward-order w v) ∙ sym (p .answer) ∙ ap saysSum e)
+
+  pub space-number : (g : ℤ) (r : Space) → ObservationSpace g r → r ≡ RefusedSpace k → FirstRow (spaceOrder g) k
+  space-number g r p e = table-refuses (spaceOrder g) _ k (sym (space-order g) ∙ sym (p .answer) ∙ ap saysSpace e)
+
+-- ---- a refusal leaves every lent word
+
+module _ {A B C : Type 0} (f : A → B) (g : A → List C) (old : List C) where
+  kept : (x : Says A) (k : ℕ) → seen f x ≡ refuses k → lent g old x ≡ old
+  kept (refuses n) k h = refl
+  kept (gives a) k h = let z : _≡_ {A = ℕ} 0 1 = cc in absurd (omega arith)
+
+module _ (k : ℕ) where
+  pub initial-untouched : (s : Setting) (old new : List ℕ) (r : Answer) → Starts s old new r → r ≡ RefusedAnswer k → new ≡ old
+  initial-untouched s old new r p e = p .words ∙ kept _ imageOf old (initialSays s (length old)) k (sym (p .answer) ∙ ap says e)
+
+  pub step-untouched : (s : Setting) (w acts old new : List ℕ) (r : Stepped) → Steps s w acts old new r → r .answer ≡ RefusedAnswer k → new ≡ old
+  step-untouched s w acts old new r p e = p .words ∙ kept _ (λ (o : Outcome). imageOf (o .next)) old (stepSays s w acts (length old)) k (sym (p .answer) ∙ ap says e)
+
+  pub observe-untouched : (w : List ℕ) (a : ℕ) (old new : List Float) (r : Answer) → Observes w a old new r → r ≡ RefusedAnswer k → new ≡ old
+  observe-untouched w a old new r p e = p .numbers ∙ kept _ (λ v. v) old (observeSays w a (length old)) k (sym (p .answer) ∙ ap says e)
+
+  -- both buffers of a draw
+  pub draw-untouched : (w : List ℕ) (i : ℕ) (old new list cells : List ℕ) (r : Drawn) → Draws w i old new list cells r → r .answer ≡ RefusedAnswer k
+      → (new ≡ old) × (cells ≡ list)
+  draw-untouched w i old new list cells r p e =
+      let x = drawSays w i (length old) (length list) in
+      let h : seen (λ (d : Draw). length (imageOf (d .next))) x ≡ refuses k = sym (p .answer) ∙ ap says e in
+      (p .words ∙ kept _ (λ (d : Draw). imageOf (d .next)) old x k h, p .list ∙ kept _ (λ (d : Draw). d .cells) list x k h)
+
+-- ---- an answer is the count of the words that it wrote, and the words after them keep their values
+
+module _ {A C : Type 0} (g : A → List C) (old : List C) where
+  after-front : (s : List C) (n : ℕ) → length s ≡ n → drop n (overFront s old) ≡ drop n old
+  unfolding overFront
+  after-front s n e = rw (sym e) (drop-append-seam s (drop (length s) old))
+
+  kept-after : (x : Says A) (n : ℕ) → seen (λ a. length (g a)) x ≡ gives n → drop n (lent g old x) ≡ drop n old
+  kept-after (refuses k) n h = let z : _≡_ {A = ℕ} 0 1 = cc in absurd (omega arith)
+  kept-after (gives a) n h = after-front (g a) n (cc)
+
+  -- the same, where the count stands beside the answer and is 0 on a refusal
+  kept-beside : (x : Says A) (n : ℕ) → n ≡ beside (λ a. length (g a)) 0 x → drop n (lent g old x) ≡ drop n old
+  kept-beside (refuses k) n h = refl
+  kept-beside (gives a) n h = after-front (g a) n (sym h)
+
+module _ (n : ℕ) where
+  pub initial-after : (s : Setting) (old new : List ℕ) (r : Answer) → Starts s old new r → r ≡ Done n → drop n new ≡ drop n old
+  initial-after s old new r p e = ap (drop n) (p .words) ∙ kept-after imageOf old (initialSays s (length old)) n (sym (p .answer) ∙ ap says e)
+
+  pub step-after : (s : Setting) (w acts old new : List ℕ) (r : Stepped) → Steps s w acts old new r → r .answer ≡ Done n → drop n new ≡ drop n old
+  step-after s w acts old new r p e =
+      ap (drop n) (p .words) ∙ kept-after (λ (o : Outcome). imageOf (o .next)) old (stepSays s w acts (length old)) n (sym (p .answer) ∙ ap says e)
+
+  pub observe-after : (w : List ℕ) (a : ℕ) (old new : List Float) (r : Answer) → Observes w a old new r → r ≡ Done n → drop n new ≡ drop n old
+  observe-after w a old new r p e = ap (drop n) (p .numbers) ∙ kept-after (λ v. v) old (observeSays w a (length old)) n (sym (p .answer) ∙ ap says e)
+
+  pub draw-after : (w : List ℕ) (i : ℕ) (old new list cells : List ℕ) (r : Drawn) → Draws w i old new list cells r → r .answer ≡ Done n
+      → (drop n new ≡ drop n old) × (drop (r .cells) cells ≡ drop (r .cells) list)
+  draw-after w i old new list cells r p e =
+      let x = drawSays w i (length old) (length list) in (
+        ap (drop n) (p .words) ∙ kept-after (λ (d : Draw). imageOf (d .next)) old x n (sym (p .answer) ∙ ap says e),
+        ap (drop (r .cells)) (p .list) ∙ kept-beside (λ (d : Draw). d .cells) list x (r .cells) (p .cells),
+      )
