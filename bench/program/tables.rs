@@ -57,6 +57,14 @@ fn whole(x: f64) -> String {
     }
 }
 
+fn share(x: f64) -> String {
+    if x < 0.1 {
+        format!("{x:.3}")
+    } else {
+        format!("{x:.2}")
+    }
+}
+
 fn row(title: &str, cells: impl Iterator<Item = String>) {
     println!("| {title} | {} |", cells.collect::<Vec<_>>().join(" | "));
 }
@@ -132,8 +140,8 @@ impl Book<'_> {
         self.row("ratio", |s| {
             let ratio = self.ratio(call, s)?;
             Some(match aim(call, &s.name) {
-                Some(aim) if aim < ratio => format!("**{ratio:.2}** (aim {aim})"),
-                _ => format!("{ratio:.2}"),
+                Some(aim) if aim < ratio => format!("**{}** (aim {aim})", share(ratio)),
+                _ => share(ratio),
             })
         });
     }
@@ -170,7 +178,7 @@ fn five(counts: &Counts) {
         book.pair(call);
         book.row("ratio to the Rust's `validate` and `step`", |s| {
             let both = counts.of("rust", call, &s.name)? + counts.of("rust", "validate", &s.name)?;
-            Some(format!("{:.2}", counts.of("port", call, &s.name)? / both))
+            Some(share(counts.of("port", call, &s.name)? / both))
         });
     }
     println!("\n### Floors\n");
