@@ -21,6 +21,8 @@ pub use Rattle.referee.proofs.Sample.{sample-holds as sample-printed}
 pub use Rattle.rules.proofs.View.{ahead-above}
 -- Demand 2: a corpse changes no one's fate; a casualty that lost has someone alive
 pub use Rattle.rules.proofs.Step.{corpse-harmless, lost-to-someone}
+-- Demand 2: what is due after a step that is not terminal are the apples that are gone
+pub use Rattle.theorems.proofs.Eaten.{apples-gone}
 -- Demand 2: an agent cannot see other snakes' headings, alive flags, food due or birth; truncation changes the survival flag alone
 pub use Rattle.view.proofs.Theorems.{hidden-unseen, only-survival}
 -- Demand 3, of the definitions: free cells, count, one to one, rank, k! indices a set; what a draw changes, at birth too
