@@ -1,4 +1,12 @@
 // The face of the library: every public call and the types that the calls share. No call has a `requires`.
+pub use agent::action_space;
+pub use agent::actor;
+pub use agent::legal_actions;
+pub use agent::length_cell;
+pub use agent::observation_space;
+pub use agent::relative_to_absolute;
+pub use agent::reward;
+pub use agent::truncation;
 pub use chance::count;
 pub use chance::draw;
 pub use chance::rank;
@@ -25,12 +33,4 @@ pub use rules::Weights;
 pub use setting::initial_state;
 pub use setting::validate;
 pub use step::step;
-pub use view::action_space;
-pub use view::actor;
-pub use view::legal_actions;
-pub use view::length_cell;
-pub use view::observation_space;
 pub use view::observe;
-pub use view::relative_to_absolute;
-pub use view::reward;
-pub use view::truncation;

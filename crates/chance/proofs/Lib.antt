@@ -1,6 +1,5 @@
 pub mod Scans
 pub mod Radix
-pub mod Growing
 pub mod Horner
 pub mod Marking
 pub mod NextImage

@@ -1,19 +1,11 @@
 -- The words of an image after a draw. Assumes nothing.
 use Prim.Native.Nat.{ℕ, _+_, _-_}
-use mathlib.Core.Bool.{Bool, true, false}
+use mathlib.Core.Bool.{Bool}
 use mathlib.Core.List.{List, _∷_, _++_}
-use mathlib.Core.Path.{_≡_}
 use lib.ListN.{length, take, drop}
 use Rattle.lists.specs.Choice.{bit}
-use Rattle.lists.specs.Lists.{member, distinct, ascending}
 use Rattle.rules.specs.Image.{snakesIn, sideIn, foodCountIn, foodStart, foodAt}
 use Rattle.rules.specs.Chance.{withFood}
-
--- different cells, none of them in the ascending food
-pub record Fresh (food cells : List ℕ) : Type 0 where
-  pub rising : ascending 0 food ≡ true
-  pub once : distinct cells ≡ true
-  pub away : (c : ℕ) → member c cells ≡ true → member c food ≡ false
 
 -- due, birth and food count anew, and the food with the cells
 unfoldable pub nextWords : List ℕ → ℕ → Bool → List ℕ → List ℕ

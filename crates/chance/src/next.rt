@@ -1,9 +1,9 @@
 // The answer of a draw (`apply_chance_node`): the cells in the order drawn, and the next image.
 use crate::board::pick_cells;
-use crate::food::put_all;
 use crate::index::split;
 use crate::odds::Odds;
 use crate::odds::odds_of;
+use image::put_all;
 use image::write_contents;
 use lists::write_at;
 use rules::Answer;
@@ -21,7 +21,8 @@ ghost use Rattle.rules.specs.Chance.{outcomes, drawnFrom};
 ghost use Rattle.rules.specs.Says.{gives};
 ghost use Rattle.chance.specs.Marks.{unmarked};
 ghost use Rattle.chance.specs.Odds.{Stands};
-ghost use Rattle.chance.specs.Next.{Fresh, nextWords};
+ghost use Rattle.image.specs.Writers.{Fresh};
+ghost use Rattle.chance.specs.Next.{nextWords};
 ghost use Rattle.chance.specs.Answers.{drawOf, dueSays, Answers, Refuses};
 
 pub fn refused(number: u8) -> Drawn

@@ -1,3 +1,6 @@
 pub mod Headed
 pub mod Checked
 pub mod Asked
+pub mod Left
+pub mod Growing
+pub mod Heads

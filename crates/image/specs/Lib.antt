@@ -1,3 +1,4 @@
 pub mod Records
 pub mod Checked
 pub mod Memory
+pub mod Writers

@@ -1,13 +1,20 @@
 // The state image in 16-bit words: which slices are well-formed, what their parts are, and how words are written.
+mod added;
+mod bodies;
 mod cells;
 mod check;
 mod contents;
+mod eaten;
 mod parts;
 mod table;
 mod words;
 
+pub use added::put_all;
+pub use bodies::write_body;
 pub use cells::stamps_once;
 pub use check::well_formed;
+pub use eaten::count_left;
+pub use eaten::write_left;
 pub use lists::Found;
 pub use lists::find;
 pub use lists::holds;
@@ -28,8 +35,8 @@ pub use words::write_record;
 
 // A snake's four words, read.
 pub struct SnakeRecord {
-    pub start: usize,
-    pub len: usize,
+    pub start: u16,
+    pub len: u16,
     pub heading: Heading,
     pub alive: bool,
 }

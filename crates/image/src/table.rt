@@ -16,8 +16,8 @@ pub fn record_at(image: &[u16], i: usize) -> SnakeRecord
     ensures { λ r. ⌜ r ≡ recordAt (now (image .entry)) i ⌝ }
 {
     SnakeRecord {
-        start: image[5 + 4 * i] as usize,
-        len: image[6 + 4 * i] as usize,
+        start: image[5 + 4 * i],
+        len: image[6 + 4 * i],
         heading: heading_of(image[7 + 4 * i]),
         alive: image[8 + 4 * i] == 1,
     }

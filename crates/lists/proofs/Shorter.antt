@@ -1,7 +1,7 @@
 -- What holds of a list holds of its first part and of what is kept of it. Assumes nothing.
-use mathlib.Core.Path.{_≡_, refl}
+use mathlib.Core.Path.{_≡_, refl, ap}
 use mathlib.Core.Bool.{Bool, true, false, cond}
-use mathlib.Core.List.{List, [], _∷_}
+use mathlib.Core.List.{List, [], _∷_, map}
 use Prim.Native.Nat.{ℕ, zero, suc, _≤_}
 use native.Mathlib.Omega.{arith}
 use lib.ListN.{take}
@@ -18,6 +18,11 @@ unfolding all
 all-take p zero l t = refl
 all-take p (suc k) [] t = refl
 all-take p (suc k) (x ∷ l) t = both (and-left (p x) (all p l) t) (all-take p k l (and-right (p x) (all p l) t))
+
+pub map-take : {A B : Type 0} (f : A → B) (k : ℕ) (l : List A) → map f (take k l) ≡ take k (map f l)
+map-take f zero l = refl
+map-take f (suc k) [] = refl
+map-take f (suc k) (x ∷ l) = ap (λ (t : List _). f x ∷ t) (map-take f k l)
 
 pub of-take : (x k : ℕ) (l : List ℕ) → member x (take k l) ≡ true → member x l ≡ true
 of-take x zero l m = absurd (member-none x m)

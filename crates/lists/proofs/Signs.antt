@@ -1,8 +1,9 @@
--- Tests of order on integers, one from the other; how far a number is from zero. Assumes nothing.
-use mathlib.Core.Path.{_≡_, refl}
+-- Tests of order on integers, one from the other; how far a number is from zero; one less than a negative. Assumes nothing.
+use mathlib.Core.Path.{_≡_, refl, ap}
 use mathlib.Core.Bool.{true, false, true≢false, false≢true}
-use lib.IntN.{ℤ, pos, negsuc, sucℤ, predℤ}
-use Prim.Native.Nat.{zero, suc, _≤_}
+use lib.IntN.{ℤ, pos, negsuc, sucℤ, predℤ, _-ℤ_}
+use Prim.Native.Nat.{ℕ, zero, suc, _≤_}
+use native.Mathlib.Nat.{zero-add}
 use native.Mathlib.Omega.{arith}
 use lib.Signed.{leZ, ltZ, mag}
 use borrow.Author.Tests.{ltb-true, ltb-false, le-leb, lt-leb}
@@ -28,3 +29,7 @@ pub mag-pred : (z : ℤ) → mag (predℤ z) ≤ suc (mag z)
 mag-pred (pos zero) = omega arith
 mag-pred (pos (suc n)) = omega arith
 mag-pred (negsuc n) = omega arith
+
+pub minus-one : (m : ℕ) → negsuc 0 -ℤ pos m ≡ negsuc m
+minus-one zero = refl
+minus-one (suc k) = ap (λ (j : ℕ). negsuc (suc j)) (zero-add k)

@@ -7,6 +7,7 @@ use Prim.Native.Nat.{ℕ, zero, suc, _≤_, _<_}
 use native.Mathlib.Omega.{arith}
 use lib.Dec.{eqb, ltb}
 use lib.ListN.{getD}
+use mir.Val.{boolByte}
 use borrow.Author.Tests.{eqb-true, eqb-false, eq-eqb, ne-eqb, ltb-true, ltb-false}
 use Rattle.lists.specs.Choice.{bit}
 use Rattle.lists.specs.Lists.{every}
@@ -75,6 +76,11 @@ or-false-right false b e = e
 pub bit-le : (b : Bool) → bit b ≤ 1
 bit-le true = omega arith
 bit-le false = omega arith
+
+-- a test cast to a number
+pub byte-bit : (b : Bool) → boolByte b ≡ bit b
+byte-bit true = refl
+byte-bit false = refl
 
 -- ---- a list of tests
 

@@ -1,5 +1,5 @@
--- A choice by tests, read from the top: `a if t else b if u else c`; and a test as a number. Assumes nothing.
-use Prim.Native.Nat.{ℕ}
+-- A choice by tests, read from the top: `a if t else b if u else c`; a test as a number, the first number that is not 0. Assumes nothing.
+use Prim.Native.Nat.{ℕ, zero, suc}
 use mathlib.Core.Bool.{Bool, true, false, cond}
 
 -- below every operator, those of the integers included
@@ -10,3 +10,8 @@ a if false else b = b
 
 abbrev pub bit : Bool → ℕ
 bit b = cond b 1 0
+
+-- the first number that is not 0
+abbrev pub firstOf : ℕ → ℕ → ℕ
+firstOf zero r = r
+firstOf (suc k) r = suc k

@@ -1,10 +1,11 @@
-// Places: a row and a column, perhaps off the grid. Signed numbers are met here and where snakes are placed, nowhere else.
+// Headings, and places: a row and a column, perhaps off the grid. Signed numbers are met here and where snakes are placed, nowhere else.
 use rules::Heading;
 use rules::Place;
 ghost use mathlib.Core.Path.{_≡_};
 ghost use Prim.Native.Nat.{_<_, _≤_};
 ghost use lib.IntN.{pos, sucℤ, predℤ, natAbs};
 ghost use lib.Signed.{mag};
+ghost use Rattle.rules.specs.Headings.{clockwise, counterclockwise};
 ghost use Rattle.rules.specs.Places.{ahead, inside, sameZ, same, cellOf, placeOf};
 ghost use Rattle.places.specs.Near.{Near, Plain};
 
@@ -20,6 +21,30 @@ fn less(x: i32) -> i32
     ensures { λ r. ⌜ r ≡ predℤ x ⌝ }
 {
     x - 1
+}
+
+// cw of the Rust.
+pub fn clockwise(heading: Heading) -> Heading
+    ensures { λ r. ⌜ r ≡ clockwise heading ⌝ }
+{
+    match heading {
+        Heading::Up => Heading::Right,
+        Heading::Right => Heading::Down,
+        Heading::Down => Heading::Left,
+        Heading::Left => Heading::Up,
+    }
+}
+
+// ccw of the Rust.
+pub fn counterclockwise(heading: Heading) -> Heading
+    ensures { λ r. ⌜ r ≡ counterclockwise heading ⌝ }
+{
+    match heading {
+        Heading::Up => Heading::Left,
+        Heading::Left => Heading::Down,
+        Heading::Down => Heading::Right,
+        Heading::Right => Heading::Up,
+    }
 }
 
 // The neighbour of a place.

@@ -1,9 +1,5 @@
-pub mod Sample
-pub mod Cutting
-pub mod Reading
-pub mod Signs
-pub mod Writing
+pub mod Cases
 pub mod Showing
 pub mod Saying
 pub mod Playing
-pub mod Feeding
+pub mod Whole

@@ -17,8 +17,8 @@ use Rattle.rules.specs.Step.{Outcome}
 use Rattle.rules.specs.Events.{blank, eight}
 use Rattle.rules.specs.declared.Event.{Event}
 use Rattle.rules.proofs.Image.{snakes-is}
-use Rattle.referee.specs.Lines.{readLater}
-use Rattle.referee.specs.Text.{Wrote, lineText, refusalText}
+use Rattle.text.specs.Lines.{readLater}
+use Rattle.text.specs.Text.{Wrote, lineText, refusalText}
 use Rattle.referee.specs.Shown.{lineShown, markShown}
 use Rattle.referee.specs.Match.{Turn, snakesOf, endsBy, marked, moved, movedTurn, eventsShown, asked, beginSays, turnSays, endText, lineSays, closeText, Stops, Shows, Plays}
 use Rattle.referee.specs.declared.Match.{Match}

@@ -1,9 +1,6 @@
-pub mod Numbers
-pub mod Fields
-pub mod Lines
-pub mod Split
 pub mod Places
-pub mod Text
 pub mod Shown
 pub mod Match
+pub mod Run
 pub mod Sample
+pub mod Cases

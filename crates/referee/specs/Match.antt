@@ -18,16 +18,16 @@ use Rattle.rules.specs.declared.Setting.{Setting}
 use Rattle.rules.specs.declared.Limit.{Limit}
 use Rattle.rules.specs.declared.Limit.the-variants.{Unset, Is}
 use Rattle.rules.specs.declared.Event.{Event}
-use Rattle.referee.specs.Lines.{readFirst, readLater}
-use Rattle.referee.specs.Split.{linesOf}
+use Rattle.text.specs.Lines.{readFirst, readLater}
+use Rattle.text.specs.Split.{linesOf}
 use Rattle.referee.specs.Places.{placesOf}
 use Rattle.referee.specs.Shown.{lineShown, markShown}
-use Rattle.referee.specs.Text.{lineText, refusalText, placesText, Wrote}
-use Rattle.referee.specs.declared.First.{First}
-use Rattle.referee.specs.declared.First.the-variants.{NoFirst, Opens}
-use Rattle.referee.specs.declared.Line.{Line}
-use Rattle.referee.specs.declared.Line.the-variants.{NoLine, DrawLine, MoveLine}
-use Rattle.referee.specs.declared.Entry.{Entry}
+use Rattle.text.specs.Text.{lineText, refusalText, placesText, Wrote}
+use Rattle.text.specs.declared.First.{First}
+use Rattle.text.specs.declared.First.the-variants.{NoFirst, Opens}
+use Rattle.text.specs.declared.Line.{Line}
+use Rattle.text.specs.declared.Line.the-variants.{NoLine, DrawLine, MoveLine}
+use Rattle.text.specs.declared.Entry.{Entry}
 use Rattle.referee.specs.declared.Match.{Match}
 use Rattle.referee.specs.declared.Desk.{Desk}
 use Rattle.referee.specs.declared.Turned.{Turned}

@@ -1,37 +1,36 @@
--- The sample of document 01 ('Replay') as a table of lines in and lines out, in bytes without their newlines. Assumes nothing.
+-- Text as bytes, and the sample of document 01 ('Replay') as lines in and lines out. Assumes nothing.
 use Prim.Native.Nat.{ℕ}
+use Prim.Native.Char.{code}
+use Prim.Native.String.{String, [] as none, _∷_ as _then_}
 use mathlib.Core.List.{List, [], _∷_, _++_}
 
--- lines, each with its newline
-abbrev pub text : List (List ℕ) → List ℕ
-text [] = []
-text (s ∷ ss) = s ++ (10 ∷ text ss)
+-- each character of it is a byte
+unfoldable pub bytes : String → List ℕ
+bytes none = []
+bytes (c then s) = code c ∷ bytes s
 
--- `2 3 1 0 - 1 -`, `d 2`, `m 0 0`, `m 1 0`, `d 0`, `m 0 0`
-unfoldable pub sampleIn : List (List ℕ)
+-- lines, each with its newline
+unfoldable pub text : List String → List ℕ
+text [] = []
+text (s ∷ ss) = bytes s ++ (10 ∷ text ss)
+
+unfoldable pub sampleIn : List String
 sampleIn =
-    (50 ∷ 32 ∷ 51 ∷ 32 ∷ 49 ∷ 32 ∷ 48 ∷ 32 ∷ 45 ∷ 32 ∷ 49 ∷ 32 ∷ 45 ∷ [])
-    ∷ (100 ∷ 32 ∷ 50 ∷ [])
-    ∷ (109 ∷ 32 ∷ 48 ∷ 32 ∷ 48 ∷ [])
-    ∷ (109 ∷ 32 ∷ 49 ∷ 32 ∷ 48 ∷ [])
-    ∷ (100 ∷ 32 ∷ 48 ∷ [])
-    ∷ (109 ∷ 32 ∷ 48 ∷ 32 ∷ 48 ∷ [])
+    "2 3 1 0 - 1 -"
+    ∷ "d 2"
+    ∷ "m 0 0"
+    ∷ "m 1 0"
+    ∷ "d 0"
+    ∷ "m 0 0"
     ∷ []
 
--- i 0 1 0 1:1:4:- 1:1:5:-
--- d 0 0 1 1:1:4:- 1:1:5:-
--- m 0 0 1 1:1:5:- 1:1:4:-
--- m 0 1 0 1:2:2:a 1:1:3:-
--- d 0 0 1 1:2:2:- 1:1:3:-
--- m 1 0 1 0:1:2:Wx 0:0:-:Wx
--- p 1 1
-unfoldable pub sampleOut : List (List ℕ)
+unfoldable pub sampleOut : List String
 sampleOut =
-    (105 ∷ 32 ∷ 48 ∷ 32 ∷ 49 ∷ 32 ∷ 48 ∷ 32 ∷ 49 ∷ 58 ∷ 49 ∷ 58 ∷ 52 ∷ 58 ∷ 45 ∷ 32 ∷ 49 ∷ 58 ∷ 49 ∷ 58 ∷ 53 ∷ 58 ∷ 45 ∷ [])
-    ∷ (100 ∷ 32 ∷ 48 ∷ 32 ∷ 48 ∷ 32 ∷ 49 ∷ 32 ∷ 49 ∷ 58 ∷ 49 ∷ 58 ∷ 52 ∷ 58 ∷ 45 ∷ 32 ∷ 49 ∷ 58 ∷ 49 ∷ 58 ∷ 53 ∷ 58 ∷ 45 ∷ [])
-    ∷ (109 ∷ 32 ∷ 48 ∷ 32 ∷ 48 ∷ 32 ∷ 49 ∷ 32 ∷ 49 ∷ 58 ∷ 49 ∷ 58 ∷ 53 ∷ 58 ∷ 45 ∷ 32 ∷ 49 ∷ 58 ∷ 49 ∷ 58 ∷ 52 ∷ 58 ∷ 45 ∷ [])
-    ∷ (109 ∷ 32 ∷ 48 ∷ 32 ∷ 49 ∷ 32 ∷ 48 ∷ 32 ∷ 49 ∷ 58 ∷ 50 ∷ 58 ∷ 50 ∷ 58 ∷ 97 ∷ 32 ∷ 49 ∷ 58 ∷ 49 ∷ 58 ∷ 51 ∷ 58 ∷ 45 ∷ [])
-    ∷ (100 ∷ 32 ∷ 48 ∷ 32 ∷ 48 ∷ 32 ∷ 49 ∷ 32 ∷ 49 ∷ 58 ∷ 50 ∷ 58 ∷ 50 ∷ 58 ∷ 45 ∷ 32 ∷ 49 ∷ 58 ∷ 49 ∷ 58 ∷ 51 ∷ 58 ∷ 45 ∷ [])
-    ∷ (109 ∷ 32 ∷ 49 ∷ 32 ∷ 48 ∷ 32 ∷ 49 ∷ 32 ∷ 48 ∷ 58 ∷ 49 ∷ 58 ∷ 50 ∷ 58 ∷ 87 ∷ 120 ∷ 32 ∷ 48 ∷ 58 ∷ 48 ∷ 58 ∷ 45 ∷ 58 ∷ 87 ∷ 120 ∷ [])
-    ∷ (112 ∷ 32 ∷ 49 ∷ 32 ∷ 49 ∷ [])
+    "i 0 1 0 1:1:4:- 1:1:5:-"
+    ∷ "d 0 0 1 1:1:4:- 1:1:5:-"
+    ∷ "m 0 0 1 1:1:5:- 1:1:4:-"
+    ∷ "m 0 1 0 1:2:2:a 1:1:3:-"
+    ∷ "d 0 0 1 1:2:2:- 1:1:3:-"
+    ∷ "m 1 0 1 0:1:2:Wx 0:0:-:Wx"
+    ∷ "p 1 1"
     ∷ []

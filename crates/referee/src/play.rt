@@ -3,18 +3,22 @@ use crate::Desk;
 use crate::Match;
 use crate::Turned;
 use crate::game::put_end;
-use crate::text::put_refusal;
 use crate::turns::begin;
 use crate::turns::turn;
 use rules::Limit;
 use rules::Setting;
+use text::put_refusal;
+ghost use mathlib.Core.Path.{_≡_};
+ghost use mathlib.Core.Bool.{false};
 ghost use Prim.Native.Nat.{_≤_};
 ghost use lib.ListN.{length, take};
-ghost use Rattle.referee.specs.Text.{Wrote};
+ghost use Rattle.text.specs.Text.{Wrote};
 ghost use Rattle.referee.specs.Match.{lineSays, closeText, Plays};
 
 // Before the first line.
-pub fn new_desk() -> Desk {
+pub fn new_desk() -> Desk
+    ensures { λ r. ⌜ (r .begun ≡ false) × (r .words ≡ 0) ⌝ }
+{
     let setting = Setting {
         snakes: 0,
         grid: 0,

@@ -1,7 +1,4 @@
 // A line of the input, taken: the first one begins the match, the others make its turns. Each answer is taken apart, and a refusal stops.
-use crate::Entry;
-use crate::First;
-use crate::Line;
 use crate::Match;
 use crate::Turned;
 use crate::game::after_move;
@@ -9,14 +6,17 @@ use crate::game::ends_by;
 use crate::game::mark_all;
 use crate::game::no_events;
 use crate::game::snakes_of;
-use crate::lines::read_first;
-use crate::lines::read_later;
 use crate::shown::put_line;
 use crate::shown::word_at;
-use crate::text::put_refusal;
 use rules::Answer;
 use rules::Event;
 use rules::Setting;
+use text::Entry;
+use text::First;
+use text::Line;
+use text::put_refusal;
+use text::read_first;
+use text::read_later;
 ghost use mathlib.Core.Path.{_≡_};
 ghost use mathlib.Core.List.{List, []};
 ghost use Prim.Native.Nat.{ℕ, _≤_};

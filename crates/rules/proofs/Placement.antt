@@ -1,12 +1,13 @@
--- Laws of a trace: what its next place is, that it stays inside, that it is no longer than asked for and never long. Assumes nothing.
+-- Laws of a trace: what its next place is, that it stays inside, that a shorter one is its first part, that it is no longer than asked for and never long. Assumes nothing.
 use Prim.Native.Nat.{ℕ, zero, suc, _+_, _*_, _-_, _≤_, zero-le, suc-le-suc}
+use native.Mathlib.Nat.{not-suc-le-zero, le-of-suc-le-suc}
 use native.Mathlib.Omega.{arith}
-use mathlib.Core.Path.{_≡_, refl}
+use mathlib.Core.Path.{_≡_, refl, ap}
 use mathlib.Core.Bool.{true, false, false≢true}
 use mathlib.Core.Logic.{inl, inr}
 use mathlib.Core.List.{List, [], _∷_}
 use lib.IntN.{ℤ, pos, negsuc, sucℤ, predℤ, natAbs}
-use lib.ListN.{length}
+use lib.ListN.{length, take}
 use Rattle.lists.specs.Lists.{all}
 use Rattle.lists.proofs.Tests.{tell, both}
 use Rattle.rules.specs.Places.{ahead, within, inside}
@@ -53,6 +54,16 @@ module _ (g : ℤ) where
 
   pub traced-short : (ds : List Heading) (k : ℕ) (p : Place) → 1 ≤ k → length (traced g ds k p) ≤ k
   traced-short ds k p h = let t = trail-short (k - 1) (unblocked g ds p) p in omega arith
+
+  -- ---- a shorter trace is the first part of a longer one
+
+  pub trail-take : (j k : ℕ) (ds : List Heading) (p : Place) → j ≤ k → trail j g ds p ≡ take j (trail k g ds p)
+  unfolding trail
+  trail-take zero k ds p h = refl
+  trail-take (suc j) zero ds p h = absurd (not-suc-le-zero h)
+  trail-take (suc j) (suc k) [] p h = refl
+  trail-take (suc j) (suc k) (d ∷ ds) p h =
+      ap (λ (l : List Place). ahead d p ∷ l) (trail-take j k (unblocked g (d ∷ ds) (ahead d p)) (ahead d p) (le-of-suc-le-suc h))
 
   -- ---- a trace stays inside
 

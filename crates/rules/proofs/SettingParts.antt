@@ -8,10 +8,10 @@ use lib.Dec.{ltb, eqb}
 use lib.IntN.{pos}
 use lib.Signed.{ltZ}
 use borrow.Author.Tests.{ltb-false, eqb-false}
-use Rattle.lists.specs.Choice.{_if_else_}
+use Rattle.lists.specs.Choice.{_if_else_, firstOf}
 use Rattle.lists.proofs.Tests.{or-false-left, or-false-right}
 use Rattle.rules.specs.Setting.{isSet, isZero, areaOf, worst, settingCheck}
-use Rattle.rules.specs.SettingParts.{firstOf, limitsCheck, Limited, placeCheck}
+use Rattle.rules.specs.SettingParts.{limitsCheck, Limited, placeCheck}
 use Rattle.rules.specs.declared.Setting.{Setting}
 
 abbrev eight : Bool → Bool → Bool → Bool → Bool → Bool → Bool → Bool → ℕ → ℕ

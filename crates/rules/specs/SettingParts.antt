@@ -1,5 +1,5 @@
 -- The check of a setting in two halves, numbers and places, as code goes about it; each over just what it depends on. Assumes nothing.
-use Prim.Native.Nat.{ℕ, zero, suc, _+_, _*_, _-_, _^_, _≤_}
+use Prim.Native.Nat.{ℕ, _+_, _*_, _-_, _^_, _≤_}
 use mathlib.Core.Path.{_≡_}
 use mathlib.Core.Bool.{Bool, false, not, _&&_, _||_}
 use mathlib.Core.List.{List, [], _∷_, map}
@@ -16,11 +16,6 @@ use Rattle.rules.specs.Placement.{rowOf, colOf, startHeading, placed}
 use Rattle.rules.specs.Setting.{isSet, isZero, sideOf, areaOf, worst, badCell}
 use Rattle.rules.specs.declared.Setting.{Setting}
 use Rattle.rules.specs.declared.Place.{Place}
-
--- the first number that is not 0
-abbrev pub firstOf : ℕ → ℕ → ℕ
-firstOf zero r = r
-firstOf (suc k) r = suc k
 
 -- 1 to 8
 unfoldable pub limitsCheck : Setting → ℕ

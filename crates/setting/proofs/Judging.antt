@@ -10,7 +10,7 @@ use lib.IntN.{ℤ, pos}
 use lib.ListN.{length, take, drop, length-map}
 use lib.Seq.{take-append-seam}
 use borrow.Author.Tests.{not-true, not-false, lt-ltb, le-ltb}
-use Rattle.lists.specs.Choice.{_if_else_}
+use Rattle.lists.specs.Choice.{_if_else_, firstOf}
 use Rattle.lists.specs.Below.{concatBelow}
 use Rattle.lists.specs.Boards.{Under}
 use Rattle.lists.specs.Lists.{writeAt, overFront, distinct}
@@ -18,7 +18,7 @@ use Rattle.lists.proofs.Tests.{ordered, less, more}
 use Rattle.lists.proofs.Writes.{write-front}
 use Rattle.rules.specs.Places.{cellOf}
 use Rattle.rules.specs.Setting.{sideOf, settingCheck}
-use Rattle.rules.specs.SettingParts.{firstOf, limitsCheck, allOf, someShortOf, placeCheck, cellsOf}
+use Rattle.rules.specs.SettingParts.{limitsCheck, allOf, someShortOf, placeCheck, cellsOf}
 use Rattle.rules.specs.Says.{Says, refuses, first}
 use Rattle.rules.specs.declared.Setting.{Setting}
 use Rattle.rules.proofs.SettingParts.{check-parts}
@@ -26,7 +26,7 @@ use Rattle.rules.proofs.PlaceCheck.{all-cells, body-reach, cells-under, check-c
 use Rattle.setting.specs.Traces.{Ready, Placed, Judged}
 
 -- 'food above the free cells', without a difference
-free-less : (a t f : ℕ) → ltb (a - t) f ≡ (ltb 0 f && ltb a (f + t))
+pub free-less : (a t f : ℕ) → ltb (a - t) f ≡ (ltb 0 f && ltb a (f + t))
 free-less a t f = elim (ordered (a - t) f) [
   | less l e ↦ rw (e, lt-ltb 0 f (omega arith), lt-ltb a (f + t) (omega arith))
   | more l e ↦ elim (ordered 0 f) [
@@ -85,20 +85,14 @@ module _ (g n size f : ℕ) (old : List ℕ) (ready : Ready g n size old) (new :
             words = λ z. let y : _≡_ {A = ℕ} 11 0 = z in absurd (omega arith);
           }
 
-      last : not d ≡ false → (v : Bool) → (ltb 0 f && ltb (g * g) (f + n * size)) ≡ v → ltb (g * g - length (allOf (pos g) n size)) f ≡ v
-      last h v q = rw (all-long g n size (ready .side-min) (ready .side-max) (ready .size-min) none) (free-less (g * g) (n * size) f ∙ q)
-
-      pub judge-crowded : not d ≡ false → (ltb 0 f && ltb (g * g) (f + n * size)) ≡ true → Judged (placeCheck (pos g) n size f) (concatBelow n (cellsOf g n size)) old new 12
-      judge-crowded h q =
+      pub judge-last : not d ≡ false → (r : ℕ) → r ≡ (12 if ltb (g * g - n * size) f else 0) → Judged (placeCheck (pos g) n size f) (concatBelow n (cellsOf g n size)) old new r
+      judge-last h r q =
           record {
-            says = sym (check-cells g n size (ready .side-min) (ready .side-max) (ready .size-min) f ∙ rw (none, told, h, last h true q));
-            words = λ z. let y : _≡_ {A = ℕ} 12 0 = z in absurd (omega arith);
-          }
-
-      pub judge-fine : not d ≡ false → (ltb 0 f && ltb (g * g) (f + n * size)) ≡ false → Judged (placeCheck (pos g) n size f) (concatBelow n (cellsOf g n size)) old new 0
-      judge-fine h q =
-          record {
-            says = sym (check-cells g n size (ready .side-min) (ready .side-max) (ready .size-min) f ∙ rw (none, told, h, last h false q));
+            says =
+                q
+                ∙ sym
+                (check-cells g n size (ready .side-min) (ready .side-max) (ready .size-min) f
+                ∙ rw (none, told, h, all-long g n size (ready .side-min) (ready .side-max) (ready .size-min) none));
             words = λ _. words-are;
           }
 
@@ -116,20 +110,20 @@ first-some : (a b : ℕ) → (a ≡ 0 → ⊥) → firstOf a b ≡ a
 first-some zero b h = absurd (h refl)
 first-some (suc a) b h = refl
 
-pub judge-first : (s : Setting) (r : ℕ) (cells old new : List ℕ) → r ≡ limitsCheck s → (r ≡ 0 → ⊥) → Judged (settingCheck s) cells old new r
-judge-first s r cells old new e h =
-    record {
-      says = e ∙ sym (check-parts s ∙ first-some (limitsCheck s) (placeCheck (s .grid) (s .snakes) (s .size) (s .food)) (λ z. h (e ∙ z)));
-      words = λ z. absurd (h z);
-    }
+-- the number of the first half, or of the second
+module _ (s : Setting) (k : ℕ) (e : k ≡ limitsCheck s) where
+  pub check-first : (k ≡ 0 → ⊥) → k ≡ settingCheck s
+  check-first h = e ∙ sym (check-parts s ∙ first-some (limitsCheck s) (placeCheck (s .grid) (s .snakes) (s .size) (s .food)) (λ z. h (e ∙ z)))
 
-pub judge-second : (s : Setting) (k r : ℕ) (cells old new : List ℕ) → k ≡ limitsCheck s → k ≡ 0 → Judged (placeCheck (s .grid) (s .snakes) (s .size) (s .food)) cells old new r
-    → Judged (settingCheck s) cells old new r
-judge-second s k r cells old new e z j =
-    record {
-      says = j .says ∙ sym (check-parts s ∙ ap (λ (m : ℕ). firstOf m (placeCheck (s .grid) (s .snakes) (s .size) (s .food))) (sym e ∙ z));
-      words = j .words;
-    }
+  pub check-second : k ≡ 0 → (r : ℕ) → r ≡ placeCheck (s .grid) (s .snakes) (s .size) (s .food) → r ≡ settingCheck s
+  check-second z r q = q ∙ sym (check-parts s ∙ ap (λ (m : ℕ). firstOf m (placeCheck (s .grid) (s .snakes) (s .size) (s .food))) (sym e ∙ z))
+
+  module _ (cells old new : List ℕ) where
+    pub judge-first : (k ≡ 0 → ⊥) → Judged (settingCheck s) cells old new k
+    judge-first h = record { says = check-first h; words = λ z. absurd (h z) }
+
+    pub judge-second : k ≡ 0 → (r : ℕ) → Judged (placeCheck (s .grid) (s .snakes) (s .size) (s .food)) cells old new r → Judged (settingCheck s) cells old new r
+    judge-second z r j = record { says = check-second z r (j .says); words = j .words }
 
 -- the same of a grid and its side
 pub judge-side : (g : ℤ) (m n k f : ℕ) (old new : List ℕ) (r : ℕ) → m ≡ sideOf g → g ≡ pos (sideOf g)

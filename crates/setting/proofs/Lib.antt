@@ -4,3 +4,4 @@ pub mod Laying
 pub mod Judging
 pub mod Written
 pub mod Starting
+pub mod Apart

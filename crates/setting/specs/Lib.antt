@@ -1,3 +1,4 @@
 pub mod Traces
 pub mod Crowds
 pub mod Starts
+pub mod Apart

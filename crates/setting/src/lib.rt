@@ -7,6 +7,7 @@ mod trace;
 use limits::limits;
 use limits::side_of;
 use place::place_check;
+use place::place_number;
 use rules::Answer;
 use rules::Setting;
 use rules::Verdict;
@@ -43,8 +44,11 @@ fn verdict(number: u8) -> Verdict
 pub fn validate(setting: Setting) -> Verdict
     ensures { λ r. ⌜ Validates setting r ⌝ }
 {
-    let mut cells = [0u16; 1024];
-    verdict(check(setting, &mut cells))
+    let number = limits(setting);
+    if number != 0 {
+        return Verdict::Refused(number);
+    }
+    verdict(place_number(setting))
 }
 
 // The words of the initial state of an accepted setting; `cells` are the cells of its bodies.

@@ -1,17 +1,18 @@
 // Refusals 9 to 12: the bodies are placed, and only then is any cell judged.
+use crate::limits::side_of;
 use crate::trace::place_snakes;
 use rules::Setting;
 ghost use mathlib.Core.Path.{_≡_};
-ghost use mathlib.Core.Bool.{true, false};
 ghost use lib.Dec.{ltb};
-ghost use lib.IntN.{ℤ, pos};
+ghost use lib.IntN.{pos};
 ghost use lib.ListN.{length};
 ghost use Rattle.lists.specs.Choice.{_if_else_};
-ghost use Prim.Native.Nat.{_≤_};
+ghost use Prim.Native.Nat.{_-_, _≤_};
 ghost use Rattle.lists.specs.Below.{concatBelow};
 ghost use Rattle.lists.specs.Boards.{Under};
 ghost use Rattle.lists.specs.Lists.{distinct};
 ghost use Rattle.rules.specs.SettingParts.{placeCheck, cellsOf, startCells, Limited};
+ghost use Rattle.setting.specs.Apart.{spanOf};
 ghost use Rattle.setting.specs.Traces.{Ready, Judged};
 
 // No cell twice, by a board of all squares.
@@ -21,6 +22,17 @@ fn all_new(cells: &[u16]) -> bool
 {
     let mut board = [0u8; 1024];
     image::stamps_once(cells, &mut board, 1)
+}
+
+// Refusal 12: what the bodies leave of the area is less than the food.
+fn full(area: u64, total: u64, food: u64) -> u8
+    requires { ⌜ (total ≤ 1024) × (food ≤ 1024) ⌝ }
+    ensures { λ r. ⌜ r ≡ (12 if ltb (area - total) food else 0) ⌝ }
+{
+    if (0 < food) & (area < food + total) {
+        return 12;
+    }
+    0
 }
 
 // On a grid of 3 and more every start is inside, so that no cell is outside: 9, 11 or 12.
@@ -36,11 +48,7 @@ fn judge(cells: &mut [u16], g: u16, n: u16, size: usize, food: usize) -> u8
     if !all_new(&cells[0..total]) {
         return 11;
     }
-    let area = g as usize * g as usize;
-    if (0 < food) & (area < food + total) {
-        return 12;
-    }
-    0
+    full(g as u64 * g as u64, total as u64, food as u64)
 }
 
 // Some body cannot be traced beyond `reach`; up to that length its first bad cell is outside.
@@ -70,4 +78,27 @@ pub fn place_check(setting: Setting, cells: &mut [u16]) -> u8
     let n = setting.snakes as u16;
     let food = setting.food as usize;
     judge(cells, places::plain(grid), n, size as usize, food)
+}
+
+// The length below which all bodies lie apart and inside.
+fn span(g: u64, n: u64) -> u64
+    requires { ⌜ (g ≤ 32) × (n ≤ 8) ⌝ }
+    ensures { λ r. ⌜ r ≡ spanOf g n ⌝ }
+{
+    g / 3 + 2 * g / (n + 1)
+}
+
+// The same where no cell is asked for: bodies below the span need no trace.
+pub fn place_number(setting: Setting) -> u8
+    requires { ⌜ Limited setting ⌝ }
+    ensures { λ r. ⌜ r ≡ placeCheck (setting .grid) (setting .snakes) (setting .size) (setting .food) ⌝ }
+{
+    let n = setting.snakes;
+    let g = side_of(setting.grid);
+    let size = setting.size;
+    if size < span(g, n) {
+        return full(g * g, n * size, setting.food);
+    }
+    let mut cells = [0u16; 1024];
+    place_check(setting, &mut cells)
 }

@@ -7,7 +7,7 @@ use native.Mathlib.Omega.{arith}
 use lib.Dec.{ltb, eqb}
 use lib.ListN.{length, getD, replicate}
 use borrow.Author.Tests.{eqb-true, not-false}
-use Rattle.lists.specs.Choice.{_if_else_}
+use Rattle.lists.specs.Choice.{_if_else_, firstOf}
 use Rattle.lists.specs.Below.{someBelow}
 use Rattle.lists.proofs.Below.{some-ext}
 use Rattle.rules.specs.Setting.{settingCheck}
@@ -25,15 +25,15 @@ use Rattle.rules.specs.declared.Verdict.{Verdict}
 use Rattle.rules.specs.declared.Verdict.the-variants.{Accepted, Refused}
 use Rattle.rules.proofs.Facts.{sound}
 use Rattle.rules.proofs.Parts.{state-count, state-snake}
-use Rattle.step.specs.declared.Judged.{Judged}
-use Rattle.step.specs.World.{Judges}
+use Rattle.judge.specs.declared.Judged.{Judged}
+use Rattle.judge.specs.World.{Judges}
 use Rattle.step.specs.Applied.{Ready, Applied, roomFor}
-use Rattle.step.specs.Asked.{numberIn, orNext, askedOf, asked, RefusedBy}
-use Rattle.step.proofs.Judging.{cause-judged}
+use Rattle.step.specs.Asked.{numberIn, askedOf, asked, RefusedBy}
+use Rattle.judge.proofs.Judging.{cause-judged}
 
 -- ---- numbers
 
-pub or-stays : (k r : ℕ) → (k ≡ 0 → ⊥) → k ≡ orNext k r
+pub or-stays : (k r : ℕ) → (k ≡ 0 → ⊥) → k ≡ firstOf k r
 or-stays zero r h = absurd (h refl)
 or-stays (suc k) r h = refl
 
@@ -53,7 +53,7 @@ unfolding settingSays
 validated s v p = verdict-number v (settingCheck s) (p .answer)
 
 module _ {A : Type 0} (r : Says A) where
-  or-first : (k n : ℕ) (x : Says A) → x ≡ first n r → first k x ≡ first (orNext k n) r
+  or-first : (k n : ℕ) (x : Says A) → x ≡ first n r → first k x ≡ first (firstOf k n) r
   or-first zero n x h = h
   or-first (suc k) n x h = refl
 
@@ -75,7 +75,7 @@ step-says s w acts room =
 
 -- ---- where no number is given
 
-or-zero : (k r : ℕ) → orNext k r ≡ 0 → r ≡ 0
+or-zero : (k r : ℕ) → firstOf k r ≡ 0 → r ≡ 0
 or-zero zero r h = h
 or-zero (suc k) r h = absurd (omega arith)
 
@@ -129,7 +129,7 @@ module _ (s : Setting) (w acts : List ℕ) where
 
   pub asked-setting : (k : ℕ) → k ≡ settingCheck s → (k ≡ 0 → ⊥) → k ≡ asked s w acts
   unfolding asked
-  asked-setting k e h = or-stays k _ h ∙ ap (λ (n : ℕ). orNext n (20 if not (wellFormed w) else askedOf s w acts)) e
+  asked-setting k e h = or-stays k _ h ∙ ap (λ (n : ℕ). firstOf n (20 if not (wellFormed w) else askedOf s w acts)) e
 
   pub asked-malformed : settingCheck s ≡ 0 → wellFormed w ≡ false → 20 ≡ asked s w acts
   unfolding asked

@@ -5,8 +5,7 @@ use mathlib.Core.List.{List, _∷_}
 use Prim.Native.Nat.{ℕ, _≤_}
 use native.Mathlib.Omega.{arith}
 use lib.Dec.{eqb}
-use mir.Val.{boolByte}
-use Rattle.lists.specs.Choice.{_if_else_, bit}
+use Rattle.lists.specs.Choice.{_if_else_}
 use Rattle.lists.specs.Lists.{member}
 use Rattle.lists.proofs.Tests.{bit-le}
 use lib.ListN.{getD}
@@ -39,11 +38,6 @@ and-all a b c t d e = rw e (go a b c d)
     go true true false d = refl
     go true false c d = refl
     go false b c d = refl
-
--- a test cast to a number
-pub byte-bit : (b : Bool) → boolByte b ≡ bit b
-byte-bit true = refl
-byte-bit false = refl
 
 -- a snake's cells, by what it keeps
 pub size-le : (all : List After) → Short all → (i : ℕ) → sizes all i ≤ 1025

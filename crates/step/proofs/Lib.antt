@@ -4,6 +4,4 @@ mod Words
 mod Room
 mod Link
 mod Follows
-pub mod Moving
-pub mod Judging
 mod Asked

@@ -22,13 +22,13 @@ use Rattle.rules.specs.Image.{snakesIn, sideIn, foodAt}
 use Rattle.rules.specs.Places.{cellOf}
 use Rattle.rules.specs.State.{nobody}
 use Rattle.rules.specs.Step.{Moved, causeOf, after, ateNow, killerOf, credited, leads, isTerminal, eventOf, eatenBy, outcomeOf}
-use Rattle.step.specs.declared.Judged.{Judged}
+use Rattle.judge.specs.declared.Judged.{Judged}
 use Rattle.step.specs.declared.after.After.{After}
-use Rattle.step.specs.World.{untouched, causesOf, judgedWorld}
+use Rattle.judge.specs.World.{untouched, causesOf, judgedWorld}
 use Rattle.step.specs.After.{settled, gone, part, later, snakes, cells, living, eating, causes, leadsIn, creditedTo, eventAt, Parts, Short}
 use Rattle.step.specs.Next.{outcomeIn}
 use Rattle.step.specs.Applied.{Ready}
-use Rattle.step.proofs.Words.{part-size}
+use Rattle.image.proofs.Heads.{part-size}
 
 -- ---- leads, events and the end, by what the snakes keep
 
@@ -56,7 +56,7 @@ module _ (w : List ℕ) (all : List After) (parts : Parts w all) (n : ℕ) where
       let a = getD all i gone in
       let b = getD all j gone in
       ap (λ (t : Bool). eqb (countBelow n (living all)) 2 && t)
-      (lead-law (a .lives) (b .lives) k (a .keep) (b .keep) (part w a) (part w b) (a .cell) (b .cell) (part-size w a (parts i)) (part-size w b (parts j)))
+      (lead-law (a .lives) (b .lives) k (a .keep) (b .keep) (part w a) (part w b) (a .cell) (b .cell) (part-size w (a .start) (a .keep) (parts i)) (part-size w (b .start) (b .keep) (parts j)))
 
   module _ (s : Setting) (alive : ℕ) (pa : alive ≡ countBelow n (living all)) where
     pub terminal-is : (leb alive (0 if s .last else 1) || someBelow n (λ i. someBelow n (leadsIn all alive (s .lead) i)))

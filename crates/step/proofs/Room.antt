@@ -18,7 +18,7 @@ use Rattle.rules.specs.Step.{eatenBy}
 use Rattle.step.specs.declared.after.After.{After}
 use Rattle.step.specs.declared.food.Eaten.{Eaten}
 use Rattle.step.specs.After.{cells, eating, EatenAre}
-use Rattle.step.specs.Left.{left}
+use Rattle.image.specs.Writers.{left}
 use Rattle.step.specs.Next.{answered, written}
 use Rattle.step.proofs.Left.{left-is}
 

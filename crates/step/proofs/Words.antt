@@ -2,44 +2,24 @@
 use Rattle.lists.proofs.Runs.{written-long, four-writes}
 use Rattle.lists.specs.Written.{Written}
 use mathlib.Core.Path.{_≡_, refl, sym, ap, _∙_}
-use mathlib.Core.Bool.{Bool, true, false}
 use mathlib.Core.List.{List, [], _∷_, _++_}
 use Prim.Native.Nat.{ℕ, zero, suc, _+_, _*_, _<_, _≤_}
 use native.Mathlib.Nat.{le-trans, le-refl}
 use native.Mathlib.Omega.{arith}
-use lib.ListN.{length, getD, drop, set, length-append, length-drop}
-use lib.Seq.{length-take-le}
-use Rattle.lists.specs.Choice.{_if_else_, bit}
+use lib.ListN.{length, getD, length-append}
+use Rattle.lists.specs.Choice.{bit}
 use Rattle.lists.specs.Below.{sumBelow, concatBelow}
 use Rattle.lists.specs.Lists.{writeAt}
 use Rattle.lists.proofs.Below.{sum-ext, sum-le, each-long, each-at, concat-ext, concat-long}
-use Rattle.lists.proofs.Writes.{write-none, length-write, sets-write}
+use Rattle.lists.proofs.Writes.{length-write}
+use Rattle.image.proofs.Heads.{body-size}
 use Rattle.rules.specs.Headings.{numberOf}
 use Rattle.rules.specs.State.{Snake, State, nobody, snakeOf}
 use Rattle.rules.specs.Image.{front, bodyOf, recordOf, imageOf}
 use Rattle.step.specs.declared.after.After.{After}
-use Rattle.step.specs.After.{gone, part, later, snakes, sizeOf, sizes, Parts, Short}
-use Rattle.step.specs.Next.{recordIn, bodyIn, headOf, nextOf}
+use Rattle.step.specs.After.{gone, snakes, sizes, Parts, Short}
+use Rattle.step.specs.Next.{recordIn, bodyIn, nextOf}
 use Rattle.step.proofs.Laws.{size-le}
-
-head-on : (l : Bool) (c : ℕ) (p : List ℕ) → (c ∷ p if l else p) ≡ (c ∷ [] if l else []) ++ p
-head-on true c p = refl
-head-on false c p = refl
-
-head-size : (l : Bool) (c k : ℕ) (p : List ℕ) → length p ≡ k → length (c ∷ p if l else p) ≡ k + bit l
-head-size true c k p e = omega arith
-head-size false c k p e = omega arith
-
-module _ (w : List ℕ) (a : After) where
-  -- a body is its head, where it lives, and the part of the image
-  pub body-is : later w a .body ≡ headOf a ++ part w a
-  body-is = head-on (a .lives) (a .cell) (part w a)
-
-  pub part-size : a .start + a .keep ≤ length w → length (part w a) ≡ a .keep
-  part-size h = length-take-le (a .keep) (drop (a .start) w) (omega (arith, length-drop (a .start) w))
-
-  pub body-size : a .start + a .keep ≤ length w → length (later w a .body) ≡ sizeOf a
-  body-size h = head-size (a .lives) (a .cell) (a .keep) (part w a) (part-size h)
 
 pub records-long : (n i : ℕ) (all : List After) → length (concatBelow i (recordIn n all)) ≡ 4 * i
 unfolding concatBelow
@@ -51,7 +31,7 @@ sizes-small all h n = sum-le (sizes all) 1025 n (λ i l. size-le all h i)
 
 module _ (w : List ℕ) (all : List After) (parts : Parts w all) where
   pub bodies-long : (n : ℕ) → length (concatBelow n (bodyIn w all)) ≡ sumBelow n (sizes all)
-  bodies-long n = concat-long n (bodyIn w all) ∙ sum-ext n (λ i. length (bodyIn w all i)) (sizes all) (λ i l. body-size w (getD all i gone) (parts i))
+  bodies-long n = concat-long n (bodyIn w all) ∙ sum-ext n (λ i. length (bodyIn w all i)) (sizes all) (λ i l. body-size w (getD all i gone .start) (getD all i gone .keep) (getD all i gone .cell) (getD all i gone .lives) (parts i))
 
   module _ (n g due : ℕ) (food : List ℕ) where
     abbrev next : State
@@ -69,7 +49,7 @@ module _ (w : List ℕ) (all : List After) (parts : Parts w all) where
         let e = each-long n (snakes w all) in
         let z = snake-is i l in
         (λ k. (front (e k) + b k) ∷ length (z k .body) ∷ numberOf (z k .heading) ∷ bit (z k .alive) ∷ [])
-        ∙ ap (λ (s : ℕ). (front n + sumBelow i (sizes all)) ∷ s ∷ numberOf (getD all i gone .heading) ∷ bit (getD all i gone .lives) ∷ []) (body-size w (getD all i gone) (parts i))
+        ∙ ap (λ (s : ℕ). (front n + sumBelow i (sizes all)) ∷ s ∷ numberOf (getD all i gone .heading) ∷ bit (getD all i gone .lives) ∷ []) (body-size w (getD all i gone .start) (getD all i gone .keep) (getD all i gone .cell) (getD all i gone .lives) (parts i))
 
     pub image-is : imageOf next
         ≡ (n ∷ g ∷ due ∷ 0 ∷ length food ∷ []) ++ (concatBelow n (recordIn n all) ++ (concatBelow n (bodyIn w all) ++ food))
@@ -84,28 +64,6 @@ module _ (w : List ℕ) (all : List After) (parts : Parts w all) where
         let t = concatBelow n (recordIn n all) in
         let b = concatBelow n (bodyIn w all) in
         omega (arith, ap length image-is, length-append t (b ++ food), length-append b food, records-long n n all, bodies-long n)
-
--- ---- the writes
-
-head-by : (l : Bool) (c : ℕ) (b : Bool) → l ≡ b → (c ∷ [] if l else []) ≡ (c ∷ [] if b else [])
-head-by l c b e = ap (λ (b : Bool). c ∷ [] if b else []) e
-
-module _ (d : List ℕ) (at : ℕ) (a : After) where
-  pub head-written : at + length (headOf a) ≤ length d → a .lives ≡ true → Written d at (headOf a) (set d at (a .cell)) (at + 1)
-  head-written h e =
-      let p : headOf a ≡ a .cell ∷ [] = head-by (a .lives) (a .cell) true e in
-      record {
-        words = sets-write d at (a .cell ∷ []) (omega (arith, ap length p)) ∙ ap (writeAt d at) (sym p);
-        end = omega (arith, ap length p);
-      }
-
-  pub head-left : a .lives ≡ false → Written d at (headOf a) d at
-  head-left e =
-      let p : headOf a ≡ [] = head-by (a .lives) (a .cell) false e in
-      record {
-        words = sym (ap (writeAt d at) p ∙ write-none d at);
-        end = omega (arith, ap length p);
-      }
 
 -- the contents, the records, the bodies and the food, one after the other
 module _ (w : List ℕ) (all : List After) (parts : Parts w all) (n g due : ℕ) (food : List ℕ) (foods : ℕ) (d o p q r : List ℕ) (at : ℕ)

@@ -4,10 +4,11 @@ use mathlib.Core.Bool.{Bool, false, not, _&&_, _||_}
 use mathlib.Core.List.{List, [], _∷_}
 use mathlib.Core.Path.{_≡_}
 use lib.Dec.{eqb, ltb, leb}
-use lib.ListN.{length, getD, take, drop}
+use lib.ListN.{length, getD, take}
 use Rattle.lists.specs.Choice.{_if_else_, bit}
 use Rattle.lists.specs.Below.{someBelow, countBelow, sumBelow, concatBelow}
 use Rattle.lists.specs.Lists.{member}
+use Rattle.image.specs.Writers.{partOf, bodyWith}
 use Rattle.rules.specs.declared.Heading.the-variants.{Up}
 use Rattle.rules.specs.declared.Cause.{Cause}
 use Rattle.rules.specs.declared.Cause.the-variants.{NoCause}
@@ -17,7 +18,7 @@ use Rattle.rules.specs.declared.Event.{Event}
 use Rattle.rules.specs.Events.{dies}
 use Rattle.rules.specs.Places.{cellOf}
 use Rattle.rules.specs.State.{Snake}
-use Rattle.step.specs.declared.Judged.{Judged}
+use Rattle.judge.specs.declared.Judged.{Judged}
 use Rattle.step.specs.declared.after.After.{After}
 use Rattle.step.specs.declared.after.Counts.{Counts}
 use Rattle.step.specs.declared.food.Eaten.{Eaten}
@@ -39,10 +40,10 @@ abbrev pub gone : After
 gone = record { heading = Up; lives = false; cell = 0; start = 0; keep = 0; ate = false; cause = NoCause }
 
 abbrev pub part : List ℕ → After → List ℕ
-part w a = take (a .keep) (drop (a .start) w)
+part w a = partOf w (a .start) (a .keep)
 
 abbrev pub later : List ℕ → After → Snake
-later w a = record { heading = a .heading; alive = a .lives; body = a .cell ∷ part w a if a .lives else part w a }
+later w a = record { heading = a .heading; alive = a .lives; body = bodyWith w (a .start) (a .keep) (a .cell) (a .lives) }
 
 -- ---- what an array of them says, by number
 

@@ -11,8 +11,8 @@ use Rattle.rules.specs.Events.{blank, eight}
 use Rattle.rules.specs.Image.{snakesIn, sideIn, imageOf}
 use Rattle.rules.specs.Says.{Says, refuses, gives, seen, beside, lent, says}
 use Rattle.rules.specs.Step.{causeOf, Outcome}
-use Rattle.step.specs.declared.Judged.{Judged}
-use Rattle.step.specs.World.{movesOf, causesOf, judgedWorld}
+use Rattle.judge.specs.declared.Judged.{Judged}
+use Rattle.judge.specs.World.{movesOf, causesOf, judgedWorld}
 
 -- a judged array: each cause is that of the world it holds, each rest is a part of the image, no longer than a body
 pub record Ready (w : List ℕ) (js : List Judged) : Type 0 where

@@ -1,11 +1,11 @@
 -- The refusals of a step but the last, as one number: 0 where none is given. Assumes nothing.
-use Prim.Native.Nat.{ℕ, zero, suc}
+use Prim.Native.Nat.{ℕ}
 use mathlib.Core.Path.{_≡_}
 use mathlib.Core.Bool.{Bool, true, false, not}
 use mathlib.Core.List.{List}
 use lib.Dec.{ltb, eqb}
 use lib.ListN.{length, replicate}
-use Rattle.lists.specs.Choice.{_if_else_}
+use Rattle.lists.specs.Choice.{_if_else_, firstOf}
 use Rattle.rules.specs.Setting.{settingCheck}
 use Rattle.rules.specs.Events.{blank}
 use Rattle.rules.specs.Image.{snakesIn, dueIn, stateOf, wellFormed}
@@ -20,11 +20,6 @@ abbrev pub numberIn : Verdict → ℕ
 numberIn Accepted = 0
 numberIn (RefusedVerdict k) = k
 
--- a number, and what comes after it where it is 0
-abbrev pub orNext : ℕ → ℕ → ℕ
-orNext zero r = r
-orNext (suc k) r = suc k
-
 -- of a well-formed image
 abbrev pub askedOf : Setting → List ℕ → List ℕ → ℕ
 askedOf s w acts =
@@ -35,7 +30,7 @@ askedOf s w acts =
     0
 
 unfoldable pub asked : Setting → List ℕ → List ℕ → ℕ
-asked s w acts = orNext (settingCheck s) (20 if not (wellFormed w) else askedOf s w acts)
+asked s w acts = firstOf (settingCheck s) (20 if not (wellFormed w) else askedOf s w acts)
 
 pub record RefusedBy (k : ℕ) (r : Stepped) : Type 0 where
   pub answer : r .answer ≡ Refused k

@@ -1,8 +1,4 @@
-pub mod World
 pub mod After
-pub mod Left
 pub mod Next
 pub mod Applied
-pub mod Moving
-pub mod Judging
 pub mod Asked

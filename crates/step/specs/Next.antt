@@ -26,10 +26,6 @@ recordIn n all i = (front n + sumBelow i (sizes all)) ∷ sizes all i ∷ number
 abbrev pub bodyIn : List ℕ → List After → ℕ → List ℕ
 bodyIn w all i = snakes w all i .body
 
--- a body is its head, where it lives, and the part of the image
-abbrev pub headOf : After → List ℕ
-headOf a = a .cell ∷ [] if a .lives else []
-
 -- ---- the state
 
 abbrev pub nextOf : List ℕ → List After → ℕ → ℕ → ℕ → List ℕ → State

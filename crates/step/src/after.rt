@@ -1,5 +1,5 @@
 // The snakes after the step, and how many live, died, and how many cells they have.
-use crate::Judged;
+use judge::Judged;
 use rules::Cause;
 use rules::Heading;
 ghost use mathlib.Core.Path.{_≡_};
@@ -8,18 +8,18 @@ ghost use Rattle.lists.specs.Choice.{bit};
 ghost use lib.ListN.{getD};
 ghost use Rattle.lists.specs.Below.{filled};
 ghost use Rattle.rules.specs.Events.{dies};
-ghost use Rattle.step.specs.World.{untouched};
+ghost use Rattle.judge.specs.World.{untouched};
 ghost use Rattle.step.specs.After.{settled, gone, sizeOf, Short, Counted};
 
 // A snake after the step: its body is the cell of its moved head, if it lives, and then the part of the image.
 pub struct After {
     pub heading: Heading,
     pub lives: bool,
-    pub cell: u16,
-    pub start: usize,
-    pub keep: usize,
     pub ate: bool,
     pub cause: Cause,
+    pub cell: u16,
+    pub start: u16,
+    pub keep: u16,
 }
 
 // How many live, how many died, and how many cells all bodies have.
@@ -96,7 +96,7 @@ pub fn size_of(a: After) -> usize
     requires { ⌜ a .keep ≤ 1024 ⌝ }
     ensures { λ r. ⌜ r ≡ sizeOf a ⌝ }
 {
-    more_if(a.keep, a.lives)
+    more_if(a.keep as usize, a.lives)
 }
 
 pub fn count_all(all: [After; 8], n: usize) -> Counts

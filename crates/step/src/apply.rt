@@ -1,5 +1,4 @@
 // The consequences of a judged move: the next image, the end, and the events.
-use crate::Judged;
 use crate::after::After;
 use crate::after::count_all;
 use crate::after::settle_all;
@@ -8,6 +7,7 @@ use crate::events::blanks;
 use crate::killers::find_killers;
 use crate::leads::is_terminal;
 use crate::next::write_next;
+use judge::Judged;
 use rules::Answer;
 use rules::Setting;
 use rules::Stepped;
@@ -17,7 +17,7 @@ ghost use Rattle.rules.specs.Image.{snakesIn, sideIn, foodAt};
 ghost use Rattle.rules.specs.Step.{outcomeOf};
 ghost use Rattle.step.specs.After.{Parts, Short};
 ghost use Rattle.step.specs.Next.{outcomeIn};
-ghost use Rattle.step.specs.World.{judgedWorld};
+ghost use Rattle.judge.specs.World.{judgedWorld};
 ghost use Rattle.step.specs.Applied.{Ready, Applied};
 
 // The snakes as they are settled, put to effect; on 29 the match is not over and every event is blank.

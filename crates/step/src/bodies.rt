@@ -8,8 +8,8 @@ ghost use Rattle.lists.specs.Below.{concatBelow};
 ghost use Rattle.lists.specs.Lists.{writeAt};
 ghost use Rattle.lists.specs.Written.{Written};
 ghost use Rattle.rules.specs.Image.{front};
-ghost use Rattle.step.specs.After.{later, Parts, Short};
-ghost use Rattle.step.specs.Next.{headOf, recordIn, bodyIn};
+ghost use Rattle.step.specs.After.{Parts, Short};
+ghost use Rattle.step.specs.Next.{recordIn, bodyIn};
 
 // Four words of each snake, from word 5 on.
 pub fn write_records(out: &mut [u16], all: [After; 8], n: usize)
@@ -29,30 +29,6 @@ pub fn write_records(out: &mut [u16], all: [After; 8], n: usize)
     }
 }
 
-// The cell of the head, where it lives.
-fn write_head(out: &mut [u16], at: usize, a: After) -> usize
-    requires { ⌜ at + length (headOf a) ≤ length (now out) ⌝ }
-    ensures { λ r. ⌜ Written (now (out .entry)) at (headOf a) (now (out .exit)) r ⌝ }
-{
-    if a.lives {
-        out[at] = a.cell;
-        return at + 1;
-    }
-    at
-}
-
-// A body: its head, where it lives, and the part of the image. The index after it.
-fn write_body(out: &mut [u16], at: usize, image: &[u16], a: After) -> usize
-    requires { ⌜ (at + length (later (now image) a .body) ≤ length (now out)) × (a .start + a .keep ≤ length (now image)) ⌝ }
-    ensures { λ r. ⌜ Written (now (out .entry)) at (later (now (image .entry)) a .body) (now (out .exit)) r ⌝ }
-{
-    let start = a.start;
-    let keep = a.keep;
-    let rest = write_head(out, at, a);
-    lists::write_at(out, rest, &image[start..start + keep]);
-    rest + keep
-}
-
 pub fn write_bodies(out: &mut [u16], from: usize, image: &[u16], all: [After; 8], n: usize) -> usize
     requires { ⌜ (n ≤ 8) × (from + length (concatBelow n (bodyIn (now image) all)) ≤ length (now out)) ⌝ }
     requires { ⌜ Parts (now image) all ⌝ }
@@ -62,7 +38,15 @@ pub fn write_bodies(out: &mut [u16], from: usize, image: &[u16], all: [After; 8]
     let mut i = 0;
     while i < n {
         let a = all[i];
-        at = write_body(out, at, image, a);
+        at = image::write_body(
+            out,
+            at,
+            image,
+            a.start as usize,
+            a.keep as usize,
+            a.cell,
+            a.lives,
+        );
         i += 1;
     }
     at

@@ -1,7 +1,7 @@
 // The public call: the refusals in their order, then the step of a checked image.
 use crate::apply::apply;
 use crate::events::blanks;
-use crate::judge::judge;
+use judge::judge;
 use rules::Answer;
 use rules::Setting;
 use rules::Stepped;

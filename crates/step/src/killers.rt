@@ -30,7 +30,7 @@ fn has_cell(image: &[u16], a: After, cell: u16) -> bool
     if !a.lives {
         return false;
     }
-    at_head | image::holds_in(image, a.start, a.keep, cell)
+    at_head | image::holds_in(image, a.start as usize, a.keep as usize, cell)
 }
 
 // The lowest-numbered survivor whose body holds a cell, or n.

@@ -2,9 +2,7 @@
 use crate::after::After;
 use crate::bodies::write_bodies;
 use crate::bodies::write_records;
-use crate::food::count_left;
 use crate::food::eaten_of;
-use crate::food::write_left;
 use rules::Answer;
 ghost use mathlib.Core.Path.{_≡_};
 ghost use Prim.Native.Nat.{_+_, _*_, _<_};
@@ -15,7 +13,7 @@ ghost use Rattle.lists.specs.Lists.{writeAt};
 ghost use Rattle.rules.specs.Facts.{Sound};
 ghost use Rattle.rules.specs.Image.{snakesIn, sideIn, imageOf};
 ghost use Rattle.step.specs.After.{sizes, Parts, Short};
-ghost use Rattle.step.specs.Left.{left};
+ghost use Rattle.image.specs.Writers.{left};
 ghost use Rattle.step.specs.Next.{nextOf, nextIn, Fits, answered, written};
 
 // 'Food due = apples eaten, 0 if terminal'
@@ -45,7 +43,7 @@ fn write_state(
     image::write_contents(out, n, g, due, false, foods);
     write_records(out, all, n);
     let at = write_bodies(out, 5 + 4 * n, image, all, n);
-    write_left(out, at, food, eaten);
+    image::write_left(out, at, food, eaten);
 }
 
 // The next image, or 29.
@@ -68,7 +66,7 @@ pub fn write_next(
     let bites = eaten_of(all, n);
     let count = bites.count;
     let eaten = bites.cells;
-    let foods = count_left(food, &eaten[0..count]);
+    let foods = image::count_left(food, &eaten[0..count]);
     let room = 5 + 4 * n + cells + foods;
     if out.len() < room {
         return Answer::Refused(29);

@@ -16,15 +16,21 @@ pub use Rattle.theorems.proofs.Definitions.{turn-is, check-is, body-is,
 pub use Rattle.rules.proofs.Examples.{examples-hold, more-hold}
 -- Demand 2: its sample match, as states and as text
 pub use Rattle.rules.proofs.Sample.{sample-holds as sample-played}
-pub use Rattle.referee.proofs.Sample.{sample-holds as sample-printed}
+pub use Rattle.referee.proofs.Cases.{sample-holds as sample-printed}
+-- Demand 2: where the replay is subtle, input and output as one table
+pub use Rattle.referee.proofs.Cases.{cases-hold}
+-- Demand 2: what a program prints that takes the lines of its input one by one is the replay of that input
+pub use Rattle.referee.proofs.Whole.{run-prints}
 -- Demand 2: the cell ahead shows above the head, for each heading
 pub use Rattle.rules.proofs.View.{ahead-above}
 -- Demand 2: a corpse changes no one's fate; a casualty that lost has someone alive
 pub use Rattle.rules.proofs.Step.{corpse-harmless, lost-to-someone}
 -- Demand 2: what is due after a step that is not terminal are the apples that are gone
 pub use Rattle.theorems.proofs.Eaten.{apples-gone}
--- Demand 2: an agent cannot see other snakes' headings, alive flags, food due or birth; truncation changes the survival flag alone
-pub use Rattle.view.proofs.Theorems.{hidden-unseen, only-survival}
+-- Demand 2: an agent cannot see other snakes' headings, alive flags, food due or birth
+pub use Rattle.view.proofs.Theorems.{hidden-unseen}
+-- Demand 2: truncation changes the survival flag alone
+pub use Rattle.agent.proofs.Theorems.{only-survival}
 -- Demand 3, of the definitions: free cells, count, one to one, rank, k! indices a set; what a draw changes, at birth too
 pub use Rattle.rules.proofs.Fairness.{Fair, fair, settled, born, born-full}
 -- Demand 3, of the calls' answers: the count is P; an index draws k different free cells; a draw is undone by its rank and a rank by its draw

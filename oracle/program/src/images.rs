@@ -350,6 +350,33 @@ pub fn sensible(rng: &mut Random, state: &State) -> Vec<u64> {
     state.snakes.iter().map(|snake| choose(rng, snake)).collect()
 }
 
+/// Actions of snakes that live long: off the walls, off all bodies, out of reach of the other heads, and seldom to food.
+pub fn careful(rng: &mut Random, state: &State) -> Vec<u64> {
+    let reach = |snake: &Snake| (0..4).filter_map(|h| neighbour(state.side, snake.body[0], h)).collect::<Vec<u16>>();
+    let choose = |rng: &mut Random, i: usize, snake: &Snake| {
+        if !snake.alive {
+            return if rng.once_in(16) { rng.word() >> rng.below(64) } else { 0 };
+        }
+        let turned = [snake.heading, (snake.heading + 3) % 4, (snake.heading + 1) % 4];
+        let target = |a: u64| neighbour(state.side, snake.body[0], turned[a as usize]);
+        let is_free = |c: u16| state.snakes.iter().all(|s| !s.body.contains(&c));
+        let is_safe =
+            |c: u16| state.snakes.iter().enumerate().all(|(j, s)| j == i || !s.alive || !reach(s).contains(&c));
+        let free: Vec<u64> = (0..3).filter(|&a| target(a).map_or(false, is_free)).collect();
+        let safe: Vec<u64> = free.iter().copied().filter(|&a| target(a).map_or(false, is_safe)).collect();
+        let plain: Vec<u64> =
+            safe.iter().copied().filter(|&a| target(a).map_or(false, |c| !state.food.contains(&c))).collect();
+        let open = if !plain.is_empty() && !rng.once_in(16) { &plain } else { &safe };
+        let open = if open.is_empty() { &free } else { open };
+        if open.is_empty() {
+            0
+        } else {
+            *rng.pick(open)
+        }
+    };
+    state.snakes.iter().enumerate().map(|(i, snake)| choose(rng, i, snake)).collect()
+}
+
 /// A match that goes on from call to call, so that states of every age come up.
 pub struct Player {
     game: Match,

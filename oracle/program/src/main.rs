@@ -6,6 +6,7 @@ mod differences;
 mod fields;
 mod gen;
 mod images;
+mod match_stats;
 mod matches;
 mod paper;
 mod paper_rules;
@@ -52,6 +53,9 @@ fn usage() -> ! {
        oracle stats                      how often each answer comes to the calls on standard input
        oracle replay                     what the replay program prints for standard input
        oracle genreplay N SEED           N replay inputs, as a file of matches
+       oracle genmatches SEED            a match for each side and number of snakes, and long ones
+       oracle answers                    what the program matches prints for a file of matches
+       oracle matchstats                 what a file of matches reaches
        oracle replays                    a file of matches on standard input, with its answers
        oracle split DIR                  the same, each match as DIR/NAME.in and DIR/NAME.out
        oracle differ CALLS WANT GOT      two files of answers held against each other
@@ -79,6 +83,31 @@ fn count_answers() -> io::Result<()> {
     let mut stats = stats::Stats::default();
     for line in fields::lines(&input) {
         stats.add(line, &probe::answer(line));
+    }
+    io::stdout().write_all(stats.print().as_bytes())
+}
+
+fn generate_wide_and_long(seed: u64) -> io::Result<()> {
+    let mut out = io::BufWriter::new(io::stdout().lock());
+    for entry in matches::wide_and_long(seed) {
+        out.write_all(&matches::print_entry(&entry))?;
+    }
+    out.flush()
+}
+
+/// Each match's name and its replay.
+fn answer_stored() -> io::Result<()> {
+    let mut out = io::BufWriter::new(io::stdout().lock());
+    for entry in matches::read_entries(&whole_input()?) {
+        write!(out, "= {}\n{}", entry.name, replay::replay(&entry.input))?;
+    }
+    out.flush()
+}
+
+fn count_matches() -> io::Result<()> {
+    let mut stats = match_stats::MatchStats::default();
+    for entry in matches::read_entries(&whole_input()?) {
+        stats.add(&entry);
     }
     io::stdout().write_all(stats.print().as_bytes())
 }
@@ -132,6 +161,9 @@ fn main() -> io::Result<()> {
         ["stats"] => count_answers(),
         ["replay"] => io::stdout().write_all(replay::replay(&whole_input()?).as_bytes()),
         ["genreplay", n, seed] => generate_matches(number(n), number(seed)),
+        ["genmatches", seed] => generate_wide_and_long(number(seed)),
+        ["answers"] => answer_stored(),
+        ["matchstats"] => count_matches(),
         ["replays"] => answer_matches(),
         ["split", dir] => split_matches(Path::new(dir)),
         ["differ", calls, want, got] => differ_files(calls, want, got),

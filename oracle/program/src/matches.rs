@@ -7,7 +7,7 @@
 use crate::fields::lines;
 use crate::gen::{Generator, Size};
 use crate::images;
-use crate::paper;
+use crate::paper::{self, Setting, State};
 use crate::random::Random;
 use crate::replay::Match;
 
@@ -91,29 +91,11 @@ impl Inputs {
         input
     }
 
-    /// The lines of a match, its draws and moves as they come.
     fn played(&mut self) -> Vec<Vec<u8>> {
         let rng = &mut self.rng;
         let setting = images::accepted(rng);
-        let mut lines = vec![setting.print().into_bytes()];
-        let (mut game, _) = Match::start(setting).expect("accepted");
         let most = if rng.once_in(3) { rng.below(12) } else { 80 };
-        for _ in 0..most {
-            if game.over {
-                break;
-            }
-            lines.push(if game.state.due > 0 {
-                let count = paper::count(&game.state).expect("bounded by the setting");
-                let index = rng.below(count);
-                game.draw(index).expect("an index below the count");
-                format!("d {index}").into_bytes()
-            } else {
-                let actions = images::sensible(rng, &game.state);
-                game.play(&actions).expect("a legal move");
-                move_line(&actions)
-            });
-        }
-        lines
+        played(rng, setting, most, images::sensible)
     }
 
     fn spoil(&mut self, lines: &mut Vec<Vec<u8>>) {
@@ -171,6 +153,70 @@ impl Inputs {
             }
         }
     }
+}
+
+/// The lines of a match, its draws and moves as they come: at most so many after the first.
+fn played(
+    rng: &mut Random,
+    setting: Setting,
+    most: u64,
+    choose: fn(&mut Random, &State) -> Vec<u64>,
+) -> Vec<Vec<u8>> {
+    let mut lines = vec![setting.print().into_bytes()];
+    let (mut game, _) = Match::start(setting).expect("accepted");
+    for _ in 0..most {
+        if game.over {
+            break;
+        }
+        lines.push(if game.state.due > 0 {
+            let count = paper::count(&game.state).expect("bounded by the setting");
+            let index = rng.below(count);
+            game.draw(index).expect("an index below the count");
+            format!("d {index}").into_bytes()
+        } else {
+            let actions = choose(rng, &game.state);
+            game.play(&actions).expect("a legal move");
+            move_line(&actions)
+        });
+    }
+    lines
+}
+
+fn whole(name: String, lines: &[Vec<u8>]) -> Entry {
+    let mut input = lines.join(&b'\n');
+    input.push(b'\n');
+    Entry { name, input }
+}
+
+/// A match for each side from 3 to 32 with each number of snakes that some setting accepts there; then long ones.
+pub fn wide_and_long(seed: u64) -> Vec<Entry> {
+    let mut rng = Random::new(seed);
+    let mut entries = Vec::new();
+    for side in 3..=32 {
+        for n in 2..=8 {
+            if let Some(setting) = images::setting_for(&mut rng, n, side) {
+                let lines = played(&mut rng, setting, 24, images::sensible);
+                entries.push(whole(format!("side-{side}-snakes-{n}"), &lines));
+            }
+        }
+    }
+    // snakes, side, length, play_to_last, food, max_ticks, lines
+    let long = [
+        (2, 32, 1, false, 0, None, 6000),
+        (2, 12, 3, false, 2, None, 4000),
+        (3, 16, 4, true, 2, Some(3000), 4000),
+        (4, 20, 2, true, 3, None, 3000),
+        (5, 24, 3, false, 1, Some(1500), 3000),
+        (6, 28, 2, true, 0, None, 2000),
+        (7, 30, 4, false, 2, None, 2000),
+        (8, 32, 5, true, 1, Some(2000), 3000),
+    ];
+    for (snakes, grid, length, play_to_last, food, max_ticks, most) in long {
+        let setting = Setting { snakes, grid, length, play_to_last, lead: None, food, max_ticks };
+        let lines = played(&mut rng, setting, most, images::careful);
+        entries.push(whole(format!("long-snakes-{snakes}"), &lines));
+    }
+    entries
 }
 
 fn move_line(actions: &[u64]) -> Vec<u8> {

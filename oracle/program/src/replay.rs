@@ -18,7 +18,7 @@ enum Line {
 }
 
 /// A first line, or none.
-fn read_setting(line: &[u8]) -> Option<Setting> {
+pub fn read_setting(line: &[u8]) -> Option<Setting> {
     if line.len() > LONGEST {
         return None;
     }

@@ -1,18 +1,15 @@
-use borrow.Author.Needs.{needs}
-use Rattle.replay.specs.Room.{Ready}
+use Rattle.reader.specs.Room.{Ready}
 use lib.ListN.{length}
 use mathlib.Core.Path.{_≡_}
+use borrow.Author.Needs.{needs}
 use Rattle.replay.proofs.replay.Statement.{statement}
 use Rattle.replay.proofs.replay.Tie as tie
 
 abbrev Inv-loop : tie.InvT-loop
-Inv-loop line₀ image₀ next₀ list₀ out₀ r₀ turns₀ line image next list out r turns = Ready r line image next out × (length line ≡ length line₀) × (length image ≡ length image₀) × (length next ≡ length next₀) × (length list ≡ length list₀) × (length out ≡ length out₀)
+Inv-loop line₀ image₀ next₀ list₀ out₀ r₀ more₀ turns₀ line image next list out r more turns = Ready r line image next out × (length line ≡ length line₀) × (length image ≡ length image₀) × (length next ≡ length next₀) × (length list ≡ length list₀) × (length out ≡ length out₀)
 
 abbrev μ-loop : tie.MeasureT-loop
-μ-loop line₀ image₀ next₀ list₀ out₀ r₀ turns₀ line image next list out r turns = turns
-
-new-desk-requires : tie.Need-new-desk-requires Inv-loop μ-loop
-new-desk-requires c κs = search needs
+μ-loop line₀ image₀ next₀ list₀ out₀ r₀ more₀ turns₀ line image next list out r more turns = turns
 
 loop-holds : tie.Need-loop-holds Inv-loop μ-loop
 loop-holds c = search needs
@@ -50,31 +47,12 @@ same-length-5 c = search needs
 returns : tie.Need-returns Inv-loop μ-loop
 returns c = search needs
 
-same-length-6 : tie.Need-same-length-6 Inv-loop μ-loop
-same-length-6 c = search needs
-
-same-length-7 : tie.Need-same-length-7 Inv-loop μ-loop
-same-length-7 c = search needs
-
-same-length-8 : tie.Need-same-length-8 Inv-loop μ-loop
-same-length-8 c = search needs
-
-same-length-9 : tie.Need-same-length-9 Inv-loop μ-loop
-same-length-9 c = search needs
-
-same-length-10 : tie.Need-same-length-10 Inv-loop μ-loop
-same-length-10 c = search needs
-
-returns-2 : tie.Need-returns-2 Inv-loop μ-loop
-returns-2 c = search needs
-
 pub replay-spec : {M : Type 1} → statement M
 replay-spec =
     tie.close
     (tie.spec
     Inv-loop
     μ-loop
-    new-desk-requires
     loop-holds
     read-some-requires
     sub-turns
@@ -86,10 +64,4 @@ replay-spec =
     same-length-3
     same-length-4
     same-length-5
-    returns
-    same-length-6
-    same-length-7
-    same-length-8
-    same-length-9
-    same-length-10
-    returns-2)
+    returns)

@@ -10,7 +10,7 @@ limits-requires : tie.Need-limits-requires
 limits-requires c κs = search needs
 
 returns : tie.Need-returns
-returns c = judge-first (c .before .before .before .args .setting) (c .before .limits .result) _ _ _ (c .before .limits .ensures) (c .if1 .taken)
+returns c = judge-first (c .before .before .before .args .setting) _ (c .before .limits .ensures) _ _ _ (c .if1 .taken)
 
 place-check-requires : tie.Need-place-check-requires
 place-check-requires c κs =
@@ -23,7 +23,7 @@ same-length c = search needs
 returns-2 : tie.Need-returns-2
 returns-2 c =
     let b = c .before .before .before .before .before .before .before in
-    judge-second (b .args .setting) _ _ _ (now (b .args .cells)) _ (c .before .before .before .before .before .limits .ensures) (c .before .before .before .before .if1 .left) (c .before .before .place-check .ensures)
+    judge-second (b .args .setting) _ (c .before .before .before .before .before .limits .ensures) _ (now (b .args .cells)) _ (c .before .before .before .before .if1 .left) _ (c .before .before .place-check .ensures)
 
 pub check-spec : {M : Type 1} → statement M
 check-spec =

@@ -1,8 +1,6 @@
 use denote.Ref.{now}
 use lib.Dec.{eqb}
 use mathlib.Core.Path.{ap}
-use native.Mathlib.Omega.{arith}
-use Prim.Native.Nat.{_+_, _*_}
 use borrow.Author.Needs.{needs}
 use Rattle.rules.specs.declared.Heading.{Heading}
 use Rattle.rules.specs.Image.{startAt, lengthAt, aliveAt}
@@ -21,23 +19,17 @@ mul-t5 c = search needs
 shared-slice-read-t7 : tie.Need-shared-slice-read-t7
 shared-slice-read-t7 c = search needs
 
-cast-t8 : tie.Need-cast-t8
-cast-t8 c = omega (arith, c .shared-slice-known2 .given (5 + 4 * c .before .before .args .i))
+mul-t8 : tie.Need-mul-t8
+mul-t8 c = search needs
 
-mul-t9 : tie.Need-mul-t9
-mul-t9 c = search needs
+add-t9 : tie.Need-add-t9
+add-t9 c = search needs
 
-add-t10 : tie.Need-add-t10
-add-t10 c = search needs
+mul-t10 : tie.Need-mul-t10
+mul-t10 c = search needs
 
-mul-t11 : tie.Need-mul-t11
-mul-t11 c = search needs
-
-shared-slice-read-t13 : tie.Need-shared-slice-read-t13
-shared-slice-read-t13 c = search needs
-
-cast-t14 : tie.Need-cast-t14
-cast-t14 c = omega (arith, c .shared-slice-known3 .given (6 + 4 * c .before .before .before .args .i))
+shared-slice-read-t12 : tie.Need-shared-slice-read-t12
+shared-slice-read-t12 c = search needs
 
 mul-heading-of : tie.Need-mul-heading-of
 mul-heading-of c = search needs
@@ -54,17 +46,17 @@ shared-slice-read-heading-of c = search needs
 heading-of-requires : tie.Need-heading-of-requires
 heading-of-requires c κs = search needs
 
+mul-t19 : tie.Need-mul-t19
+mul-t19 c = search needs
+
+add-t20 : tie.Need-add-t20
+add-t20 c = search needs
+
 mul-t21 : tie.Need-mul-t21
 mul-t21 c = search needs
 
-add-t22 : tie.Need-add-t22
-add-t22 c = search needs
-
-mul-t23 : tie.Need-mul-t23
-mul-t23 c = search needs
-
-shared-slice-read-t25 : tie.Need-shared-slice-read-t25
-shared-slice-read-t25 c = search needs
+shared-slice-read-t23 : tie.Need-shared-slice-read-t23
+shared-slice-read-t23 c = search needs
 
 returns : tie.Need-returns
 returns c =
@@ -79,19 +71,17 @@ record-at-spec =
     add-t4
     mul-t5
     shared-slice-read-t7
-    cast-t8
-    mul-t9
-    add-t10
-    mul-t11
-    shared-slice-read-t13
-    cast-t14
+    mul-t8
+    add-t9
+    mul-t10
+    shared-slice-read-t12
     mul-heading-of
     add-heading-of
     mul-heading-of-2
     shared-slice-read-heading-of
     heading-of-requires
+    mul-t19
+    add-t20
     mul-t21
-    add-t22
-    mul-t23
-    shared-slice-read-t25
+    shared-slice-read-t23
     returns)

@@ -1,5 +1,5 @@
 -- The lowest grid is reached: -1 - (v - 1) fits.
-use Rattle.probe.proofs.Signs.{minus-one}
+use Rattle.lists.proofs.Signs.{minus-one}
 use lib.IntN.{pos}
 use mir.Facts.{toZ-pos}
 use mir.Val.{toZ}

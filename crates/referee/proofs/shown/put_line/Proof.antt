@@ -1,6 +1,6 @@
 use native.Mathlib.Omega.{arith}
 use Rattle.referee.specs.Shown.{lineShown}
-use Rattle.referee.proofs.Writing.{both}
+use Rattle.text.proofs.Writing.{both}
 use borrow.Author.Needs.{needs}
 use Rattle.referee.proofs.shown.put_line.Statement.{statement}
 use Rattle.referee.proofs.shown.put_line.Tie as tie

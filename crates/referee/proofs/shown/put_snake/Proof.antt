@@ -3,7 +3,7 @@ use Prim.Native.Nat.{ℕ}
 use mathlib.Core.Path.{ap}
 use lib.Dec.{eqb}
 use Rattle.referee.specs.Shown.{snakeShown}
-use Rattle.referee.proofs.Writing.{both}
+use Rattle.text.proofs.Writing.{both}
 use borrow.Author.Needs.{needs}
 use Rattle.referee.proofs.shown.put_snake.Statement.{statement}
 use Rattle.referee.proofs.shown.put_snake.Tie as tie

@@ -6,8 +6,8 @@ use native.Mathlib.Omega.{arith}
 use borrow.Author.Needs.{needs}
 use Rattle.lists.specs.Below.{concatBelow}
 use Rattle.lists.proofs.Below.{concat-none, concat-next}
-use Rattle.referee.proofs.Writing.{both, wider, nothing}
-use Rattle.referee.specs.Text.{Wrote}
+use Rattle.text.proofs.Writing.{both, wider, nothing}
+use Rattle.text.specs.Text.{Wrote}
 use Rattle.referee.specs.Shown.{snakeShownBy}
 use Rattle.referee.proofs.shown.put_snakes.Statement.{statement}
 use Rattle.referee.proofs.shown.put_snakes.Tie as tie

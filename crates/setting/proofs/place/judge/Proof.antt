@@ -3,7 +3,7 @@ use mathlib.Core.Path.{_≡_}
 use lib.ListN.{length}
 use denote.Ref.{now}
 use Rattle.rules.proofs.Facts.{square-le}
-use Rattle.setting.proofs.Judging.{judge-short, total-most, part-under, judge-twice, judge-crowded, judge-fine}
+use Rattle.setting.proofs.Judging.{judge-short, total-most, part-under, judge-twice, judge-last}
 use borrow.Author.Needs.{needs}
 use Rattle.setting.proofs.place.judge.Statement.{statement}
 use Rattle.setting.proofs.place.judge.Tie as tie
@@ -60,15 +60,18 @@ returns-2 c =
     let p = c .before .before .before .before .before .before .before .place-snakes in
     judge-twice (a .g) (a .n) (a .size) (a .food) (now (a .cells)) (s .pre .0) (p .last .0) (p .result) (p .ensures) (c .before .before .before .before .if1 .left) _ (c .before .all-new .ensures) (c .if2 .taken)
 
-mul-area : tie.Need-mul-area
-mul-area c = record { fits = omega (arith, square-le (c .before .before .before .before .before .before .before .before .before .before .args .g) (c .before .before .before .before .before .before .before .before .before .before .pre .0 .side-max)) }
+mul-full : tie.Need-mul-full
+mul-full c =
+    let s = c .before .before .before .before .before .before .before .before .before .before in
+    record { fits = omega (arith, square-le (s .args .g) (s .pre .0 .side-max)) }
 
-add-if3 : tie.Need-add-if3
-add-if3 c =
+full-requires : tie.Need-full-requires
+full-requires c κs =
     let s = c .before .before .before .before .before .before .before .before .before .before in
     let a = s .args in
     let p = c .before .before .before .before .before .before .before .place-snakes in
-    record { fits = omega (arith, total-most (a .g) (a .n) (a .size) (a .food) (now (a .cells)) (s .pre .0) (p .last .0) (p .result) (p .ensures) (c .before .before .before .before .if1 .left), s .pre .1) }
+    let m = total-most (a .g) (a .n) (a .size) (a .food) (now (a .cells)) (s .pre .0) (p .last .0) (p .result) (p .ensures) (c .before .before .before .before .if1 .left) in
+    (omega (arith, m), s .pre .1)
 
 same-length-3 : tie.Need-same-length-3
 same-length-3 c = search needs
@@ -78,17 +81,7 @@ returns-3 c =
     let s = c .before .before .before .before .before .before .before .before .before .before .before in
     let a = s .args in
     let p = c .before .before .before .before .before .before .before .before .place-snakes in
-    judge-crowded (a .g) (a .n) (a .size) (a .food) (now (a .cells)) (s .pre .0) (p .last .0) (p .result) (p .ensures) (c .before .before .before .before .before .if1 .left) _ (c .before .before .all-new .ensures) (c .before .if2 .left) (c .if3 .taken)
-
-same-length-4 : tie.Need-same-length-4
-same-length-4 c = search needs
-
-returns-4 : tie.Need-returns-4
-returns-4 c =
-    let s = c .before .before .before .before .before .before .before .before .before .before .before in
-    let a = s .args in
-    let p = c .before .before .before .before .before .before .before .before .place-snakes in
-    judge-fine (a .g) (a .n) (a .size) (a .food) (now (a .cells)) (s .pre .0) (p .last .0) (p .result) (p .ensures) (c .before .before .before .before .before .if1 .left) _ (c .before .before .all-new .ensures) (c .before .if2 .left) (c .if3 .left)
+    judge-last (a .g) (a .n) (a .size) (a .food) (now (a .cells)) (s .pre .0) (p .last .0) (p .result) (p .ensures) (c .before .before .before .before .before .if1 .left) _ (c .before .before .all-new .ensures) (c .before .if2 .left) _ (c .full .ensures)
 
 pub judge-spec : {M : Type 1} → statement M
 judge-spec =
@@ -104,9 +97,7 @@ judge-spec =
     all-new-requires
     same-length-2
     returns-2
-    mul-area
-    add-if3
+    mul-full
+    full-requires
     same-length-3
-    returns-3
-    same-length-4
-    returns-4)
+    returns-3)

@@ -1,10 +1,9 @@
 use borrow.Author.Needs.{needs}
 use Rattle.step.proofs.after.more_if.Statement.{statement}
 use native.Mathlib.Omega.{arith}
-use Rattle.step.proofs.Laws.{byte-bit}
 use Prim.Native.Nat.{ℕ, _+_}
 use mathlib.Core.Path.{ap}
-use Rattle.lists.proofs.Tests.{bit-le}
+use Rattle.lists.proofs.Tests.{bit-le, byte-bit}
 use Rattle.step.proofs.after.more_if.Tie as tie
 
 cast-result : tie.Need-cast-result

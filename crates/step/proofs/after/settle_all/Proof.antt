@@ -9,7 +9,7 @@ use Rattle.step.specs.After.{settled, gone}
 use Rattle.lists.specs.Below.{filled}
 use Rattle.lists.proofs.Below.{filled-none, filled-more}
 use Rattle.step.specs.declared.after.After.{After}
-use Rattle.step.specs.World.{untouched}
+use Rattle.judge.specs.World.{untouched}
 use Rattle.step.proofs.after.settle_all.Tie as tie
 
 abbrev Inv-loop : tie.InvT-loop

@@ -9,6 +9,7 @@ use Rattle.lists.specs.Below.{concatBelow}
 use Rattle.step.specs.Next.{bodyIn}
 use native.Mathlib.Omega.{arith}
 use denote.Ref.{now}
+use borrow.Author.Needs.{needs}
 use Rattle.step.proofs.bodies.write_bodies.Tie as tie
 
 abbrev Inv-loop : tie.InvT-loop
@@ -26,14 +27,20 @@ mul-a c = omega arith
 array-copy-out-a : tie.Need-array-copy-out-a Inv-loop μ-loop
 array-copy-out-a c = omega arith
 
+cast-write-body : tie.Need-cast-write-body Inv-loop μ-loop
+cast-write-body c = search needs
+
+cast-write-body-2 : tie.Need-cast-write-body-2 Inv-loop μ-loop
+cast-write-body-2 c = search needs
+
 write-body-requires : tie.Need-write-body-requires Inv-loop μ-loop
 write-body-requires c κs =
-    let s = c .before .before .before .before .before .before in
+    let s = c .before .before .before .before .before .before .before .before in
     let a = s .args in
-    let l = c .before .before .before .loop in
+    let l = c .before .before .before .before .before .loop in
     let d = now (a .out) in
     let f = bodyIn (now (a .image)) (a .t4) in
-    let room = run-room d (a .from) f (l .i) (a .n) (l .at) (l .out) (l .inv .2) (c .before .before .loop-test .taken) in
+    let room = run-room d (a .from) f (l .i) (a .n) (l .at) (l .out) (l .inv .2) (c .before .before .before .before .loop-test .taken) in
     let fits : l .at + length (f (l .i)) ≤ length (l .out) = omega arith in
     (fits, s .pre .1 (l .i))
 
@@ -45,15 +52,15 @@ loop-less c = omega arith
 
 loop-again : tie.Need-loop-again Inv-loop μ-loop
 loop-again c =
-    let s = c .before .before .before .before .before .before .before .before .before in
+    let s = c .before .before .before .before .before .before .before .before .before .before .before in
     let a = s .args in
-    let l = c .before .before .before .before .before .before .loop in
+    let l = c .before .before .before .before .before .before .before .before .loop in
     let d = now (a .out) in
     let f = bodyIn (now (a .image)) (a .t4) in
     let o = c .before .before .write-body .last .0 in
     let r = c .before .before .write-body .result in
     let y : Written (l .out) (l .at) (f (l .i)) o r = c .before .before .write-body .ensures in
-    let room = run-room d (a .from) f (l .i) (a .n) (l .at) (l .out) (l .inv .2) (c .before .before .before .before .before .loop-test .taken) in
+    let room = run-room d (a .from) f (l .i) (a .n) (l .at) (l .out) (l .inv .2) (c .before .before .before .before .before .before .before .loop-test .taken) in
     (omega arith, written-long (l .out) (l .at) (f (l .i)) o r y (omega arith) ∙ l .inv .1, run-next d (a .from) f (l .i) (l .at) (l .out) o r (omega arith) (l .inv .2) y)
 
 same-length : tie.Need-same-length Inv-loop μ-loop
@@ -78,6 +85,8 @@ write-bodies-spec =
     loop-holds
     mul-a
     array-copy-out-a
+    cast-write-body
+    cast-write-body-2
     write-body-requires
     add-i
     loop-less

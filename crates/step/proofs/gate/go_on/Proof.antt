@@ -6,7 +6,7 @@ use denote.Ref.{now}
 use Rattle.rules.specs.Step.{Outcome}
 use Rattle.step.specs.Applied.{Applied}
 use Rattle.step.proofs.Asked.{judged-ready}
-use Rattle.step.proofs.Judging.{stepped-by}
+use Rattle.judge.proofs.Judging.{stepped-by}
 use borrow.Author.Needs.{needs}
 use Rattle.step.proofs.gate.go_on.Statement.{statement}
 use Rattle.step.proofs.gate.go_on.Tie as tie

@@ -21,9 +21,15 @@ mul-you c = search needs
 array-copy-out-you : tie.Need-array-copy-out-you
 array-copy-out-you c = search needs
 
+cast-mine : tie.Need-cast-mine
+cast-mine c = search needs
+
+cast-yours : tie.Need-cast-yours
+cast-yours c = search needs
+
 returns : tie.Need-returns
 returns c =
-    let a = c .before .before .before .args in
+    let a = c .before .before .before .before .before .args in
     let me = getD (a .t1) (a .i) gone in
     let you = getD (a .t1) (a .j) gone in
     and-none (eqb (a .alive) 2) (me .lives) (you .lives) (ltb (you .keep) (me .keep)) (leb (a .k) (me .keep - you .keep)) (le-ltb (you .keep) (me .keep) (c .if1 .taken))
@@ -33,7 +39,7 @@ sub-result c = search needs
 
 returns-2 : tie.Need-returns-2
 returns-2 c =
-    let a = c .before .before .before .before .before .args in
+    let a = c .before .before .before .before .before .before .before .args in
     let me = getD (a .t1) (a .i) gone in
     let you = getD (a .t1) (a .j) gone in
     and-all (eqb (a .alive) 2) (me .lives) (you .lives) (ltb (you .keep) (me .keep)) (leb (a .k) (me .keep - you .keep)) (lt-ltb (you .keep) (me .keep) (c .before .before .if1 .left))
@@ -41,4 +47,4 @@ returns-2 c =
 pub leads-by-spec : {M : Type 1} → statement M
 leads-by-spec =
     tie.close
-    (tie.spec mul-me array-copy-out-me mul-you array-copy-out-you returns sub-result returns-2)
+    (tie.spec mul-me array-copy-out-me mul-you array-copy-out-you cast-mine cast-yours returns sub-result returns-2)

@@ -12,7 +12,7 @@ use Rattle.step.specs.After.{cells, eating, sizes}
 use Rattle.lists.specs.Below.{countBelow, sumBelow}
 use Rattle.lists.specs.Choice.{_if_else_}
 use Rattle.lists.specs.Lists.{writeAt, keep}
-use Rattle.step.specs.Left.{left}
+use Rattle.image.specs.Writers.{left}
 use Rattle.rules.specs.Step.{eatenBy}
 use Rattle.step.proofs.Words.{sizes-small, image-long}
 use Rattle.step.specs.Next.{nextOf, nextIn}

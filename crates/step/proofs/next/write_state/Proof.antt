@@ -6,7 +6,7 @@ use Prim.Native.Nat.{_+_, _≤_}
 use lib.ListN.{length}
 use denote.Ref.{now}
 use Rattle.lists.specs.Below.{concatBelow}
-use Rattle.step.specs.Left.{left}
+use Rattle.image.specs.Writers.{left}
 use Rattle.step.proofs.Words.{bodies-long, two-long, three-long, at-is, state-written}
 use Rattle.step.specs.Next.{bodyIn}
 use Rattle.rules.specs.Image.{front}

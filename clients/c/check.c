@@ -1,0 +1,121 @@
+/* What a C caller can hand over and a typed one cannot: short events, bits and numbers that mean nothing, NaN. Prints the number of
+ * checks, and fails at the first that does not hold. */
+#include <stdio.h>
+#include <stdlib.h>
+#include <string.h>
+
+#include "lundaspro.h"
+
+static int checks;
+
+static void check(bool holds, int line) {
+    checks++;
+    if (holds) return;
+    printf("check.c:%d does not hold\n", line);
+    exit(1);
+}
+
+#define CHECK(holds) check(holds, __LINE__)
+
+/* Grid 3: a living snake on 4, heading up, and a dead one without a cell; food is due where the third word says so. */
+static uint16_t image[14] = {2, 3, 0, 0, 0, 13, 1, 0, 1, 14, 0, 0, 0, 4};
+
+static bool untouched(const uint16_t *words, size_t count) {
+    for (size_t i = 0; i < count; i++)
+        if (words[i] != 9) return false;
+    return true;
+}
+
+static void short_events(void) {
+    lundaspro_setting setting = {.snakes = 2, .grid = 3, .size = 1};
+    uint64_t actions[2] = {0, 7};
+    uint16_t out[20], events[9];
+    for (int i = 0; i < 20; i++) out[i] = 9;
+    for (int i = 0; i < 9; i++) events[i] = 9;
+    for (size_t room = 0; room < 8; room++) {
+        lundaspro_stepped a = lundaspro_step(setting, image, 14, actions, 2, out, 20, events, room);
+        CHECK(a.refusal == 29 && !a.terminal && a.words == 0 && untouched(out, 20) && untouched(events, 9));
+        a = lundaspro_step(setting, image, 14, actions, 1, out, 20, events, room);
+        CHECK(a.refusal == 24 && untouched(out, 20) && untouched(events, 9));
+    }
+    actions[0] = 3;
+    CHECK(lundaspro_step(setting, image, 14, actions, 2, out, 20, events, 7).refusal == 25);
+    image[2] = 1;
+    CHECK(lundaspro_step(setting, image, 14, actions, 2, out, 20, events, 7).refusal == 22);
+    image[2] = 0;
+    setting.grid = 4;
+    CHECK(lundaspro_step(setting, image, 14, actions, 2, out, 20, events, 7).refusal == 21);
+    setting.size = 0;
+    CHECK(lundaspro_step(setting, image, 13, actions, 2, out, 20, events, 7).refusal == 2);
+    setting.size = 1;
+    CHECK(lundaspro_step(setting, image, 13, actions, 2, out, 20, events, 7).refusal == 20);
+    setting.grid = 3;
+    actions[0] = 0;
+    lundaspro_stepped a = lundaspro_step(setting, image, 14, actions, 2, out, 20, events, 8);
+    CHECK(a.refusal == 0 && a.terminal && a.words == 14 && out[13] == 1);
+    CHECK(untouched(out + 14, 6) && untouched(events + 8, 1));
+    for (int i = 0; i < 8; i++) CHECK(events[i] == 0);
+}
+
+static void other_bits(void) {
+    lundaspro_weights weights = {.step = 1.0, .food = 2.0};
+    CHECK(lundaspro_reward(weights, 128 | LUNDASPRO_ATE).sum == 3.0);
+    CHECK(lundaspro_truncation(image, 14, 0, 65535).event == 127);
+    CHECK(lundaspro_truncation(image, 14, 1, 128 + 256 * 5).event == 0);
+    CHECK(lundaspro_truncation(image, 14, 0, 256 * LUNDASPRO_HEAD_ON).event == 256 * LUNDASPRO_HEAD_ON + LUNDASPRO_SURVIVED);
+    CHECK(lundaspro_relative_to_absolute(255, 0) == LUNDASPRO_LEFT);
+    CHECK(lundaspro_relative_to_absolute(0, 255) == LUNDASPRO_RIGHT);
+}
+
+static void nan_weights(void) {
+    static const uint64_t patterns[] = {0x7ff0000000000001, 0x7ff8000000000000, 0xfff8000000000000, 0xffffffffffffffff, 0x7ff0000000000000};
+    for (int i = 0; i < 5; i++) {
+        lundaspro_weights weights = {.step = 1.0};
+        memcpy(&weights.kill, &patterns[i], 8);
+        lundaspro_sum a = lundaspro_reward(weights, 0);
+        CHECK(a.refusal == 31 && a.sum == 0.0);
+    }
+}
+
+static void bodies(void) {
+    lundaspro_part a = lundaspro_body(image, 14, 0), b = lundaspro_body(image, 14, 1), c = lundaspro_body(image, 14, 2), d = lundaspro_body(image, 13, 0);
+    CHECK(a.start == 13 && a.len == 1 && b.start == 14 && b.len == 0 && c.start == 0 && c.len == 0 && d.start == 0 && d.len == 0);
+    CHECK(lundaspro_body(image, 14, UINT64_MAX).len == 0);
+}
+
+/* The calls that need no more than their answer read. */
+static void every_other_call(void) {
+    lundaspro_setting setting = {.snakes = 2, .grid = 3, .size = 1, .lead_set = true, .lead = 0, .ticks_set = true, .ticks = 5};
+    CHECK(lundaspro_validate(setting) == 3);
+    setting.lead_set = false;
+    CHECK(lundaspro_validate(setting) == 0);
+    CHECK(lundaspro_well_formed(image, 14) && !lundaspro_well_formed(image, 13));
+    lundaspro_actor_answer actor = lundaspro_actor(image, 14);
+    CHECK(actor.refusal == 0 && !actor.chance && lundaspro_actor(image, 13).refusal == 20);
+    lundaspro_legal legal = lundaspro_legal_actions(image, 14, 0);
+    CHECK(legal.refusal == 0 && legal.actions == 3 && lundaspro_legal_actions(image, 14, 1).actions == 0);
+    CHECK(lundaspro_count(image, 14).refusal == 23);
+    image[2] = 1;
+    lundaspro_number count = lundaspro_count(image, 14);
+    CHECK(count.refusal == 0 && count.value == 8);
+    image[2] = 0;
+    lundaspro_key key = lundaspro_length_cell(image, 14);
+    CHECK(key.refusal == 0 && !key.some && key.key == 0);
+    uint16_t both[18] = {2, 3, 0, 0, 0, 13, 4, 0, 1, 17, 1, 0, 1, 0, 1, 2, 3, 4};
+    key = lundaspro_length_cell(both, 18);
+    CHECK(key.refusal == 0 && key.some && key.key == 1);
+    lundaspro_space box = lundaspro_observation_space(7), three = lundaspro_action_space(), none = lundaspro_observation_space(33);
+    CHECK(box.refusal == 0 && !box.discrete && box.count == 0 && box.planes == 5 && box.high == 7 && box.wide == 7 && box.low == 0.0f && box.top == 1.0f);
+    CHECK(three.refusal == 0 && three.discrete && three.count == 3 && three.planes == 0);
+    CHECK(none.refusal == 5 && !none.discrete && none.count == 0);
+}
+
+int main(void) {
+    short_events();
+    other_bits();
+    nan_weights();
+    bodies();
+    every_other_call();
+    printf("%d checks passed\n", checks);
+    return 0;
+}

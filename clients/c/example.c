@@ -1,0 +1,81 @@
+/* A small match: a setting, its start, draws and moves, each line as the replay program prints it, then what one agent sees.
+ * Every answer is taken apart the same way: refusal first. */
+#include <stdio.h>
+
+#include "lundaspro.h"
+
+static uint16_t image[LUNDASPRO_IMAGE_WORDS], next[LUNDASPRO_IMAGE_WORDS];
+static uint16_t events[LUNDASPRO_EVENT_WORDS], list[LUNDASPRO_LIST_WORDS];
+static float planes[LUNDASPRO_PLANE_NUMBERS];
+static size_t words;
+
+static int refused(uint8_t number) {
+    printf("r %d\n", number);
+    return 1;
+}
+
+/* The next image becomes the image. */
+static void keep(size_t count) {
+    words = count;
+    for (size_t i = 0; i < count; i++) image[i] = next[i];
+}
+
+static void put_event(uint16_t event) {
+    static const uint16_t bits[] = {LUNDASPRO_KILLED, LUNDASPRO_WON, LUNDASPRO_LOST, LUNDASPRO_DREW, LUNDASPRO_SURVIVED};
+    if (event == 0) putchar('-');
+    if (event & LUNDASPRO_ATE) putchar('a');
+    if (LUNDASPRO_CAUSE(event) != LUNDASPRO_NO_CAUSE) putchar(" WSOH"[LUNDASPRO_CAUSE(event)]);
+    for (int i = 0; i < 5; i++)
+        if (event & bits[i]) putchar("kwlxy"[i]);
+}
+
+/* Words 0 to 4 are snakes, side, food due, birth, food count; then four words for each snake. */
+static void show(char letter, bool terminal) {
+    printf("%c %d %d %d", letter, terminal, image[2], image[4]);
+    for (unsigned i = 0; i < image[0]; i++) {
+        lundaspro_part body = lundaspro_body(image, words, i);
+        printf(" %d:%d:", image[8 + 4 * i], (int)body.len);
+        if (body.len == 0) putchar('-');
+        else printf("%d", image[body.start]);
+        putchar(':');
+        put_event(events[i]);
+    }
+    putchar('\n');
+}
+
+static int draw(uint64_t index) {
+    lundaspro_drawn drawn = lundaspro_draw(image, words, index, next, LUNDASPRO_IMAGE_WORDS, list, LUNDASPRO_LIST_WORDS);
+    if (drawn.refusal != 0) return refused(drawn.refusal);
+    lundaspro_number rank = lundaspro_rank(image, words, list, drawn.cells);
+    if (rank.refusal != 0 || rank.value != index) return 1;
+    keep(drawn.words);
+    for (int i = 0; i < LUNDASPRO_EVENT_WORDS; i++) events[i] = 0;
+    show('d', false);
+    return 0;
+}
+
+static int move(lundaspro_setting setting, uint64_t first, uint64_t second) {
+    uint64_t actions[2] = {first, second};
+    lundaspro_stepped moved = lundaspro_step(setting, image, words, actions, 2, next, LUNDASPRO_IMAGE_WORDS, events, LUNDASPRO_EVENT_WORDS);
+    if (moved.refusal != 0) return refused(moved.refusal);
+    keep(moved.words);
+    show('m', moved.terminal);
+    return 0;
+}
+
+int main(void) {
+    lundaspro_setting setting = {.snakes = 2, .grid = 3, .size = 1, .food = 1};
+    lundaspro_written start = lundaspro_initial_state(setting, image, LUNDASPRO_IMAGE_WORDS);
+    if (start.refusal != 0) return refused(start.refusal);
+    words = start.words;
+    show('i', false);
+    if (draw(2) || move(setting, 0, 0) || move(setting, 1, 0) || draw(0)) return 1;
+    lundaspro_written seen = lundaspro_observe(image, words, 0, planes, LUNDASPRO_PLANE_NUMBERS);
+    if (seen.refusal != 0) return refused(seen.refusal);
+    if (move(setting, 0, 0)) return 1;
+    lundaspro_weights weights = {.step = -0.5, .food = 1.0, .loss = -1.0, .draw = 0.25, .kill = 2.0, .win = 4.0, .survival = 0.5};
+    lundaspro_sum reward = lundaspro_reward(weights, events[0]);
+    if (reward.refusal != 0) return refused(reward.refusal);
+    printf("reward %g, agent 0 had seen %d numbers\n", reward.sum, (int)seen.words);
+    return 0;
+}

@@ -1,0 +1,104 @@
+//! The calls over slices that the caller lends: nothing is allocated. On a refusal every lent word is untouched; after an answer the
+//! words past those it wrote keep their values.
+use crate::raw;
+use crate::{Event, Refusal, Setting};
+
+/// What a step into lent memory answers; `words` is the length of the next image.
+#[derive(Clone, Copy, Debug, PartialEq, Eq)]
+pub struct Stepped {
+    pub words: usize,
+    pub terminal: bool,
+    pub events: [Event; 8],
+}
+
+/// What a draw into lent memory answers: the length of the next image and of the list.
+#[derive(Clone, Copy, Debug, PartialEq, Eq)]
+pub struct Drawn {
+    pub words: usize,
+    pub cells: usize,
+}
+
+/// Refusals 1 to 12, 29.
+pub fn initial_state(setting: &Setting, out: &mut [u16]) -> Result<usize, Refusal> {
+    let a = unsafe { raw::lundaspro_initial_state(setting.flat(), out.as_mut_ptr(), out.len()) };
+    Refusal::check(a.refusal).map(|()| a.words)
+}
+
+/// Refusals 1 to 12, 20, 21, 22, 24, 25, 29.
+pub fn step(
+    setting: &Setting,
+    image: &[u16],
+    actions: &[u64],
+    out: &mut [u16],
+) -> Result<Stepped, Refusal> {
+    let mut events = [0; 8];
+    let a = unsafe {
+        raw::lundaspro_step(
+            setting.flat(),
+            image.as_ptr(),
+            image.len(),
+            actions.as_ptr(),
+            actions.len(),
+            out.as_mut_ptr(),
+            out.len(),
+            events.as_mut_ptr(),
+            events.len(),
+        )
+    };
+    Refusal::check(a.refusal)?;
+    Ok(Stepped {
+        words: a.words,
+        terminal: a.terminal,
+        events: events.map(Event::from_number),
+    })
+}
+
+/// Refusals 20, 23, 28.
+pub fn count(image: &[u16]) -> Result<u64, Refusal> {
+    let a = unsafe { raw::lundaspro_count(image.as_ptr(), image.len()) };
+    Refusal::check(a.refusal).map(|()| a.value)
+}
+
+/// Refusals 20, 23, 28, 27, 29.
+pub fn draw(
+    image: &[u16],
+    index: u64,
+    out: &mut [u16],
+    list: &mut [u16],
+) -> Result<Drawn, Refusal> {
+    let a = unsafe {
+        raw::lundaspro_draw(
+            image.as_ptr(),
+            image.len(),
+            index,
+            out.as_mut_ptr(),
+            out.len(),
+            list.as_mut_ptr(),
+            list.len(),
+        )
+    };
+    Refusal::check(a.refusal).map(|()| Drawn {
+        words: a.words,
+        cells: a.cells,
+    })
+}
+
+/// Refusals 20, 23, 28, 30.
+pub fn rank(image: &[u16], list: &[u16]) -> Result<u64, Refusal> {
+    let a = unsafe { raw::lundaspro_rank(image.as_ptr(), image.len(), list.as_ptr(), list.len()) };
+    Refusal::check(a.refusal).map(|()| a.value)
+}
+
+/// Refusals 20, 26, 29.
+pub fn observe(image: &[u16], agent: u64, obs: &mut [f32]) -> Result<usize, Refusal> {
+    let a = unsafe {
+        raw::lundaspro_observe(
+            image.as_ptr(),
+            image.len(),
+            agent,
+            obs.as_mut_ptr(),
+            obs.len(),
+        )
+    };
+    Refusal::check(a.refusal).map(|()| a.words)
+}

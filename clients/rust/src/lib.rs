@@ -1,0 +1,370 @@
+//! A snake arena whose every call is proved, for Rust programs: crate bindings' static library behind safe functions.
+//!
+//! ```no_run
+//! # fn main() -> Result<(), lundaspro::Refusal> {
+//! use lundaspro::Setting;
+//! let setting = Setting { snakes: 2, grid: 3, size: 1, food: 1, ..Setting::default() };
+//! let start = setting.initial_state()?;
+//! let drawn = start.draw(2)?;
+//! let moved = drawn.next.step(&setting, &[0, 0])?;
+//! println!("over: {}, due: {}", moved.terminal, moved.next.words()[2]);
+//! # Ok(())
+//! # }
+//! ```
+//!
+//! Everything here owns its memory; module [`lend`] has the same calls over the caller's slices.
+pub mod lend;
+mod raw;
+mod refusal;
+
+pub use refusal::Refusal;
+
+/// An image has at most this many words.
+pub const IMAGE_WORDS: usize = 9253;
+/// A draw lists at most this many cells.
+pub const LIST_WORDS: usize = 20;
+/// An observation has at most this many numbers.
+pub const PLANE_NUMBERS: usize = 5120;
+
+/// A match's setting.
+#[derive(Clone, Copy, Debug, Default, PartialEq, Eq)]
+pub struct Setting {
+    pub snakes: u64,
+    pub grid: i32,
+    /// The initial length.
+    pub size: u64,
+    /// play_to_last.
+    pub last: bool,
+    /// win_food_lead.
+    pub lead: Option<u64>,
+    /// The initial food count.
+    pub food: u64,
+    /// max_ticks; no call reads it.
+    pub ticks: Option<u64>,
+}
+
+impl Setting {
+    fn flat(&self) -> raw::Setting {
+        raw::Setting {
+            snakes: self.snakes,
+            grid: self.grid,
+            size: self.size,
+            last: self.last,
+            lead_set: self.lead.is_some(),
+            lead: self.lead.unwrap_or(0),
+            food: self.food,
+            ticks_set: self.ticks.is_some(),
+            ticks: self.ticks.unwrap_or(0),
+        }
+    }
+
+    /// Refusals 1 to 12.
+    pub fn validate(&self) -> Result<(), Refusal> {
+        Refusal::check(unsafe { raw::lundaspro_validate(self.flat()) })
+    }
+
+    /// Refusals 1 to 12.
+    pub fn initial_state(&self) -> Result<Image, Refusal> {
+        let mut words = vec![0; IMAGE_WORDS];
+        let count = lend::initial_state(self, &mut words)?;
+        Ok(Image::cut(words, count))
+    }
+}
+
+/// How a snake died.
+#[derive(Clone, Copy, Debug, PartialEq, Eq, Hash)]
+pub enum Cause {
+    Wall,
+    SelfBody,
+    OppBody,
+    HeadOn,
+}
+
+/// What a step brought one snake.
+#[derive(Clone, Copy, Debug, Default, PartialEq, Eq, Hash)]
+pub struct Event {
+    pub ate: bool,
+    pub died: bool,
+    pub cause: Option<Cause>,
+    pub killed: bool,
+    pub won: bool,
+    pub lost: bool,
+    pub drew: bool,
+    pub survived: bool,
+}
+
+impl Event {
+    /// The event of a number as the library writes it; other bits are ignored.
+    pub fn from_number(number: u16) -> Event {
+        Event {
+            ate: number & 1 != 0,
+            died: number & 2 != 0,
+            cause: match number / 256 {
+                1 => Some(Cause::Wall),
+                2 => Some(Cause::SelfBody),
+                3 => Some(Cause::OppBody),
+                4 => Some(Cause::HeadOn),
+                _ => None,
+            },
+            killed: number & 4 != 0,
+            won: number & 8 != 0,
+            lost: number & 16 != 0,
+            drew: number & 32 != 0,
+            survived: number & 64 != 0,
+        }
+    }
+
+    pub fn number(self) -> u16 {
+        let cause = match self.cause {
+            None => 0,
+            Some(Cause::Wall) => 1,
+            Some(Cause::SelfBody) => 2,
+            Some(Cause::OppBody) => 3,
+            Some(Cause::HeadOn) => 4,
+        };
+        let flags = [
+            self.ate,
+            self.died,
+            self.killed,
+            self.won,
+            self.lost,
+            self.drew,
+            self.survived,
+        ];
+        flags
+            .iter()
+            .enumerate()
+            .map(|(bit, &flag)| u16::from(flag) << bit)
+            .sum::<u16>()
+            + 256 * cause
+    }
+}
+
+/// A step's answer.
+#[derive(Clone, Debug, PartialEq, Eq)]
+pub struct Step {
+    pub next: Image,
+    pub terminal: bool,
+    /// One for each snake.
+    pub events: Vec<Event>,
+}
+
+/// A draw's answer.
+#[derive(Clone, Debug, PartialEq, Eq)]
+pub struct Draw {
+    pub next: Image,
+    /// The cells in the order drawn.
+    pub cells: Vec<u16>,
+}
+
+/// Who acts next.
+#[derive(Clone, Copy, Debug, PartialEq, Eq)]
+pub enum Actor {
+    Chance,
+    Simultaneous,
+}
+
+/// The words of a state. Each call checks them anew, so that any words may stand here.
+#[derive(Clone, Debug, PartialEq, Eq, Hash)]
+pub struct Image(Vec<u16>);
+
+impl Image {
+    /// A well-formed image, or refusal 20.
+    pub fn checked(words: Vec<u16>) -> Result<Image, Refusal> {
+        let image = Image(words);
+        Refusal::check(if image.is_well_formed() { 0 } else { 20 })?;
+        Ok(image)
+    }
+
+    /// Any words.
+    pub fn unchecked(words: Vec<u16>) -> Image {
+        Image(words)
+    }
+
+    fn cut(mut words: Vec<u16>, count: usize) -> Image {
+        words.truncate(count);
+        words.shrink_to_fit();
+        Image(words)
+    }
+
+    pub fn words(&self) -> &[u16] {
+        &self.0
+    }
+
+    pub fn into_words(self) -> Vec<u16> {
+        self.0
+    }
+
+    pub fn is_well_formed(&self) -> bool {
+        unsafe { raw::lundaspro_well_formed(self.0.as_ptr(), self.0.len()) }
+    }
+
+    /// A snake's body, head first; nothing for a malformed image or no such snake.
+    pub fn body(&self, snake: u64) -> &[u16] {
+        let part = unsafe { raw::lundaspro_body(self.0.as_ptr(), self.0.len(), snake) };
+        &self.0[part.start..part.start + part.len]
+    }
+
+    /// Refusals 1 to 12, 20, 21, 22, 24, 25.
+    pub fn step(&self, setting: &Setting, actions: &[u64]) -> Result<Step, Refusal> {
+        let mut words = vec![0; IMAGE_WORDS];
+        let a = lend::step(setting, &self.0, actions, &mut words)?;
+        Ok(Step {
+            next: Image::cut(words, a.words),
+            terminal: a.terminal,
+            events: a.events[..actions.len()].to_vec(),
+        })
+    }
+
+    /// Refusals 20, 23, 28.
+    pub fn count(&self) -> Result<u64, Refusal> {
+        lend::count(&self.0)
+    }
+
+    /// Refusals 20, 23, 28, 27.
+    pub fn draw(&self, index: u64) -> Result<Draw, Refusal> {
+        let mut words = vec![0; IMAGE_WORDS];
+        let mut list = [0; LIST_WORDS];
+        let a = lend::draw(&self.0, index, &mut words, &mut list)?;
+        Ok(Draw {
+            next: Image::cut(words, a.words),
+            cells: list[..a.cells].to_vec(),
+        })
+    }
+
+    /// The index whose draw gives that list. Refusals 20, 23, 28, 30.
+    pub fn rank(&self, list: &[u16]) -> Result<u64, Refusal> {
+        lend::rank(&self.0, list)
+    }
+
+    /// Five planes of g² numbers. Refusals 20, 26.
+    pub fn observe(&self, agent: u64) -> Result<Vec<f32>, Refusal> {
+        let mut obs = vec![0.0; PLANE_NUMBERS];
+        let count = lend::observe(&self.0, agent, &mut obs)?;
+        obs.truncate(count);
+        Ok(obs)
+    }
+
+    /// `None` where a snake is dead. Refusal 20.
+    pub fn length_cell(&self) -> Result<Option<u64>, Refusal> {
+        let a = unsafe { raw::lundaspro_length_cell(self.0.as_ptr(), self.0.len()) };
+        Refusal::check(a.refusal).map(|()| a.some.then_some(a.key))
+    }
+
+    /// Refusal 20.
+    pub fn actor(&self) -> Result<Actor, Refusal> {
+        let a = unsafe { raw::lundaspro_actor(self.0.as_ptr(), self.0.len()) };
+        Refusal::check(a.refusal).map(|()| {
+            if a.chance {
+                Actor::Chance
+            } else {
+                Actor::Simultaneous
+            }
+        })
+    }
+
+    /// Actions 0, 1 and 2, or none. Refusals 20, 26.
+    pub fn legal_actions(&self, agent: u64) -> Result<&'static [u64], Refusal> {
+        let a = unsafe { raw::lundaspro_legal_actions(self.0.as_ptr(), self.0.len(), agent) };
+        Refusal::check(a.refusal).map(|()| &[0, 1, 2][..usize::from(a.actions)])
+    }
+
+    /// The event with its survival flag set to whether the agent lives. Refusals 20, 26.
+    pub fn truncation(&self, agent: u64, event: Event) -> Result<Event, Refusal> {
+        let a = unsafe {
+            raw::lundaspro_truncation(self.0.as_ptr(), self.0.len(), agent, event.number())
+        };
+        Refusal::check(a.refusal).map(|()| Event::from_number(a.event))
+    }
+}
+
+/// What each flag of an event is worth.
+#[derive(Clone, Copy, Debug, Default, PartialEq)]
+pub struct Weights {
+    pub step: f64,
+    pub food: f64,
+    pub loss: f64,
+    pub draw: f64,
+    pub kill: f64,
+    pub win: f64,
+    pub survival: f64,
+}
+
+/// Refusal 31, for infinities and NaN.
+pub fn reward(weights: &Weights, event: Event) -> Result<f64, Refusal> {
+    let w = raw::Weights {
+        step: weights.step,
+        food: weights.food,
+        loss: weights.loss,
+        draw: weights.draw,
+        kill: weights.kill,
+        win: weights.win,
+        survival: weights.survival,
+    };
+    let a = unsafe { raw::lundaspro_reward(w, event.number()) };
+    Refusal::check(a.refusal).map(|()| a.sum)
+}
+
+/// The shape of what is seen or done.
+#[derive(Clone, Copy, Debug, PartialEq)]
+pub enum Space {
+    Box {
+        planes: usize,
+        high: usize,
+        wide: usize,
+        low: f32,
+        top: f32,
+    },
+    Discrete(usize),
+}
+
+fn space(a: raw::Space) -> Result<Space, Refusal> {
+    Refusal::check(a.refusal)?;
+    if a.discrete {
+        return Ok(Space::Discrete(a.count));
+    }
+    Ok(Space::Box {
+        planes: a.planes,
+        high: a.high,
+        wide: a.wide,
+        low: a.low,
+        top: a.top,
+    })
+}
+
+/// Refusal 5.
+pub fn observation_space(grid: i32) -> Result<Space, Refusal> {
+    space(unsafe { raw::lundaspro_observation_space(grid) })
+}
+
+/// Three actions: never refused.
+pub fn action_space() -> Result<Space, Refusal> {
+    space(unsafe { raw::lundaspro_action_space() })
+}
+
+#[derive(Clone, Copy, Debug, PartialEq, Eq, Hash)]
+#[repr(u8)]
+pub enum Heading {
+    Up,
+    Right,
+    Down,
+    Left,
+}
+
+#[derive(Clone, Copy, Debug, PartialEq, Eq, Hash)]
+#[repr(u8)]
+pub enum Action {
+    Forward,
+    TurnLeft,
+    TurnRight,
+}
+
+/// The heading after an action.
+pub fn relative_to_absolute(heading: Heading, action: Action) -> Heading {
+    match unsafe { raw::lundaspro_relative_to_absolute(heading as u8, action as u8) } {
+        0 => Heading::Up,
+        1 => Heading::Right,
+        2 => Heading::Down,
+        _ => Heading::Left,
+    }
+}

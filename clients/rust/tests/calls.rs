@@ -1,0 +1,21 @@
+// The checks, one test each.
+mod checks;
+
+macro_rules! tests {
+    ($($name:ident)*) => {
+        $(#[test] fn $name() {
+            let (_, check) = checks::ALL.iter().find(|(name, _)| *name == stringify!($name)).expect("listed");
+            check();
+        })*
+
+        #[test]
+        fn every_check_is_a_test() {
+            assert_eq!(checks::ALL.iter().map(|(name, _)| *name).collect::<Vec<_>>(), [$(stringify!($name)),*]);
+        }
+    };
+}
+
+tests! {
+    sample_match settings draws longest_list turned_picture facing_neighbours length_cells refused_images refused_steps refused_draws short_buffers
+    rewards turns events_as_numbers spaces sentences
+}

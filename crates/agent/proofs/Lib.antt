@@ -1,0 +1,4 @@
+pub mod Sizes
+pub mod Keys
+pub mod Gates
+pub mod Theorems

@@ -1,0 +1,4 @@
+pub mod Numbers
+pub mod Saying
+pub mod Lying
+pub mod Theorems

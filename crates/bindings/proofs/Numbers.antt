@@ -1,0 +1,61 @@
+-- Numbers past the last that means something, and the numbers that a step tells. Assumes nothing.
+use Prim.Native.Nat.{ℕ, zero, suc, _+_, _≤_, _<_}
+use mathlib.Core.Path.{_≡_, refl, sym, ap, _∙_}
+use mathlib.Core.List.{List}
+use native.Mathlib.Omega.{arith}
+use lib.ListN.{length, getD, set}
+use Rattle.lists.specs.Lists.{writeAt, overFront}
+use Rattle.lists.specs.Below.{eachBelow}
+use Rattle.lists.proofs.Below.{each-next, each-long}
+use Rattle.lists.proofs.Runs.{write-one}
+use Rattle.lists.proofs.Writes.{write-front, write-none}
+use Rattle.rules.specs.Headings.{actionOf, numberOf}
+use Rattle.rules.specs.Events.{blank}
+use Rattle.rules.specs.declared.Heading.{Heading}
+use Rattle.rules.specs.declared.Heading.the-variants.{Up, Right, Down, Left}
+use Rattle.rules.specs.declared.RelativeAction.the-variants.{TurnRight}
+use Rattle.rules.specs.declared.Cause.the-variants.{NoCause}
+use Rattle.rules.specs.declared.Event.{Event}
+use Rattle.bindings.specs.Flat.{causeIn, eventNumber, tellsOf}
+
+pub action-last : (n : ℕ) → 2 ≤ n → TurnRight ≡ actionOf n
+action-last zero h = absurd (omega arith)
+action-last (suc zero) h = absurd (omega arith)
+action-last (suc (suc k)) h = refl
+
+pub cause-past : (n : ℕ) → 5 ≤ n → NoCause ≡ causeIn n
+cause-past zero h = absurd (omega arith)
+cause-past (suc zero) h = absurd (omega arith)
+cause-past (suc (suc zero)) h = absurd (omega arith)
+cause-past (suc (suc (suc zero))) h = absurd (omega arith)
+cause-past (suc (suc (suc (suc zero)))) h = absurd (omega arith)
+cause-past (suc (suc (suc (suc (suc k))))) h = refl
+
+pub heading-small : (h : Heading) → numberOf h ≤ 3
+heading-small Up = omega arith
+heading-small Right = omega arith
+heading-small Down = omega arith
+heading-small Left = omega arith
+
+-- ---- the loop that tells
+
+abbrev pub numberAt : List Event → ℕ → ℕ
+numberAt es i = eventNumber (getD es i blank)
+
+pub tell-none : (d : List ℕ) (es : List Event) → d ≡ writeAt d 0 (eachBelow 0 (numberAt es))
+unfolding eachBelow
+tell-none d es = sym (write-none d 0)
+
+pub tell-one : (d o : List ℕ) (es : List Event) (i x : ℕ) → i < length d → length o ≡ length d → o ≡ writeAt d 0 (eachBelow i (numberAt es))
+    → x ≡ numberAt es i → set o i x ≡ writeAt d 0 (eachBelow (i + 1) (numberAt es))
+tell-one d o es i x h l q e =
+    let n = each-long i (numberAt es) in
+    let z : 0 + length (eachBelow i (numberAt es)) < length d = omega (arith, n, h) in
+    let y : i ≡ 0 + length (eachBelow i (numberAt es)) = omega (arith, n) in
+    ap (set o i) e
+    ∙ write-one d o (eachBelow i (numberAt es)) 0 i (numberAt es i) z l y q
+    ∙ ap (writeAt d 0) (sym (each-next (numberAt es) i))
+
+pub told-all : (d : List ℕ) (es : List Event) → writeAt d 0 (eachBelow 8 (numberAt es)) ≡ overFront (tellsOf es) d
+unfolding tellsOf
+told-all d es = write-front d (eachBelow 8 (numberAt es))

@@ -1,0 +1,209 @@
+-- The flat forms lose nothing: an event's number tells the event, refusal 0 that an answer came, and two flat answers that meet one
+-- promise are equal, with the lent memory. Assumes nothing.
+use Prim.Native.Nat.{ℕ, zero, suc, _*_, _-_, _^_}
+use mathlib.Core.Path.{_≡_, refl, sym, ap, _∙_}
+use mathlib.Core.Bool.{Bool, true, false, not, _&&_, _||_}
+use mathlib.Core.List.{List, [], _∷_}
+use lib.Dec.{eqb, ltb}
+use borrow.Author.Tests.{eqb-true}
+use lib.IntN.{ℤ, pos}
+use lib.Signed.{ltZ}
+use lib.Ieee.{Float}
+use lib.ListN.{getD, length}
+use Rattle.lists.specs.Choice.{_if_else_}
+use Rattle.lists.specs.Lists.{every}
+use Rattle.lists.proofs.Tests.{and-left, and-right, every-at}
+use Rattle.rules.specs.State.{snakeOf}
+use Rattle.rules.specs.Image.{snakesIn, dueIn, areaIn, imageOf, stateOf, wellFormed}
+use Rattle.rules.specs.Step.{Outcome, stepped}
+use Rattle.rules.specs.Chance.{outcomes, drawn, afterDraw, rankOf, canRank}
+use Rattle.rules.specs.View.{view, lit}
+use Rattle.rules.specs.LengthKey.{lengthKey}
+use Rattle.rules.specs.Turns.{chanceActs, legalFor, truncated}
+use Rattle.rules.specs.Reward.{allFinite, rewardOf}
+use Rattle.rules.specs.Setting.{settingCheck, sideOf, initialState}
+use Rattle.rules.specs.Says.{Says, refuses, gives, first, box}
+use Rattle.rules.specs.Calls.{settingSays, initialSays, stepSays, differs, badAction, observeSays, countSays, drawSays, rankSays, actorSays, legalSays, keySays, truncationSays, rewardSays, spaceSays}
+use Rattle.rules.specs.declared.Setting.{Setting}
+use Rattle.rules.specs.declared.Weights.{Weights}
+use Rattle.rules.specs.declared.Cause.{Cause}
+use Rattle.rules.specs.declared.Cause.the-variants.{NoCause, Wall, SelfBody, OppBody, HeadOn}
+use Rattle.rules.specs.declared.Event.{Event}
+use Rattle.bindings.specs.declared.FlatWritten.{FlatWritten}
+use Rattle.bindings.specs.declared.FlatStepped.{FlatStepped}
+use Rattle.bindings.specs.declared.FlatDrawn.{FlatDrawn}
+use Rattle.bindings.specs.declared.FlatPart.{FlatPart}
+use Rattle.bindings.specs.Flat.{causeIn, causeNumber, eventIn, eventNumber, FlatBody, FlatStarts, Tells, FlatObserves, FlatDraws}
+
+-- ---- the number of an event, read again, is the event: tried for all 640
+
+unfoldable bothFlags : (Bool → Bool) → Bool
+bothFlags p = p true && p false
+
+flag-of : (p : Bool → Bool) → bothFlags p ≡ true → (b : Bool) → p b ≡ true
+unfolding bothFlags
+flag-of p h true = and-left (p true) (p false) h
+flag-of p h false = and-right (p true) (p false) h
+
+unfoldable allCauses : (Cause → Bool) → Bool
+allCauses p = every (p NoCause ∷ p Wall ∷ p SelfBody ∷ p OppBody ∷ p HeadOn ∷ [])
+
+cause-of : (p : Cause → Bool) → allCauses p ≡ true → (c : Cause) → p c ≡ true
+unfolding allCauses
+cause-of p h NoCause = every-at (p NoCause ∷ p Wall ∷ p SelfBody ∷ p OppBody ∷ p HeadOn ∷ []) 0 h
+cause-of p h Wall = every-at (p NoCause ∷ p Wall ∷ p SelfBody ∷ p OppBody ∷ p HeadOn ∷ []) 1 h
+cause-of p h SelfBody = every-at (p NoCause ∷ p Wall ∷ p SelfBody ∷ p OppBody ∷ p HeadOn ∷ []) 2 h
+cause-of p h OppBody = every-at (p NoCause ∷ p Wall ∷ p SelfBody ∷ p OppBody ∷ p HeadOn ∷ []) 3 h
+cause-of p h HeadOn = every-at (p NoCause ∷ p Wall ∷ p SelfBody ∷ p OppBody ∷ p HeadOn ∷ []) 4 h
+
+abbrev event : Cause → Bool → Bool → Bool → Bool → Bool → Bool → Bool → Event
+event c a d k w l x y = record { ate = a; died = d; cause = c; killed = k; won = w; lost = l; drew = x; survived = y }
+
+abbrev allEvents : (Event → Bool) → Bool
+allEvents p =
+    allCauses (λ c. bothFlags (λ a. bothFlags (λ d. bothFlags (λ k. bothFlags (λ w. bothFlags (λ l. bothFlags (λ x. bothFlags (λ y. p (event c a d k w l x y)))))))))
+
+event-of : (p : Event → Bool) → allEvents p ≡ true → (e : Event) → p e ≡ true
+event-of p h e =
+    flag-of _ (flag-of _ (flag-of _ (flag-of _ (flag-of _ (flag-of _ (flag-of _ (cause-of _ h (e .cause)) (e .ate)) (e .died)) (e .killed)) (e .won)) (e .lost)) (e .drew)) (e .survived)
+
+abbrev sameFlag : Bool → Bool → Bool
+sameFlag a b = b if a else not b
+
+flag-is : (a b : Bool) → sameFlag a b ≡ true → a ≡ b
+flag-is true b h = sym h
+flag-is false true h = h
+flag-is false false h = refl
+
+abbrev parts : Event → Event → List Bool
+parts e f =
+    sameFlag (e .ate) (f .ate) ∷ sameFlag (e .died) (f .died) ∷ eqb (causeNumber (e .cause)) (causeNumber (f .cause)) ∷ sameFlag (e .killed) (f .killed)
+    ∷ sameFlag (e .won) (f .won) ∷ sameFlag (e .lost) (f .lost) ∷ sameFlag (e .drew) (f .drew) ∷ sameFlag (e .survived) (f .survived) ∷ []
+
+cause-back : (c : Cause) → causeIn (causeNumber c) ≡ c
+cause-back NoCause = refl
+cause-back Wall = refl
+cause-back SelfBody = refl
+cause-back OppBody = refl
+cause-back HeadOn = refl
+
+same-event : (e f : Event) → every (parts e f) ≡ true → e ≡ f
+same-event e f h =
+    let at : (k : ℕ) → getD (parts e f) k true ≡ true = λ k. every-at (parts e f) k h in
+    let c = sym (cause-back (e .cause)) ∙ ap causeIn (eqb-true (causeNumber (e .cause)) (causeNumber (f .cause)) (at 2)) ∙ cause-back (f .cause) in
+    λ i. event (c i) (flag-is (e .ate) (f .ate) (at 0) i) (flag-is (e .died) (f .died) (at 1) i) (flag-is (e .killed) (f .killed) (at 3) i) (flag-is (e .won) (f .won) (at 4) i)
+    (flag-is (e .lost) (f .lost) (at 5) i) (flag-is (e .drew) (f .drew) (at 6) i) (flag-is (e .survived) (f .survived) (at 7) i)
+
+tried : allEvents (λ e. every (parts (eventIn (eventNumber e)) e)) ≡ true
+unfolding bothFlags allCauses eventNumber every
+tried = refl
+
+pub event-back : (e : Event) → eventIn (eventNumber e) ≡ e
+event-back e = same-event (eventIn (eventNumber e)) e (event-of (λ e. every (parts (eventIn (eventNumber e)) e)) tried e)
+
+-- ---- no call refuses by 0, so that refusal 0 says that an answer came
+
+unfoldable pub named : {A : Type 0} → Says A → Bool
+named (refuses zero) = false
+named (refuses (suc k)) = true
+named (gives a) = true
+
+module _ {A : Type 0} where
+  none : (a : A) → named (gives a) ≡ true
+  unfolding named
+  none a = refl
+
+  or : (b : Bool) (k : ℕ) (x : Says A) → named x ≡ true → named (refuses (suc k) if b else x) ≡ true
+  unfolding named
+  or true k x h = refl
+  or false k x h = h
+
+  after : (k : ℕ) (x : Says A) → named x ≡ true → named (first k x) ≡ true
+  unfolding named
+  after zero x h = h
+  after (suc k) x h = refl
+
+module _ (w : List ℕ) (a : ℕ) where
+  pub count-named : named (countSays w) ≡ true
+  unfolding countSays
+  count-named = or (not (wellFormed w)) 19 _ (or (eqb (dueIn w) 0) 22 _ (or (ltb (2 ^ 64 - 1) (outcomes (stateOf w))) 27 _ (none (outcomes (stateOf w)))))
+
+  pub rank-named : (l : List ℕ) → named (rankSays w l) ≡ true
+  unfolding rankSays
+  rank-named l = or (not (wellFormed w)) 19 _ (or (eqb (dueIn w) 0) 22 _ (or (ltb (2 ^ 64 - 1) (outcomes (stateOf w))) 27 _ (or (not (canRank (stateOf w) l)) 29 _ (none (rankOf (stateOf w) l)))))
+
+  pub draw-named : (room list : ℕ) → named (drawSays w a room list) ≡ true
+  unfolding drawSays
+  draw-named room list =
+      let t = stateOf w in
+      or (not (wellFormed w)) 19 _
+      (or (eqb (dueIn w) 0) 22 _
+      (or (ltb (2 ^ 64 - 1) (outcomes t)) 27 _
+      (or (not (ltb a (outcomes t))) 26 _
+      (or (ltb room (length (imageOf (afterDraw t a))) || ltb list (length (drawn t a))) 28 _ (none (record { next = afterDraw t a; cells = drawn t a }))))))
+
+  pub observe-named : (room : ℕ) → named (observeSays w a room) ≡ true
+  unfolding observeSays
+  observe-named room = or (not (wellFormed w)) 19 _ (or (not (ltb a (snakesIn w))) 25 _ (or (ltb room (5 * areaIn w)) 28 _ (none (view (stateOf w) a))))
+
+  pub actor-named : named (actorSays w) ≡ true
+  unfolding actorSays
+  actor-named = or (not (wellFormed w)) 19 _ (none (chanceActs (stateOf w)))
+
+  pub key-named : named (keySays w) ≡ true
+  unfolding keySays
+  key-named = or (not (wellFormed w)) 19 _ (none (lengthKey (stateOf w)))
+
+  pub legal-named : named (legalSays w a) ≡ true
+  unfolding legalSays
+  legal-named = or (not (wellFormed w)) 19 _ (or (not (ltb a (snakesIn w))) 25 _ (none (legalFor (stateOf w) a)))
+
+  pub truncation-named : (e : Event) → named (truncationSays w a e) ≡ true
+  unfolding truncationSays
+  truncation-named e = or (not (wellFormed w)) 19 _ (or (not (ltb a (snakesIn w))) 25 _ (none (truncated e (snakeOf (stateOf w) a .alive))))
+
+module _ (s : Setting) where
+  pub setting-named : named (settingSays s) ≡ true
+  unfolding settingSays
+  setting-named = after (settingCheck s) _ (none tt)
+
+  pub initial-named : (room : ℕ) → named (initialSays s room) ≡ true
+  unfolding initialSays
+  initial-named room = after (settingCheck s) _ (or (ltb room (length (imageOf (initialState s)))) 28 _ (none (initialState s)))
+
+  pub step-named : (w acts : List ℕ) (room : ℕ) → named (stepSays s w acts room) ≡ true
+  unfolding stepSays
+  step-named w acts room =
+      let o = stepped s (stateOf w) acts in
+      after (settingCheck s) _
+      (or (not (wellFormed w)) 19 _
+      (or (differs s w) 20 _
+      (or (ltb 0 (dueIn w)) 21 _
+      (or (not (eqb (length acts) (snakesIn w))) 23 _ (or (badAction (stateOf w) acts) 24 _ (or (ltb room (length (imageOf (o .next)))) 28 _ (none o)))))))
+
+pub reward-named : (w : Weights) (e : Event) → named (rewardSays w e) ≡ true
+unfolding rewardSays
+reward-named w e = or (not (allFinite w)) 30 _ (none (rewardOf w e))
+
+pub space-named : (g : ℤ) → named (spaceSays g) ≡ true
+unfolding spaceSays
+space-named g = or (ltZ (pos 32) g || ltZ g (pos 1)) 4 _ (none (box 5 (sideOf g) (sideOf g) (lit false) (lit true)))
+
+-- ---- two answers that meet one promise
+
+pub one-body : (w : List ℕ) (i : ℕ) (r r′ : FlatPart) → FlatBody w i r → FlatBody w i r′ → r ≡ r′
+one-body w i r r′ p p′ = λ k. record { start = (p .start ∙ sym (p′ .start)) k; len = (p .len ∙ sym (p′ .len)) k }
+
+pub one-start : (s : Setting) (old new new′ : List ℕ) (r r′ : FlatWritten) → FlatStarts s old new r → FlatStarts s old new′ r′ → (r ≡ r′) × (new ≡ new′)
+one-start s old new new′ r r′ p p′ = (p .answer ∙ sym (p′ .answer), p .words ∙ sym (p′ .words))
+
+pub one-step : (x : Says Outcome) (old new new′ told tells tells′ : List ℕ) (r r′ : FlatStepped) → Tells x old new told tells r → Tells x old new′ told tells′ r′
+    → (r ≡ r′) × (new ≡ new′) × (tells ≡ tells′)
+one-step x old new new′ told tells tells′ r r′ p p′ = (p .answer ∙ sym (p′ .answer), p .words ∙ sym (p′ .words), p .events ∙ sym (p′ .events))
+
+pub one-view : (w : List ℕ) (a : ℕ) (old new new′ : List Float) (r r′ : FlatWritten) → FlatObserves w a old new r → FlatObserves w a old new′ r′ → (r ≡ r′) × (new ≡ new′)
+one-view w a old new new′ r r′ p p′ = (p .answer ∙ sym (p′ .answer), p .numbers ∙ sym (p′ .numbers))
+
+pub one-draw : (w : List ℕ) (i : ℕ) (old new new′ list new-list new-list′ : List ℕ) (r r′ : FlatDrawn) → FlatDraws w i old new list new-list r → FlatDraws w i old new′ list new-list′ r′
+    → (r ≡ r′) × (new ≡ new′) × (new-list ≡ new-list′)
+one-draw w i old new new′ list new-list new-list′ r r′ p p′ = (p .answer ∙ sym (p′ .answer), p .words ∙ sym (p′ .words), p .list ∙ sym (p′ .list))

@@ -1,0 +1,95 @@
+// What a caller's numbers mean: settings, weights, events.
+use crate::FlatSetting;
+use crate::FlatWeights;
+use rules::Cause;
+use rules::Event;
+use rules::Limit;
+use rules::RelativeAction;
+use rules::Setting;
+use rules::Weights;
+ghost use mathlib.Core.Path.{_≡_};
+ghost use Rattle.rules.specs.Headings.{actionOf};
+ghost use Rattle.bindings.specs.Flat.{isOdd, limitIn, settingIn, weightsIn, causeIn, eventIn};
+
+fn limit_in(set: bool, number: u64) -> Limit
+    ensures { λ r. ⌜ r ≡ limitIn set number ⌝ }
+{
+    if set { Limit::Is(number) } else { Limit::Unset }
+}
+
+pub fn setting_in(s: FlatSetting) -> Setting
+    ensures { λ r. ⌜ r ≡ settingIn s ⌝ }
+{
+    let lead = limit_in(s.lead_set, s.lead);
+    let ticks = limit_in(s.ticks_set, s.ticks);
+    Setting {
+        snakes: s.snakes,
+        grid: s.grid,
+        size: s.size,
+        last: s.last,
+        lead,
+        food: s.food,
+        ticks,
+    }
+}
+
+pub fn weights_in(w: FlatWeights) -> Weights
+    ensures { λ r. ⌜ r ≡ weightsIn w ⌝ }
+{
+    Weights {
+        step: w.step,
+        food: w.food,
+        loss: w.loss,
+        draw: w.draw,
+        kill: w.kill,
+        win: w.win,
+        survival: w.survival,
+    }
+}
+
+fn cause_in(number: u16) -> Cause
+    ensures { λ r. ⌜ r ≡ causeIn number ⌝ }
+{
+    match number {
+        0 => Cause::NoCause,
+        1 => Cause::Wall,
+        2 => Cause::SelfBody,
+        3 => Cause::OppBody,
+        4 => Cause::HeadOn,
+        _ => Cause::NoCause,
+    }
+}
+
+fn is_odd(number: u16) -> bool
+    ensures { λ r. ⌜ r ≡ isOdd number ⌝ }
+{
+    number % 2 == 1
+}
+
+// Bits that mean nothing are not read.
+pub fn event_in(number: u16) -> Event
+    ensures { λ r. ⌜ r ≡ eventIn number ⌝ }
+{
+    let cause = cause_in(number / 256);
+    Event {
+        ate: is_odd(number),
+        died: is_odd(number / 2),
+        cause,
+        killed: is_odd(number / 4),
+        won: is_odd(number / 8),
+        lost: is_odd(number / 16),
+        drew: is_odd(number / 32),
+        survived: is_odd(number / 64),
+    }
+}
+
+// A number above 2 is read as 2.
+pub fn action_in(number: u8) -> RelativeAction
+    ensures { λ r. ⌜ r ≡ actionOf number ⌝ }
+{
+    match number {
+        0 => RelativeAction::Forward,
+        1 => RelativeAction::TurnLeft,
+        _ => RelativeAction::TurnRight,
+    }
+}

@@ -1,0 +1,24 @@
+// All living snakes move, and all are judged on that one world.
+mod causes;
+mod moves;
+
+pub use causes::judge;
+use rules::Cause;
+use rules::Heading;
+use rules::Place;
+
+// A snake after the move: the rest of its body is the part of the image of `keep` words from `start` on.
+pub struct Move {
+    pub moves: bool,
+    pub heading: Heading,
+    pub eats: bool,
+    pub head: Place,
+    pub start: u16,
+    pub keep: u16,
+}
+
+// A move and what it led to.
+pub struct Judged {
+    pub moved: Move,
+    pub cause: Cause,
+}

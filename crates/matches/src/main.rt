@@ -1,0 +1,242 @@
+// Many stored matches in one input, each replayed as `replay` does it. A line `= NAME` begins a match and is printed, `> TEXT` is a line of the
+// match's input, `~ TEXT` its last one, whose newline is missing.
+use libc::STDIN_FILENO;
+use libc::STDOUT_FILENO;
+use reader::Reader;
+ghost use mathlib.Core.Path.{_≡_};
+ghost use Prim.Native.Nat.{_+_, _<_, _≤_};
+ghost use lib.ListN.{length};
+ghost use Rattle.reader.specs.Room.{Ready};
+
+// The match under way; how many bytes of the line's front came, up to two, and its mark; where to go on in what came; whether more may come.
+pub struct Frame {
+    pub reader: Reader,
+    pub column: u8,
+    pub mark: u8,
+    pub at: usize,
+    pub more: bool,
+}
+
+// No match is under way before the first name.
+fn idle() -> Reader
+    ensures { λ q. ⌜ (q .fill ≡ 0) × (q .desk .words ≡ 0) ⌝ }
+{
+    let r = reader::start();
+    let desk = r.desk;
+    Reader {
+        desk,
+        fill: 0,
+        at: 0,
+        on: false,
+    }
+}
+
+// The end of a match, and the start of the next.
+fn begin(
+    old: Reader,
+    line: &[u8],
+    image: &mut [u16],
+    next: &mut [u16],
+    list: &mut [u16],
+    out: &mut [u8],
+) -> Reader
+    requires { ⌜ Ready old (now line) (now image) (now next) (now out) ⌝ }
+    ensures { λ q. ⌜ Ready q (now (line .entry)) (now (image .exit)) (now (next .exit)) (now (out .exit)) ⌝ }
+{
+    reader::finish(old, line, image, next, list, out);
+    io::write_all(STDOUT_FILENO, b"= ");
+    reader::start()
+}
+
+// A byte of a line's front: the mark, then a space.
+fn take_front(
+    f: Frame,
+    byte: u8,
+    line: &[u8],
+    image: &mut [u16],
+    next: &mut [u16],
+    list: &mut [u16],
+    out: &mut [u8],
+) -> Reader
+    requires { ⌜ Ready (f .reader) (now line) (now image) (now next) (now out) ⌝ }
+    ensures { λ q. ⌜ Ready q (now (line .entry)) (now (image .exit)) (now (next .exit)) (now (out .exit)) ⌝ }
+{
+    let r = f.reader;
+    if f.column == 0 && byte == b'=' {
+        return begin(r, line, image, next, list, out);
+    }
+    r
+}
+
+// Text of a line: a name is printed, all else goes to the match.
+fn take_text(
+    f: Frame,
+    text: &[u8],
+    line: &mut [u8],
+    image: &mut [u16],
+    next: &mut [u16],
+    list: &mut [u16],
+    out: &mut [u8],
+) -> Reader
+    requires { ⌜ Ready (f .reader) (now line) (now image) (now next) (now out) ⌝ }
+    ensures { λ q. ⌜ Ready q (now (line .exit)) (now (image .exit)) (now (next .exit)) (now (out .exit)) ⌝ }
+{
+    let r = f.reader;
+    if f.mark == b'=' {
+        io::write_all(STDOUT_FILENO, text);
+        return r;
+    }
+    reader::take_all(r, text, line, image, next, list, out)
+}
+
+// Where the text of a line ends that has its newline at `end`: the match gets the newline too, but for a last line without one.
+fn text_end(mark: u8, end: usize, len: usize) -> usize
+    requires { ⌜ end < len ⌝ }
+    ensures { λ r. ⌜ (end ≤ r) × (r ≤ len) ⌝ }
+{
+    if mark == b'~' {
+        return end;
+    }
+    end + 1
+}
+
+fn mark_of(f: Frame, byte: u8) -> u8 {
+    if f.column == 0 { byte } else { f.mark }
+}
+
+// The next byte of a line's front, or the line's text as far as it came.
+fn take_some(
+    f: Frame,
+    part: &[u8],
+    line: &mut [u8],
+    image: &mut [u16],
+    next: &mut [u16],
+    list: &mut [u16],
+    out: &mut [u8],
+) -> Frame
+    requires { ⌜ Ready (f .reader) (now line) (now image) (now next) (now out) ⌝ }
+    requires { ⌜ f .at < length (now part) ⌝ }
+    ensures { λ q. ⌜ (Ready (q .reader) (now (line .exit)) (now (image .exit)) (now (next .exit)) (now (out .exit))) × (f .at < q .at) ⌝ }
+{
+    let at = f.at;
+    let column = f.column;
+    if column < 2 {
+        let after = at + 1;
+        let byte = part[at];
+        let mark = mark_of(f, byte);
+        let reader = take_front(f, byte, line, image, next, list, out);
+        return Frame {
+            reader,
+            column: column + 1,
+            mark,
+            at: after,
+            more: f.more,
+        };
+    }
+    let mark = f.mark;
+    let end = text::line_end(part, at);
+    let after = end + 1;
+    if end == part.len() {
+        let reader = take_text(f, &part[at..end], line, image, next, list, out);
+        return Frame {
+            reader,
+            column,
+            mark,
+            at: after,
+            more: f.more,
+        };
+    }
+    let last = text_end(mark, end, part.len());
+    let reader = take_text(f, &part[at..last], line, image, next, list, out);
+    Frame {
+        reader,
+        column: 0,
+        mark,
+        at: after,
+        more: f.more,
+    }
+}
+
+// All that came.
+fn take_part(
+    first: Frame,
+    part: &[u8],
+    line: &mut [u8],
+    image: &mut [u16],
+    next: &mut [u16],
+    list: &mut [u16],
+    out: &mut [u8],
+) -> Frame
+    requires { ⌜ Ready (first .reader) (now line) (now image) (now next) (now out) ⌝ }
+    ensures { λ q. ⌜ Ready (q .reader) (now (line .exit)) (now (image .exit)) (now (next .exit)) (now (out .exit)) ⌝ }
+{
+    let mut f = first;
+    while f.at < part.len() {
+        f = take_some(f, part, line, image, next, list, out);
+    }
+    f
+}
+
+// One read.
+fn read_some(
+    f: Frame,
+    line: &mut [u8],
+    image: &mut [u16],
+    next: &mut [u16],
+    list: &mut [u16],
+    out: &mut [u8],
+) -> Frame
+    requires { ⌜ Ready (f .reader) (now line) (now image) (now next) (now out) ⌝ }
+    ensures { λ q. ⌜ Ready (q .reader) (now (line .exit)) (now (image .exit)) (now (next .exit)) (now (out .exit)) ⌝ }
+{
+    let mut part = io::large_buffer();
+    let got = libc::read(STDIN_FILENO, &mut part);
+    let n = io::count(got, &part);
+    let reader = f.reader;
+    let start = Frame {
+        reader,
+        column: f.column,
+        mark: f.mark,
+        at: 0,
+        more: 0 < n,
+    };
+    take_part(start, &part[..n], line, image, next, list, out)
+}
+
+// As in `replay`, the loop counts its turns down, from a number that no run uses up.
+fn replay_all(
+    first: Frame,
+    line: &mut [u8],
+    image: &mut [u16],
+    next: &mut [u16],
+    list: &mut [u16],
+    out: &mut [u8],
+)
+    requires { ⌜ Ready (first .reader) (now line) (now image) (now next) (now out) ⌝ }
+{
+    let mut f = first;
+    let mut turns = u64::MAX;
+    while turns > 0 && f.more {
+        f = read_some(f, line, image, next, list, out);
+        turns -= 1;
+    }
+    let reader = f.reader;
+    reader::finish(reader, line, image, next, list, out);
+}
+
+fn main() {
+    let mut line = [0u8; 256];
+    let mut image = [0u16; 9253];
+    let mut next = [0u16; 9253];
+    let mut list = [0u16; 1024];
+    let mut out = [0u8; 512];
+    let reader = idle();
+    let first = Frame {
+        reader,
+        column: 0,
+        mark: 0,
+        at: 0,
+        more: true,
+    };
+    replay_all(first, &mut line, &mut image, &mut next, &mut list, &mut out);
+}

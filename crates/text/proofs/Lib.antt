@@ -1,0 +1,4 @@
+pub mod Cutting
+pub mod Reading
+pub mod Writing
+pub mod Feeding

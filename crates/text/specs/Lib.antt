@@ -1,0 +1,5 @@
+pub mod Numbers
+pub mod Fields
+pub mod Lines
+pub mod Split
+pub mod Text

@@ -1,0 +1,70 @@
+// The replay's text: the input cut into lines, lines read, pieces of lines written. The types that its modules share.
+mod bytes;
+mod fields;
+mod letters;
+mod lines;
+mod numbers;
+mod split;
+
+pub use bytes::put;
+pub use fields::more_if;
+pub use letters::put_body;
+pub use letters::put_events;
+pub use letters::put_head;
+pub use letters::put_places;
+pub use letters::put_refusal;
+pub use lines::read_first;
+pub use lines::read_later;
+use rules::Limit;
+use rules::Setting;
+pub use split::feed;
+pub use split::line_end;
+
+pub enum Num {
+    NoNumber,
+    Reads(u64),
+}
+
+pub enum Grid {
+    NoGrid,
+    GridIs(i32),
+}
+
+pub enum Bound {
+    NoBound,
+    Bounds(Limit),
+}
+
+pub enum Flag {
+    NoFlag,
+    Flagged(bool),
+}
+
+pub enum First {
+    NoFirst,
+    Opens(Setting),
+}
+
+pub enum Line {
+    NoLine,
+    DrawLine(u64),
+    MoveLine,
+}
+
+// A line after the first; a move's actions stand beside it.
+pub struct Entry {
+    pub line: Line,
+    pub acts: [u64; 8],
+}
+
+// A part of a line.
+pub struct Span {
+    pub from: usize,
+    pub to: usize,
+}
+
+// A number, and where the field after it starts.
+pub struct Got {
+    pub num: Num,
+    pub next: usize,
+}
