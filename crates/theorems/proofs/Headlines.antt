@@ -25,6 +25,8 @@ pub use Rattle.referee.proofs.Whole.{run-prints}
 pub use Rattle.rules.proofs.View.{ahead-above}
 -- Demand 2: a corpse changes no one's fate; a casualty that lost has someone alive
 pub use Rattle.rules.proofs.Step.{corpse-harmless, lost-to-someone}
+-- Demand 2: what is due after a step that is not terminal are the apples that are gone
+pub use Rattle.theorems.proofs.Eaten.{apples-gone}
 -- Demand 2: an agent cannot see other snakes' headings, alive flags, food due or birth
 pub use Rattle.view.proofs.Theorems.{hidden-unseen}
 -- Demand 2: truncation changes the survival flag alone

@@ -1,4 +1,5 @@
 pub mod Tables
 pub mod Refusals
+pub mod Eaten
 pub mod Definitions
 pub mod Headlines
