@@ -2,7 +2,7 @@
 use mathlib.Core.Path.{_≡_, refl, sym}
 use mathlib.Core.Logic.{inl, inr}
 use Prim.Native.Nat.{ℕ, zero, suc, _+_, _-_, _*_, _≤_, _<_}
-use native.Mathlib.Nat.{zero-mul, mul-assoc, mul-comm, suc-sub-suc, zero-lt-suc, not-suc-le-zero, mul-pos, le-of-suc-le-suc, le-refl, le-trans, eq-or-lt-of-le, le-mul-of-pos-right}
+use native.Mathlib.Nat.{zero-mul, mul-assoc, mul-comm, suc-sub-suc, zero-lt-suc, not-suc-le-zero, mul-pos, mul-le-mul, le-of-suc-le-suc, le-refl, le-trans, eq-or-lt-of-le, le-mul-of-pos-right}
 use native.Mathlib.Numerals.{add-one}
 use native.Mathlib.Omega.{arith}
 use lib.Arith.{le-zero}
@@ -61,3 +61,10 @@ falling-mono n j (suc k) h g = elim (eq-or-lt-of-le h) [
   | inr l ↦
       le-trans (falling-mono n j k (le-of-suc-le-suc l) (omega arith)) (rw (falling-last n k) (le-mul-of-pos-right (falling n k) (omega arith)))
 ]
+
+-- k factors are least where they end at 1
+pub falling-least : (n k : ℕ) → k ≤ n → factorial k ≤ falling n k
+unfolding falling factorial
+falling-least n zero h = le-refl 1
+falling-least zero (suc k) h = absurd (not-suc-le-zero h)
+falling-least (suc n) (suc k) h = mul-le-mul h (falling-least n k (le-of-suc-le-suc h))

@@ -4,12 +4,13 @@ use mathlib.Core.Logic.{_⊎_, inl, inr}
 use mathlib.Core.Bool.{Bool, true, false, _&&_, _||_, and-false, false≢true, true≢false}
 use mathlib.Core.List.{List, [], _∷_}
 use Prim.Native.Nat.{ℕ, zero, suc, _≤_, _<_}
+use native.Mathlib.Nat.{suc-ne-zero}
 use native.Mathlib.Omega.{arith}
 use lib.Dec.{eqb, ltb}
 use lib.ListN.{getD}
 use mir.Val.{boolByte}
 use borrow.Author.Tests.{eqb-true, eqb-false, eq-eqb, ne-eqb, ltb-true, ltb-false}
-use Rattle.lists.specs.Choice.{bit}
+use Rattle.lists.specs.Choice.{bit, firstOf}
 use Rattle.lists.specs.Lists.{every}
 
 -- a test, with its equation
@@ -112,3 +113,17 @@ every-on ts e = rw e
 pub every-none : every [] ≡ true
 unfolding every
 every-none = refl
+
+-- ---- the first number that is not 0
+
+pub first-some : (a b : ℕ) → (a ≡ 0 → ⊥) → firstOf a b ≡ a
+first-some zero b h = absurd (h refl)
+first-some (suc a) b h = refl
+
+pub first-none : (a b : ℕ) → firstOf a b ≡ 0 → a ≡ 0
+first-none zero b e = refl
+first-none (suc a) b e = e
+
+pub first-then : (a b : ℕ) → firstOf a b ≡ 0 → b ≡ 0
+first-then zero b e = e
+first-then (suc a) b e = absurd (suc-ne-zero a e)

@@ -9,6 +9,7 @@ use lib.ListN.{length, take, drop, length-append, length-drop}
 use Rattle.lists.specs.Choice.{_if_else_}
 use Rattle.lists.specs.Below.{filled}
 use Rattle.lists.specs.Lists.{overFront, writeAt}
+use Rattle.lists.proofs.Insert.{over-take}
 use Rattle.lists.proofs.Writes.{write-front}
 use Rattle.rules.specs.State.{State, count}
 use Rattle.rules.specs.Image.{imageOf, snakesIn}
@@ -24,7 +25,6 @@ use Rattle.referee.specs.Match.{Turn, snakesOf, endsBy, marked, moved, m
 use Rattle.referee.specs.declared.Match.{Match}
 use Rattle.referee.specs.declared.Desk.{Desk}
 use Rattle.referee.specs.declared.Turned.{Turned}
-use Rattle.referee.proofs.Saying.{front-back}
 use Rattle.referee.proofs.Showing.{line-shown, marks-shown}
 
 over-long : (s d : List ℕ) → length s ≤ length (overFront s d)
@@ -44,7 +44,7 @@ module _ {A : Type 0} (g : A → State) (old new : List ℕ) (n : ℕ) where
   done-by (refuses k) e w = let z : _≡_ {A = ℕ} 0 1 = cc in absurd (omega arith)
   done-by (gives a) e w =
       let p : n ≡ length (imageOf (g a)) = cc in
-      let f : take (n - 0) new ≡ imageOf (g a) = rw (sub-zero, p, w) (front-back (imageOf (g a)) old) in
+      let f : take (n - 0) new ≡ imageOf (g a) = rw (sub-zero, p, w) (over-take (imageOf (g a)) old) in
       let l : n ≤ length new = rw (p, w) (over-long (imageOf (g a)) old) in
       done a refl p w f l
 
@@ -112,7 +112,7 @@ pub moves-on : (x : Says Turn) (m : Match) (b old new out exit : List ℕ) (r : 
     → Plays x m b (writeAt b 0 (take (r .words - 0) new)) out exit r
 moves-on (refuses k) m b old new out exit r p e h = absurd (false≢true (sym (p .more) ∙ e))
 moves-on (gives t) m b old new out exit r p e h =
-    let f : take (r .words - 0) new ≡ imageOf (t .next) = rw (sub-zero, p .words, p .image) (front-back (imageOf (t .next)) old) in
+    let f : take (r .words - 0) new ≡ imageOf (t .next) = rw (sub-zero, p .words, p .image) (over-take (imageOf (t .next)) old) in
     let w : writeAt b 0 (take (r .words - 0) new) ≡ overFront (imageOf (t .next)) b = ap (writeAt b 0) f ∙ write-front b (imageOf (t .next)) in
     let l : length (imageOf (t .next)) ≤ length b = omega (arith, p .long, ap length (p .image), over-long (imageOf (t .next)) old) in
     record { more = p .more; game = p .game; words = p .words; image = w; long = ap length w ∙ over-same (imageOf (t .next)) b l; text = p .text }

@@ -1,15 +1,13 @@
 -- What a call that is not refused tells: its image has at most eight snakes and fits. Assumes nothing.
-use Prim.Native.Nat.{ℕ, zero, suc, _+_, _-_, _^_, _≤_}
+use Prim.Native.Nat.{ℕ, _+_, _-_, _^_, _≤_}
 use native.Mathlib.Omega.{arith}
 use mathlib.Core.Path.{_≡_, refl, sym, ap, _∙_}
 use mathlib.Core.Bool.{Bool, true, false, not, _||_}
 use mathlib.Core.List.{List}
 use lib.Dec.{ltb, eqb}
-use lib.ListN.{length, take, drop}
-use lib.Seq.{take-append-seam}
+use lib.ListN.{length}
 use borrow.Author.Tests.{ltb-false, not-false}
 use Rattle.lists.specs.Choice.{_if_else_}
-use Rattle.lists.specs.Lists.{overFront}
 use Rattle.lists.proofs.Tests.{or-false-left, or-false-right}
 use Rattle.lists.proofs.Below.{each-long}
 use Rattle.rules.specs.State.{State, count}
@@ -17,10 +15,11 @@ use Rattle.rules.specs.Image.{imageOf, stateOf, snakesIn, dueIn, wellFormed}
 use Rattle.rules.specs.Setting.{settingCheck, startSnake, initialState}
 use Rattle.rules.specs.Step.{Outcome, outcomeOf, stepped}
 use Rattle.rules.specs.Chance.{outcomes, drawn, afterDraw}
-use Rattle.rules.specs.Says.{Says, refuses, gives, first, seen}
+use Rattle.rules.specs.Says.{Says, refuses, gives, seen}
 use Rattle.rules.specs.Calls.{initialSays, differs, badAction, stepSays, Draw, drawSays}
 use Rattle.rules.specs.declared.Setting.{Setting}
 use Rattle.rules.proofs.Facts.{sound}
+use Rattle.rules.proofs.Firsts.{first-zero, first-rest}
 use Rattle.rules.proofs.Parts.{state-count}
 
 -- ---- an answer seen through f
@@ -45,19 +44,6 @@ module _ {A : Type 0} where
   gives-rest true k r a e = let z : _≡_ {A = ℕ} 0 1 = cc in absurd (omega arith)
   gives-rest false k r a e = e
 
-  first-none : (k : ℕ) (r : Says A) (a : A) → first k r ≡ gives a → k ≡ 0
-  first-none zero r a e = refl
-  first-none (suc k) r a e = let z : _≡_ {A = ℕ} 0 1 = cc in absurd (omega arith)
-
-  first-rest : (k : ℕ) (r : Says A) (a : A) → first k r ≡ gives a → r ≡ gives a
-  first-rest zero r a e = e
-  first-rest (suc k) r a e = let z : _≡_ {A = ℕ} 0 1 = cc in absurd (omega arith)
-
-  -- the front of a lent buffer is what was written there
-  pub front-back : (s d : List A) → take (length s) (overFront s d) ≡ s
-  unfolding overFront
-  front-back s d = take-append-seam s (drop (length s) d)
-
 -- ---- the next state of a call that is not refused
 
 pub record Fits (t : State) (room : ℕ) : Type 0 where
@@ -81,7 +67,7 @@ initial-fits s room t e =
     let q = first-rest (settingCheck s) r29 t e in
     let g : gives (initialState s) ≡ gives t = gives-rest t29 29 x t q in
     let p : initialState s ≡ t = cc in
-    let f = setting-few s (first-none (settingCheck s) r29 t e) in
+    let f = setting-few s (first-zero (settingCheck s) r29 t e) in
     let l = each-long (s .snakes) (startSnake s) in
     rw (← p) (record { few = omega (arith, l); short = ltb-false room (length (imageOf (initialState s))) (gives-test t29 29 x t q) })
 

@@ -6,6 +6,7 @@ use mathlib.Core.Bool.{true, false, true≢false, false≢true}
 use mathlib.Core.List.{List, [], _∷_, _++_, append-assoc, append-nil}
 use lib.Dec.{eqb}
 use lib.ListN.{length, take}
+use Rattle.lists.proofs.Insert.{over-take}
 use Rattle.lists.proofs.Writes.{write-front}
 use Rattle.rules.specs.Image.{imageOf}
 use Rattle.rules.specs.Says.{Says, refuses, gives}
@@ -19,7 +20,6 @@ use Rattle.referee.specs.declared.Desk.{Desk}
 use Rattle.referee.specs.declared.Turned.{Turned}
 use Rattle.text.proofs.Feeding.{held-first, held-later, ends-by, line-first, line-last, line-none}
 use Rattle.referee.proofs.Playing.{close-begun, close-new, line-begun, line-new}
-use Rattle.referee.proofs.Saying.{front-back}
 
 -- ---- the replay from a desk on, line by line
 
@@ -52,7 +52,7 @@ from-new d w (line ∷ lines) e =
 
 -- what was written is what is printed
 wrote-front : (out exit s : List ℕ) (r most : ℕ) → Wrote out exit 0 r s most → take r exit ≡ s
-wrote-front out exit s r most p = rw (p .next, zero-add (length s), p .words, write-front out s) (front-back s out)
+wrote-front out exit s r most p = rw (p .next, zero-add (length s), p .words, write-front out s) (over-take s out)
 
 -- the line that is held is read as the line that came
 same-begin : (a b : List ℕ) (room : ℕ) → readFirst a ≡ readFirst b → beginSays a room ≡ beginSays b room
@@ -86,7 +86,7 @@ module _ (d : Desk) (image s new told : List ℕ) (r : Turned) (k : Took d image
       → told ++ from (deskAfter r) (take (r .words) new) lines ≡ onward x (λ t. from (deskOn t) (imageOf (t .next)) lines)
   line-goes (refuses n) lines p e = absurd (false≢true (sym (p .more) ∙ e))
   line-goes (gives t) lines p e =
-      let f : take (r .words) new ≡ imageOf (t .next) = rw (p .words, p .image) (front-back (imageOf (t .next)) image) in
+      let f : take (r .words) new ≡ imageOf (t .next) = rw (p .words, p .image) (over-take (imageOf (t .next)) image) in
       let g : deskAfter r ≡ deskOn t = rw (p .words, p .game) in
       rw (told-is (gives t) p, f, g)
 

@@ -33,15 +33,15 @@ use Rattle.rules.proofs.PlaceCheck.{all-inside, all-cells, check-cells,
 
 -- ---- no small grid
 
-never : (b : Bool) → _≡_ {A = ℕ} (9 if b else 10) 0 → ⊥
-never true e = suc-ne-zero 8 e
-never false e = suc-ne-zero 9 e
+pub nine-or-ten : (b : Bool) → _≡_ {A = ℕ} (9 if b else 10) 0 → ⊥
+nine-or-ten true e = suc-ne-zero 8 e
+nine-or-ten false e = suc-ne-zero 9 e
 
 wide : (g : ℤ) (n k f : ℕ) → 2 ≤ n → n ≤ 8 → 1 ≤ k → placeCheck g n k f ≡ 0 → ltZ g (pos 3) ≡ false
 wide g n k f a b c e = elim (tell (ltZ g (pos 2))) [
-  | inl t ↦ absurd (never (ltb 1 k) (sym (small-less n f a b g k c t) ∙ e))
+  | inl t ↦ absurd (nine-or-ten (ltb 1 k) (sym (small-less n f a b g k c t) ∙ e))
   | inr h ↦ elim (tell (ltZ g (pos 3))) [
-    | inl t ↦ absurd (never (ltb 3 k) (sym (small-two n f a b g k c (grid-two g h t)) ∙ e))
+    | inl t ↦ absurd (nine-or-ten (ltb 3 k) (sym (small-two n f a b g k c (grid-two g h t)) ∙ e))
     | inr q ↦ q
   ]
 ]

@@ -9,7 +9,7 @@ use lib.IntN.{pos}
 use lib.Signed.{ltZ}
 use borrow.Author.Tests.{ltb-false, eqb-false}
 use Rattle.lists.specs.Choice.{_if_else_, firstOf}
-use Rattle.lists.proofs.Tests.{or-false-left, or-false-right}
+use Rattle.lists.proofs.Tests.{or-false-left, or-false-right, first-none, first-then}
 use Rattle.rules.specs.Setting.{isSet, isZero, areaOf, worst, settingCheck}
 use Rattle.rules.specs.SettingParts.{limitsCheck, Limited, placeCheck}
 use Rattle.rules.specs.declared.Setting.{Setting}
@@ -34,14 +34,6 @@ check-parts s =
     split (ltb (s .snakes) 2 || ltb 8 (s .snakes)) (eqb (s .size) 0) (isZero (s .lead)) (isSet (s .lead) && not (eqb (s .snakes) 2)) (ltZ (pos 32) (s .grid)) (ltb (areaOf s) (s .food)) (ltb 10000 (s .food)) (ltb (2 ^ 53) (worst s)) _
 
 -- ---- what each half tells, where it finds nothing
-
-first-none : (a b : ℕ) → firstOf a b ≡ 0 → a ≡ 0
-first-none zero b e = refl
-first-none (suc a) b e = e
-
-first-then : (a b : ℕ) → firstOf a b ≡ 0 → b ≡ 0
-first-then zero b e = e
-first-then (suc a) b e = absurd (suc-ne-zero a e)
 
 pub limits-none : (s : Setting) → settingCheck s ≡ 0 → limitsCheck s ≡ 0
 limits-none s e = first-none (limitsCheck s) (placeCheck (s .grid) (s .snakes) (s .size) (s .food)) (sym (check-parts s) ∙ e)

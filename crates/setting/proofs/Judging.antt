@@ -1,8 +1,8 @@
 -- From placed bodies to the number that is given: 9, 11, 12 or none. Assumes nothing.
-use Prim.Native.Nat.{ℕ, zero, suc, _+_, _-_, _*_, _≤_}
-use native.Mathlib.Nat.{mul-le-mul, sub-zero, suc-ne-zero}
+use Prim.Native.Nat.{ℕ, zero, _+_, _-_, _*_, _≤_}
+use native.Mathlib.Nat.{mul-le-mul, sub-zero}
 use native.Mathlib.Omega.{arith}
-use mathlib.Core.Path.{_≡_, refl, sym, ap, _∙_}
+use mathlib.Core.Path.{_≡_, sym, ap, _∙_}
 use mathlib.Core.Bool.{Bool, true, false, not, _&&_}
 use mathlib.Core.List.{List}
 use lib.Dec.{ltb}
@@ -14,14 +14,14 @@ use Rattle.lists.specs.Choice.{_if_else_, firstOf}
 use Rattle.lists.specs.Below.{concatBelow}
 use Rattle.lists.specs.Boards.{Under}
 use Rattle.lists.specs.Lists.{writeAt, overFront, distinct}
-use Rattle.lists.proofs.Tests.{ordered, less, more}
+use Rattle.lists.proofs.Tests.{ordered, less, more, first-some}
 use Rattle.lists.proofs.Writes.{write-front}
 use Rattle.rules.specs.Places.{cellOf}
 use Rattle.rules.specs.Setting.{sideOf, settingCheck}
 use Rattle.rules.specs.SettingParts.{limitsCheck, allOf, someShortOf, placeCheck, cellsOf}
-use Rattle.rules.specs.Says.{Says, refuses, first}
 use Rattle.rules.specs.declared.Setting.{Setting}
 use Rattle.rules.proofs.SettingParts.{check-parts}
+use Rattle.rules.proofs.SettingFacts.{nine-or-ten}
 use Rattle.rules.proofs.PlaceCheck.{all-cells, body-reach, cells-under, check-cells, body-long, all-long}
 use Rattle.setting.specs.Traces.{Ready, Placed, Judged}
 
@@ -98,17 +98,9 @@ module _ (g n size f : ℕ) (old : List ℕ) (ready : Ready g n size old) (new :
 
 -- ---- numbers that are not 0, and halves put together
 
-nine-or-ten : (b : Bool) → _≡_ {A = ℕ} (9 if b else 10) 0 → ⊥
-nine-or-ten true e = suc-ne-zero 8 e
-nine-or-ten false e = suc-ne-zero 9 e
-
 -- a grid that is too small for any setting
 pub judge-small : (number k reach : ℕ) (cells old new : List ℕ) (r : ℕ) → number ≡ (9 if ltb reach k else 10) → r ≡ (9 if ltb reach k else 10) → Judged number cells old new r
 judge-small number k reach cells old new r e q = record { says = q ∙ sym e; words = λ z. absurd (nine-or-ten (ltb reach k) (sym q ∙ z)) }
-
-first-some : (a b : ℕ) → (a ≡ 0 → ⊥) → firstOf a b ≡ a
-first-some zero b h = absurd (h refl)
-first-some (suc a) b h = refl
 
 -- the number of the first half, or of the second
 module _ (s : Setting) (k : ℕ) (e : k ≡ limitsCheck s) where
@@ -133,7 +125,3 @@ judge-side g m n k f old new r e h j =
       says = j .says ∙ ap (λ (z : ℤ). placeCheck z n k f) (ap pos e ∙ sym h);
       words = λ z. j .words z ∙ ap (λ (q : ℕ). writeAt old 0 (concatBelow n (cellsOf q n k))) e;
     }
-
-pub first-refuses : (k : ℕ) (r : Says (Unit {0})) → (k ≡ 0 → ⊥) → refuses k ≡ first k r
-first-refuses zero r h = absurd (h refl)
-first-refuses (suc k) r h = refl

@@ -1,5 +1,5 @@
 -- From the words of the initial state to the promise of the call. Assumes nothing.
-use Prim.Native.Nat.{ℕ, zero, suc, _+_, _-_, _*_, _<_, _≤_}
+use Prim.Native.Nat.{ℕ, zero, _+_, _-_, _*_, _<_, _≤_}
 use native.Mathlib.Nat.{sub-zero}
 use native.Mathlib.Omega.{arith}
 use mathlib.Core.Path.{_≡_, refl, sym, ap, _∙_}
@@ -25,14 +25,11 @@ use Rattle.rules.specs.SettingParts.{cellsOf, startCells, startRecord, startCon
 use Rattle.rules.specs.declared.Answer.{Answer}
 use Rattle.rules.specs.declared.Answer.the-variants.{Done, Refused}
 use Rattle.rules.specs.declared.Setting.{Setting}
+use Rattle.rules.proofs.Firsts.{first-refuses}
 use Rattle.rules.proofs.Facts.{square-le}
 use Rattle.rules.proofs.InitialFacts.{cells-long, start-image}
 use Rattle.rules.proofs.SettingFacts.{accepts}
 use Rattle.setting.specs.Starts.{Room}
-
-first-some : (k : ℕ) (r : Says State) → (k ≡ 0 → ⊥) → first k r ≡ refuses k
-first-some zero r h = absurd (h refl)
-first-some (suc k) r h = refl
 
 module _ (s : Setting) (old : List ℕ) where
   refused : (new : List ℕ) (r : Answer) (k : ℕ) → initialSays s (length old) ≡ refuses k → new ≡ old → r ≡ Refused k → Starts s old new r
@@ -46,7 +43,7 @@ module _ (s : Setting) (old : List ℕ) where
   unfolding initialSays
   starts-refused k e h =
       let r : Says State = refuses 29 if ltb (length old) (length (imageOf (initialState s))) else gives (initialState s) in
-      refused old (Refused k) k (ap (λ (j : ℕ). first j r) (sym e) ∙ first-some k r h) refl refl
+      refused old (Refused k) k (ap (λ (j : ℕ). first j r) (sym e) ∙ first-refuses k r h) refl refl
 
 module _ (s : Setting) (e : settingCheck s ≡ 0) where
   pub total-is : length (startCells s) ≡ s .snakes * s .size

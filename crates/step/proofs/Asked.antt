@@ -1,5 +1,5 @@
 -- The refusals in their order: what the numbers say, and what is known of an image that none of them refuses. Assumes nothing.
-use Prim.Native.Nat.{ℕ, zero, suc, _<_}
+use Prim.Native.Nat.{ℕ, zero, suc}
 use mathlib.Core.Path.{_≡_, refl, sym, ap, _∙_}
 use mathlib.Core.Bool.{Bool, true, false, not, _&&_}
 use mathlib.Core.List.{List}
@@ -10,6 +10,7 @@ use borrow.Author.Tests.{eqb-true, not-false}
 use Rattle.lists.specs.Choice.{_if_else_, firstOf}
 use Rattle.lists.specs.Below.{someBelow}
 use Rattle.lists.proofs.Below.{some-ext}
+use Rattle.lists.proofs.Tests.{first-some, first-then}
 use Rattle.rules.specs.Setting.{settingCheck}
 use Rattle.rules.specs.State.{Snake, snakeOf}
 use Rattle.rules.specs.Image.{snakesIn, dueIn, aliveAt, stateOf, imageOf, wellFormed}
@@ -24,6 +25,7 @@ use Rattle.rules.specs.declared.Stepped.{Stepped}
 use Rattle.rules.specs.declared.Verdict.{Verdict}
 use Rattle.rules.specs.declared.Verdict.the-variants.{Accepted, Refused}
 use Rattle.rules.proofs.Facts.{sound}
+use Rattle.rules.proofs.Firsts.{first-refuses}
 use Rattle.rules.proofs.Parts.{state-count, state-snake}
 use Rattle.judge.specs.declared.Judged.{Judged}
 use Rattle.judge.specs.World.{Judges}
@@ -32,14 +34,6 @@ use Rattle.step.specs.Asked.{numberIn, askedOf, asked, RefusedBy}
 use Rattle.judge.proofs.Judging.{cause-judged}
 
 -- ---- numbers
-
-pub or-stays : (k r : ℕ) → (k ≡ 0 → ⊥) → k ≡ firstOf k r
-or-stays zero r h = absurd (h refl)
-or-stays (suc k) r h = refl
-
-pub first-refuses : {A : Type 0} (k : ℕ) (r : Says A) → (k ≡ 0 → ⊥) → first k r ≡ refuses k
-first-refuses zero r h = absurd (h refl)
-first-refuses (suc k) r h = refl
 
 -- the number that a verdict says
 pub verdict-number : (v : Verdict) (k : ℕ) → saysVerdict v ≡ first k (gives tt) → numberIn v ≡ k
@@ -75,10 +69,6 @@ step-says s w acts room =
 
 -- ---- where no number is given
 
-or-zero : (k r : ℕ) → firstOf k r ≡ 0 → r ≡ 0
-or-zero zero r h = h
-or-zero (suc k) r h = absurd (omega arith)
-
 if-zero : (b : Bool) (k r : ℕ) → (suc k if b else r) ≡ 0 → (b ≡ false) × (r ≡ 0)
 if-zero true k r h = absurd (omega arith)
 if-zero false k r h = (refl, h)
@@ -86,7 +76,7 @@ if-zero false k r h = (refl, h)
 module _ (s : Setting) (w acts : List ℕ) (h : asked s w acts ≡ 0) where
   image-asked : (not (wellFormed w) ≡ false) × (askedOf s w acts ≡ 0)
   unfolding asked
-  image-asked = if-zero (not (wellFormed w)) 19 (askedOf s w acts) (or-zero (settingCheck s) _ h)
+  image-asked = if-zero (not (wellFormed w)) 19 (askedOf s w acts) (first-then (settingCheck s) _ h)
 
   pub asked-sound : Sound w
   asked-sound = sound w (not-false (wellFormed w) (image-asked .0))
@@ -129,7 +119,7 @@ module _ (s : Setting) (w acts : List ℕ) where
 
   pub asked-setting : (k : ℕ) → k ≡ settingCheck s → (k ≡ 0 → ⊥) → k ≡ asked s w acts
   unfolding asked
-  asked-setting k e h = or-stays k _ h ∙ ap (λ (n : ℕ). firstOf n (20 if not (wellFormed w) else askedOf s w acts)) e
+  asked-setting k e h = sym (first-some k _ h) ∙ ap (λ (n : ℕ). firstOf n (20 if not (wellFormed w) else askedOf s w acts)) e
 
   pub asked-malformed : settingCheck s ≡ 0 → wellFormed w ≡ false → 20 ≡ asked s w acts
   unfolding asked

@@ -37,6 +37,8 @@ pub use Rattle.rules.proofs.Fairness.{Fair, fair, settled, born, born-full}
 pub use Rattle.rules.proofs.FairCalls.{count-answers, list-fair, rank-answers, rank-back, list-forth, list-one}
 -- Demand 3, of the calls' answers: each set of k free cells comes of exactly k! indices, and nothing else changes
 pub use Rattle.rules.proofs.FairCalls.{sets-fair, draw-changes}
+-- Demand 3: a list of 20 cells holds whatever a draw gives
+pub use Rattle.theorems.proofs.Longest.{longest-list}
 -- Demand 3: a birth chain with p due ends after exactly min(p, n + 1) draws
 pub use Rattle.rules.proofs.Births.{chain-count}
 pub use Rattle.rules.proofs.FairCalls.{chain-ended, chain-not-before}

@@ -1,5 +1,6 @@
 pub mod Tables
 pub mod Refusals
 pub mod Eaten
+pub mod Longest
 pub mod Definitions
 pub mod Headlines

@@ -3,7 +3,8 @@ use Prim.Native.Nat.{ℕ}
 use Rattle.rules.specs.Calls.{settingSays}
 use Rattle.rules.specs.Says.{first, gives}
 use Rattle.rules.proofs.SettingParts.{limited}
-use Rattle.setting.proofs.Judging.{first-refuses, check-first, check-second}
+use Rattle.rules.proofs.Firsts.{first-refuses}
+use Rattle.setting.proofs.Judging.{check-first, check-second}
 use borrow.Author.Needs.{needs}
 use Rattle.setting.proofs.validate.Statement.{statement}
 use Rattle.setting.proofs.validate.Tie as tie
@@ -17,7 +18,7 @@ returns c =
     let k = c .before .limits .result in
     record {
       answer =
-          first-refuses k (gives tt) (c .if1 .taken)
+          sym (first-refuses k (gives tt) (c .if1 .taken))
           ∙ ap (λ (k : ℕ). first k (gives tt)) (check-first (c .before .before .args .setting) k (c .before .limits .ensures) (c .if1 .taken));
     }
 
