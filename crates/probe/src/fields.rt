@@ -1,6 +1,8 @@
-// The parts of calls, read from a line's fields: single numbers, words and events.
+// The parts of calls, read from a line's fields: numbers, words and events.
 use rules::Cause;
 use rules::Event;
+use text::Num;
+use text::next_number;
 
 // Where a part is none, as the words of a call that has none.
 pub const NOWHERE: usize = 18446744073709551615;
@@ -8,6 +10,26 @@ pub const NOWHERE: usize = 18446744073709551615;
 pub enum Told {
     NoEvent,
     Tells(Event),
+}
+
+// The fields, each a number: how many. Nowhere where one is none, or where they fill the room.
+pub fn numbers_in(s: &[u8], values: &mut [u64]) -> usize {
+    let mut at = 0;
+    let mut k = 0;
+    while k < values.len() {
+        if s.len() < at {
+            return k;
+        }
+        let got = next_number(s, at);
+        let num = got.num;
+        let Num::Reads(v) = num else {
+            return NOWHERE;
+        };
+        values[k] = v;
+        at = got.next;
+        k += 1;
+    }
+    NOWHERE
 }
 
 // The k-th field; 0 past the last.

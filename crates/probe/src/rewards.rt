@@ -3,9 +3,9 @@ ghost use Prim.Native.Nat.{_≤_};
 ghost use lib.ListN.{length};
 use crate::fields::Told;
 use crate::fields::event_in;
-use crate::text::answer_number;
-use crate::text::no_call;
-use crate::text::refuse;
+use crate::writing::answer_number;
+use crate::writing::letter_line;
+use crate::writing::refuse;
 use rules::Event;
 use rules::Reward;
 use rules::Weights;
@@ -50,10 +50,10 @@ fn weights_in(w: &[u64]) -> Weights
 // `w B1..B7 E`
 pub fn reward_line(values: &[u64], text: &mut [u8], at: usize) -> usize {
     if values.len() != 15 {
-        return no_call(text, at);
+        return letter_line(text, at, b'e');
     }
     match event_in(&values[7..15]) {
-        Told::NoEvent => no_call(text, at),
+        Told::NoEvent => letter_line(text, at, b'e'),
         Told::Tells(event) => reward(weights_in(values), event, text, at),
     }
 }

@@ -1,17 +1,17 @@
 // What an agent sees and may do: observation, actor, legal actions, length cell and truncation.
-use crate::buffers::fill_planes;
 use crate::buffers::planes_kept;
 use crate::fields::Told;
 use crate::fields::event_in;
 use crate::fields::size;
 use crate::fields::value;
 use crate::marks::put_event;
-use crate::text::answer_number;
-use crate::text::end;
-use crate::text::no_call;
-use crate::text::put;
-use crate::text::put_number;
-use crate::text::refuse;
+use crate::writing::answer_number;
+use crate::writing::end;
+use crate::writing::letter_line;
+use crate::writing::put;
+use crate::writing::put_number;
+use crate::writing::put_words;
+use crate::writing::refuse;
 use rules::Actor;
 use rules::Answer;
 use rules::Event;
@@ -52,7 +52,6 @@ fn put_planes(text: &mut [u8], at: usize, planes: &[f32], n: usize) -> usize {
 }
 
 fn observe(words: &[u16], agent: u64, planes: &mut [f32], text: &mut [u8], at: usize) -> usize {
-    fill_planes(planes);
     match arena::observe(words, agent, planes) {
         Answer::Done(n) => put_planes(text, at, planes, n),
         Answer::Refused(no) => refuse(text, at, no, planes_kept(planes, 0)),
@@ -60,17 +59,12 @@ fn observe(words: &[u16], agent: u64, planes: &mut [f32], text: &mut [u8], at: u
 }
 
 // `o AGENT cap W`
-pub fn observe_line(
-    values: &[u64],
-    words: &[u16],
-    planes: &mut [f32],
-    text: &mut [u8],
-    at: usize,
-) -> usize {
+pub fn observe_line(values: &[u64], words: &[u16], text: &mut [u8], at: usize) -> usize {
     let cap = size(values, 1);
-    if planes.len() < cap {
-        return no_call(text, at);
+    if 8192 < cap {
+        return letter_line(text, at, b'e');
     }
+    let mut planes = [0.5f32; 8192];
     observe(words, value(values, 0), &mut planes[0..cap], text, at)
 }
 
@@ -84,12 +78,10 @@ pub fn actor_line(words: &[u16], text: &mut [u8], at: usize) -> usize {
 }
 
 fn put_actions(text: &mut [u8], at: usize) -> usize {
+    let actions = [0u16, 1, 2];
     let a = put(text, at, b'a');
-    let b = put_number(text, a, 3);
-    let c = put_number(text, b, 0);
-    let d = put_number(text, c, 1);
-    let e = put_number(text, d, 2);
-    put(text, e, b'\n')
+    let b = put_words(text, a, &actions, 3);
+    put(text, b, b'\n')
 }
 
 // `l AGENT W`
@@ -133,10 +125,10 @@ fn truncation(words: &[u16], agent: u64, event: Event, text: &mut [u8], at: usiz
 // `u AGENT E W`
 pub fn truncation_line(values: &[u64], words: &[u16], text: &mut [u8], at: usize) -> usize {
     if values.len() < 9 {
-        return no_call(text, at);
+        return letter_line(text, at, b'e');
     }
     match event_in(&values[1..9]) {
-        Told::NoEvent => no_call(text, at),
+        Told::NoEvent => letter_line(text, at, b'e'),
         Told::Tells(event) => truncation(words, values[0], event, text, at),
     }
 }
