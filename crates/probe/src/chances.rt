@@ -25,18 +25,6 @@ pub fn count_line(words: &[u16], text: &mut [u8], at: usize) -> usize {
     put_result(text, at, arena::count(words))
 }
 
-fn rank(cells: &[u64], words: &[u16], text: &mut [u8], at: usize) -> usize {
-    let mut list = [0u16; 2048];
-    let k = cells.len();
-    if !copy_words(cells, &mut list) {
-        return letter_line(text, at, b'e');
-    }
-    if 2048 < k {
-        return letter_line(text, at, b'e');
-    }
-    put_result(text, at, arena::rank(words, &list[0..k]))
-}
-
 // `k K c1..cK W`, the words from field `from` on.
 pub fn rank_line(values: &[u64], from: usize, words: &[u16], text: &mut [u8], at: usize) -> usize {
     if from < 1 {
@@ -45,7 +33,15 @@ pub fn rank_line(values: &[u64], from: usize, words: &[u16], text: &mut [u8], at
     if values.len() < from {
         return letter_line(text, at, b'e');
     }
-    rank(&values[1..from], words, text, at)
+    let mut list = [0u16; 2048];
+    if !copy_words(&values[1..from], &mut list) {
+        return letter_line(text, at, b'e');
+    }
+    let k = from - 1;
+    if 2048 < k {
+        return letter_line(text, at, b'e');
+    }
+    put_result(text, at, arena::rank(words, &list[0..k]))
 }
 
 fn put_draw(text: &mut [u8], at: usize, out: &[u16], n: usize, list: &[u16], k: usize) -> usize {

@@ -91,19 +91,27 @@ pub fn event_in(e: &[u64]) -> Told {
     if e.len() != 8 {
         return Told::NoEvent;
     }
-    let early = (e[0] <= 1) & (e[1] <= 1) & (e[2] <= 4) & (e[3] <= 1);
-    let late = (e[4] <= 1) & (e[5] <= 1) & (e[6] <= 1) & (e[7] <= 1);
+    let cause = e[2];
+    let a = e[0];
+    let d = e[1];
+    let k = e[3];
+    let w = e[4];
+    let l = e[5];
+    let x = e[6];
+    let y = e[7];
+    let early = (a <= 1) & (d <= 1) & (cause <= 4) & (k <= 1);
+    let late = (w <= 1) & (l <= 1) & (x <= 1) & (y <= 1);
     if !(early & late) {
         return Told::NoEvent;
     }
     Told::Tells(Event {
-        ate: e[0] == 1,
-        died: e[1] == 1,
-        cause: cause_of(e[2]),
-        killed: e[3] == 1,
-        won: e[4] == 1,
-        lost: e[5] == 1,
-        drew: e[6] == 1,
-        survived: e[7] == 1,
+        ate: a == 1,
+        died: d == 1,
+        cause: cause_of(cause),
+        killed: k == 1,
+        won: w == 1,
+        lost: l == 1,
+        drew: x == 1,
+        survived: y == 1,
     })
 }

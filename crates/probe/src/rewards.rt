@@ -6,7 +6,6 @@ use crate::fields::event_in;
 use crate::writing::answer_number;
 use crate::writing::letter_line;
 use crate::writing::refuse;
-use rules::Event;
 use rules::Reward;
 use rules::Weights;
 
@@ -24,13 +23,6 @@ fn bits_of(x: f64) -> u64 {
         return 0;
     }
     f64::to_bits(x)
-}
-
-fn reward(weights: Weights, event: Event, text: &mut [u8], at: usize) -> usize {
-    match arena::reward(weights, event) {
-        Reward::Sum(x) => answer_number(text, at, bits_of(x)),
-        Reward::Refused(no) => refuse(text, at, no, true),
-    }
 }
 
 fn weights_in(w: &[u64]) -> Weights
@@ -52,8 +44,11 @@ pub fn reward_line(values: &[u64], text: &mut [u8], at: usize) -> usize {
     if values.len() != 15 {
         return letter_line(text, at, b'e');
     }
-    match event_in(&values[7..15]) {
-        Told::NoEvent => letter_line(text, at, b'e'),
-        Told::Tells(event) => reward(weights_in(values), event, text, at),
+    let Told::Tells(event) = event_in(&values[7..15]) else {
+        return letter_line(text, at, b'e');
+    };
+    match arena::reward(weights_in(values), event) {
+        Reward::Sum(x) => answer_number(text, at, bits_of(x)),
+        Reward::Refused(no) => refuse(text, at, no, true),
     }
 }

@@ -21,18 +21,14 @@ use text::First;
 use text::read_first;
 use text::start_of;
 
-fn validate(setting: Setting, text: &mut [u8], at: usize) -> usize {
+// `v S`
+pub fn validate_line(s: &[u8], text: &mut [u8], at: usize) -> usize {
+    let First::Opens(setting) = read_first(s) else {
+        return letter_line(text, at, b'e');
+    };
     match arena::validate(setting) {
         Verdict::Accepted => letter_line(text, at, b'a'),
         Verdict::Refused(no) => refuse(text, at, no, true),
-    }
-}
-
-// `v S`
-pub fn validate_line(s: &[u8], text: &mut [u8], at: usize) -> usize {
-    match read_first(s) {
-        First::NoFirst => letter_line(text, at, b'e'),
-        First::Opens(setting) => validate(setting, text, at),
     }
 }
 

@@ -14,7 +14,6 @@ use crate::writing::put_words;
 use crate::writing::refuse;
 use rules::Actor;
 use rules::Answer;
-use rules::Event;
 use rules::Legal;
 use rules::LengthCell;
 use rules::Truncated;
@@ -77,48 +76,31 @@ pub fn actor_line(words: &[u16], text: &mut [u8], at: usize) -> usize {
     }
 }
 
-fn put_actions(text: &mut [u8], at: usize) -> usize {
-    let actions = [0u16, 1, 2];
-    let a = put(text, at, b'a');
-    let b = put_words(text, a, &actions, 3);
-    put(text, b, b'\n')
-}
-
 // `l AGENT W`
 pub fn legal_line(agent: u64, words: &[u16], text: &mut [u8], at: usize) -> usize {
     match arena::legal_actions(words, agent) {
-        Legal::AnyAction => put_actions(text, at),
+        Legal::AnyAction => {
+            let actions = [0u16, 1, 2];
+            let i = put(text, at, b'a');
+            let j = put_words(text, i, &actions, 3);
+            put(text, j, b'\n')
+        }
         Legal::NoAction => answer_number(text, at, 0),
         Legal::Refused(no) => refuse(text, at, no, true),
     }
 }
 
-fn put_key(text: &mut [u8], at: usize, key: u64) -> usize {
-    let a = put(text, at, b'a');
-    let b = put_number(text, a, 1);
-    let c = put_number(text, b, key);
-    put(text, c, b'\n')
-}
-
 // `z W`
 pub fn length_cell_line(words: &[u16], text: &mut [u8], at: usize) -> usize {
     match arena::length_cell(words) {
-        LengthCell::Key(key) => put_key(text, at, key),
+        LengthCell::Key(key) => {
+            let i = put(text, at, b'a');
+            let j = put_number(text, i, 1);
+            let k = put_number(text, j, key);
+            put(text, k, b'\n')
+        }
         LengthCell::NoKey => answer_number(text, at, 0),
         LengthCell::Refused(no) => refuse(text, at, no, true),
-    }
-}
-
-fn put_mark(text: &mut [u8], at: usize, event: Event) -> usize {
-    let a = put(text, at, b'a');
-    let b = put_event(text, a, event);
-    put(text, b, b'\n')
-}
-
-fn truncation(words: &[u16], agent: u64, event: Event, text: &mut [u8], at: usize) -> usize {
-    match arena::truncation(words, agent, event) {
-        Truncated::Marked(marked) => put_mark(text, at, marked),
-        Truncated::Refused(no) => refuse(text, at, no, true),
     }
 }
 
@@ -127,8 +109,15 @@ pub fn truncation_line(values: &[u64], words: &[u16], text: &mut [u8], at: usize
     if values.len() < 9 {
         return letter_line(text, at, b'e');
     }
-    match event_in(&values[1..9]) {
-        Told::NoEvent => letter_line(text, at, b'e'),
-        Told::Tells(event) => truncation(words, values[0], event, text, at),
+    let Told::Tells(event) = event_in(&values[1..9]) else {
+        return letter_line(text, at, b'e');
+    };
+    match arena::truncation(words, values[0], event) {
+        Truncated::Marked(marked) => {
+            let i = put(text, at, b'a');
+            let j = put_event(text, i, marked);
+            put(text, j, b'\n')
+        }
+        Truncated::Refused(no) => refuse(text, at, no, true),
     }
 }
