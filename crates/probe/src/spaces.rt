@@ -11,14 +11,6 @@ use rules::Space;
 use text::Grid;
 use text::grid_in;
 
-fn put_box(text: &mut [u8], at: usize, planes: usize, high: usize, wide: usize) -> usize {
-    let a = put(text, at, b'a');
-    let b = put_number(text, a, planes as u64);
-    let c = put_number(text, b, high as u64);
-    let d = put_number(text, c, wide as u64);
-    put(text, d, b'\n')
-}
-
 fn put_space(text: &mut [u8], at: usize, space: Space) -> usize {
     match space {
         Space::Box {
@@ -27,7 +19,13 @@ fn put_space(text: &mut [u8], at: usize, space: Space) -> usize {
             wide,
             low: _,
             top: _,
-        } => put_box(text, at, planes, high, wide),
+        } => {
+            let a = put(text, at, b'a');
+            let b = put_number(text, a, planes as u64);
+            let c = put_number(text, b, high as u64);
+            let d = put_number(text, c, wide as u64);
+            put(text, d, b'\n')
+        }
         Space::Discrete(n) => answer_number(text, at, n as u64),
         Space::Refused(no) => refuse(text, at, no, true),
     }

@@ -38,16 +38,6 @@ fn put_lent(text: &mut [u8], at: usize, out: &[u16], n: usize) -> usize {
     end(text, i, kept(out, n))
 }
 
-fn initial_state(setting: Setting, out: &mut [u16], text: &mut [u8], at: usize) -> usize {
-    match arena::initial_state(setting, out) {
-        Answer::Done(n) => {
-            let i = put(text, at, b'a');
-            put_lent(text, i, out, n)
-        }
-        Answer::Refused(no) => refuse(text, at, no, kept(out, 0)),
-    }
-}
-
 // `i S cap`; cap is the first number.
 fn initial_line(setting: Setting, values: &[u64], text: &mut [u8], at: usize) -> usize {
     if values.len() != 1 {
@@ -57,8 +47,15 @@ fn initial_line(setting: Setting, values: &[u64], text: &mut [u8], at: usize) ->
     if 16384 < cap {
         return letter_line(text, at, b'e');
     }
-    let mut out = [PATTERN; 16384];
-    initial_state(setting, &mut out[0..cap], text, at)
+    let mut room = [PATTERN; 16384];
+    let out = &mut room[0..cap];
+    match arena::initial_state(setting, out) {
+        Answer::Done(n) => {
+            let i = put(text, at, b'a');
+            put_lent(text, i, out, n)
+        }
+        Answer::Refused(no) => refuse(text, at, no, kept(out, 0)),
+    }
 }
 
 fn put_step(text: &mut [u8], at: usize, stepped: Stepped, out: &[u16], n: usize) -> usize {
