@@ -1,6 +1,7 @@
-// Lent buffers: made of a pattern before a call, looked through after it. No image has the word 42,405, no plane 0.5.
+// Lent buffers: made of a pattern before a call, looked through after it. No image has the word 42,406, no plane 0.5.
 
-pub const PATTERN: u16 = 42405;
+// Of two different bytes: an array of one byte is made by a call, which costs much under an emulator.
+pub const PATTERN: u16 = 42406;
 
 // Whether each word from there on is as it was made.
 pub fn kept(words: &[u16], from: usize) -> bool {

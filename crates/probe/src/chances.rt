@@ -33,7 +33,7 @@ pub fn rank_line(values: &[u64], from: usize, words: &[u16], text: &mut [u8], at
     if values.len() < from {
         return letter_line(text, at, b'e');
     }
-    let mut list = [0u16; 2048];
+    let mut list = [PATTERN; 2048];
     if !copy_words(&values[1..from], &mut list) {
         return letter_line(text, at, b'e');
     }

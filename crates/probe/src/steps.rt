@@ -99,7 +99,7 @@ fn lent_step(
 
 // `s S cap K a1..aK W`; cap is the first number.
 fn step_line(setting: Setting, values: &[u64], text: &mut [u8], at: usize) -> usize {
-    let mut image = [0u16; 16384];
+    let mut image = [PATTERN; 16384];
     let from = after_list(values, 1, 64);
     let n = words_in(values, from, &mut image);
     if 16384 < n {

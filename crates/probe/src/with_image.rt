@@ -1,4 +1,5 @@
 // The calls that end in an image: its words are read first, then the call goes by its letter.
+use crate::buffers::PATTERN;
 use crate::chances;
 use crate::fields::NOWHERE;
 use crate::fields::size;
@@ -61,7 +62,7 @@ fn query(
 }
 
 pub fn image_call(letter: u8, values: &[u64], text: &mut [u8], at: usize) -> usize {
-    let mut image = [0u16; 16384];
+    let mut image = [PATTERN; 16384];
     let from = words_from(letter, values);
     let n = words_in(values, from, &mut image);
     if 16384 < n {
