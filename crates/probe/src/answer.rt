@@ -1,113 +1,66 @@
 // The answer to one line: the call by its letter.
-use crate::reading::BROKEN;
-use crate::reading::Reading;
-use crate::reading::whole;
+use crate::fields::numbers_in;
 use crate::rewards;
 use crate::spaces;
 use crate::steps;
-use crate::text::flush;
-use crate::text::no_call;
 use crate::with_image::image_call;
+use crate::writing::flush;
+use crate::writing::letter_line;
 
-// The calls that have no image.
-fn plain_call(letter: u8, values: &[u64], text: &mut [u8], at: usize) -> usize {
+// The calls whose fields are all plain numbers.
+fn numbers_call(letter: u8, values: &[u64], text: &mut [u8], at: usize) -> usize {
     match letter {
         b'w' => rewards::reward_line(values, text, at),
-        b'q' => spaces::action_space_line(values, text, at),
         b'h' => spaces::turn_line(values, text, at),
-        _ => no_call(text, at),
+        _ => image_call(letter, values, text, at),
     }
 }
 
-// The calls whose first fields may be other than plain numbers, and that have no image.
-fn grid_call(
-    letter: u8,
-    values: &[u64],
-    kinds: &[u8],
-    out: &mut [u16],
-    text: &mut [u8],
-    at: usize,
-) -> usize {
+fn plain_call(letter: u8, s: &[u8], values: &mut [u64], text: &mut [u8], at: usize) -> usize {
+    let n = numbers_in(s, values);
+    if values.len() < n {
+        return letter_line(text, at, b'e');
+    }
+    numbers_call(letter, &values[0..n], text, at)
+}
+
+// The fields of a call are the bytes behind its letter and a space.
+fn call(letter: u8, s: &[u8], values: &mut [u64], text: &mut [u8], at: usize) -> usize {
     match letter {
-        b'v' => steps::validate_line(values, kinds, text, at),
-        b'i' => steps::initial_line(values, kinds, out, text, at),
-        b'p' => spaces::observation_space_line(values, kinds, text, at),
-        _ => no_call(text, at),
+        b'v' => steps::validate_line(s, text, at),
+        b'i' => steps::setting_line(letter, s, values, text, at),
+        b's' => steps::setting_line(letter, s, values, text, at),
+        b'p' => spaces::observation_space_line(s, text, at),
+        _ => plain_call(letter, s, values, text, at),
     }
 }
 
-fn is_grid_call(letter: u8) -> bool {
-    (letter == b'v') | (letter == b'i') | (letter == b'p')
+// Only `q` has no fields.
+fn answer(s: &[u8], values: &mut [u64], text: &mut [u8], at: usize) -> usize {
+    if s.len() == 0 {
+        return letter_line(text, at, b'e');
+    }
+    if s.len() == 1 {
+        return spaces::action_space_line(s[0], text, at);
+    }
+    if s[1] != b' ' {
+        return letter_line(text, at, b'e');
+    }
+    call(s[0], &s[2..], values, text, at)
 }
 
-fn is_plain_call(letter: u8) -> bool {
-    (letter == b'w') | (letter == b'q') | (letter == b'h')
-}
-
-fn answer(
-    line: Reading,
-    values: &[u64],
-    kinds: &[u8],
-    image: &mut [u16],
-    out: &mut [u16],
-    list: &mut [u16],
-    planes: &mut [f32],
-    text: &mut [u8],
-    at: usize,
-) -> usize {
-    if line.phase == BROKEN {
-        return no_call(text, at);
-    }
-    if is_grid_call(line.letter) {
-        return grid_call(line.letter, values, kinds, out, text, at);
-    }
-    if !line.plain & (line.letter != b's') {
-        return no_call(text, at);
-    }
-    if is_plain_call(line.letter) {
-        return plain_call(line.letter, values, text, at);
-    }
-    image_call(
-        line.letter,
-        values,
-        kinds,
-        image,
-        out,
-        list,
-        planes,
-        text,
-        at,
-    )
-}
-
-// Answers a line that has ended. Answers are written out once there are many.
+// Answers a line that has ended; one that fills its room is longer than any call. Answers are written out once there are many.
 pub fn answer_line(
-    begun: Reading,
+    line: &[u8],
+    held: usize,
     values: &mut [u64],
-    kinds: &mut [u8],
-    image: &mut [u16],
-    out: &mut [u16],
-    list: &mut [u16],
-    planes: &mut [f32],
     text: &mut [u8],
     at: usize,
 ) -> usize {
-    let line = whole(begun, values, kinds);
-    let count = line.count;
-    if values.len() < count {
-        return no_call(text, at);
+    if line.len() <= held {
+        return letter_line(text, at, b'e');
     }
-    let end = answer(
-        line,
-        &values[0..count],
-        kinds,
-        image,
-        out,
-        list,
-        planes,
-        text,
-        at,
-    );
+    let end = answer(&line[0..held], values, text, at);
     if end < 32768 {
         return end;
     }

@@ -1,16 +1,9 @@
-// Lent buffers: filled with a pattern before a call, looked through after it. No image has the word 42,405, no plane 0.5.
+// Lent buffers: made of a pattern before a call, looked through after it. No image has the word 42,406, no plane 0.5.
 
-const PATTERN: u16 = 42405;
+// Of two different bytes: an array of one byte is made by a call, which costs much under an emulator.
+pub const PATTERN: u16 = 42406;
 
-pub fn fill(words: &mut [u16]) {
-    let mut k = 0;
-    while k < words.len() {
-        words[k] = PATTERN;
-        k += 1;
-    }
-}
-
-// Whether each word from there on is as it was filled.
+// Whether each word from there on is as it was made.
 pub fn kept(words: &[u16], from: usize) -> bool {
     let mut same = true;
     let mut k = from;
@@ -19,14 +12,6 @@ pub fn kept(words: &[u16], from: usize) -> bool {
         k += 1;
     }
     same
-}
-
-pub fn fill_planes(planes: &mut [f32]) {
-    let mut k = 0;
-    while k < planes.len() {
-        planes[k] = 0.5;
-        k += 1;
-    }
 }
 
 pub fn planes_kept(planes: &[f32], from: usize) -> bool {

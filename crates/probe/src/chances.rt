@@ -1,15 +1,15 @@
 // The chance calls: the count, the draw and the rank.
-use crate::buffers::fill;
+use crate::buffers::PATTERN;
 use crate::buffers::kept;
 use crate::fields::copy_words;
 use crate::fields::size;
 use crate::fields::value;
-use crate::text::answer_number;
-use crate::text::end;
-use crate::text::no_call;
-use crate::text::put;
-use crate::text::put_words;
-use crate::text::refuse;
+use crate::writing::answer_number;
+use crate::writing::end;
+use crate::writing::letter_line;
+use crate::writing::put;
+use crate::writing::put_words;
+use crate::writing::refuse;
 use rules::Answer;
 use rules::Number;
 
@@ -25,33 +25,23 @@ pub fn count_line(words: &[u16], text: &mut [u8], at: usize) -> usize {
     put_result(text, at, arena::count(words))
 }
 
-fn rank(cells: &[u64], words: &[u16], list: &mut [u16], text: &mut [u8], at: usize) -> usize {
-    if !copy_words(cells, list) {
-        return no_call(text, at);
-    }
-    let k = cells.len();
-    if list.len() < k {
-        return no_call(text, at);
-    }
-    put_result(text, at, arena::rank(words, &list[0..k]))
-}
-
 // `k K c1..cK W`, the words from field `from` on.
-pub fn rank_line(
-    values: &[u64],
-    from: usize,
-    words: &[u16],
-    list: &mut [u16],
-    text: &mut [u8],
-    at: usize,
-) -> usize {
+pub fn rank_line(values: &[u64], from: usize, words: &[u16], text: &mut [u8], at: usize) -> usize {
     if from < 1 {
-        return no_call(text, at);
+        return letter_line(text, at, b'e');
     }
     if values.len() < from {
-        return no_call(text, at);
+        return letter_line(text, at, b'e');
     }
-    rank(&values[1..from], words, list, text, at)
+    let mut list = [PATTERN; 2048];
+    if !copy_words(&values[1..from], &mut list) {
+        return letter_line(text, at, b'e');
+    }
+    let k = from - 1;
+    if 2048 < k {
+        return letter_line(text, at, b'e');
+    }
+    put_result(text, at, arena::rank(words, &list[0..k]))
 }
 
 fn put_draw(text: &mut [u8], at: usize, out: &[u16], n: usize, list: &[u16], k: usize) -> usize {
@@ -69,8 +59,6 @@ fn draw(
     text: &mut [u8],
     at: usize,
 ) -> usize {
-    fill(out);
-    fill(list);
     let drawn = arena::draw(words, index, out, list);
     let answer = drawn.answer;
     match answer {
@@ -80,22 +68,17 @@ fn draw(
 }
 
 // `d cap capList INDEX W`
-pub fn draw_line(
-    values: &[u64],
-    words: &[u16],
-    out: &mut [u16],
-    list: &mut [u16],
-    text: &mut [u8],
-    at: usize,
-) -> usize {
+pub fn draw_line(values: &[u64], words: &[u16], text: &mut [u8], at: usize) -> usize {
     let cap = size(values, 0);
     let cap_list = size(values, 1);
-    if out.len() < cap {
-        return no_call(text, at);
+    if 16384 < cap {
+        return letter_line(text, at, b'e');
     }
-    if list.len() < cap_list {
-        return no_call(text, at);
+    if 16384 < cap_list {
+        return letter_line(text, at, b'e');
     }
+    let mut out = [PATTERN; 16384];
+    let mut list = [PATTERN; 16384];
     draw(
         value(values, 2),
         words,

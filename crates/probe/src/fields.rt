@@ -1,6 +1,8 @@
-// The parts of calls, read from a line's fields: single numbers, words and events.
+// The parts of calls, read from a line's fields: numbers, words and events.
 use rules::Cause;
 use rules::Event;
+use text::Num;
+use text::next_number;
 
 // Where a part is none, as the words of a call that has none.
 pub const NOWHERE: usize = 18446744073709551615;
@@ -8,6 +10,26 @@ pub const NOWHERE: usize = 18446744073709551615;
 pub enum Told {
     NoEvent,
     Tells(Event),
+}
+
+// The fields, each a number: how many. Nowhere where one is none, or where they fill the room.
+pub fn numbers_in(s: &[u8], values: &mut [u64]) -> usize {
+    let mut at = 0;
+    let mut k = 0;
+    while k < values.len() {
+        if s.len() < at {
+            return k;
+        }
+        let got = next_number(s, at);
+        let num = got.num;
+        let Num::Reads(v) = num else {
+            return NOWHERE;
+        };
+        values[k] = v;
+        at = got.next;
+        k += 1;
+    }
+    NOWHERE
 }
 
 // The k-th field; 0 past the last.
@@ -69,19 +91,27 @@ pub fn event_in(e: &[u64]) -> Told {
     if e.len() != 8 {
         return Told::NoEvent;
     }
-    let early = (e[0] <= 1) & (e[1] <= 1) & (e[2] <= 4) & (e[3] <= 1);
-    let late = (e[4] <= 1) & (e[5] <= 1) & (e[6] <= 1) & (e[7] <= 1);
+    let cause = e[2];
+    let a = e[0];
+    let d = e[1];
+    let k = e[3];
+    let w = e[4];
+    let l = e[5];
+    let x = e[6];
+    let y = e[7];
+    let early = (a <= 1) & (d <= 1) & (cause <= 4) & (k <= 1);
+    let late = (w <= 1) & (l <= 1) & (x <= 1) & (y <= 1);
     if !(early & late) {
         return Told::NoEvent;
     }
     Told::Tells(Event {
-        ate: e[0] == 1,
-        died: e[1] == 1,
-        cause: cause_of(e[2]),
-        killed: e[3] == 1,
-        won: e[4] == 1,
-        lost: e[5] == 1,
-        drew: e[6] == 1,
-        survived: e[7] == 1,
+        ate: a == 1,
+        died: d == 1,
+        cause: cause_of(cause),
+        killed: k == 1,
+        won: w == 1,
+        lost: l == 1,
+        drew: x == 1,
+        survived: y == 1,
     })
 }

@@ -1,14 +1,14 @@
 // The calls on an image alone: whether it is well-formed, and a snake's body.
-use crate::text::accept;
-use crate::text::put;
-use crate::text::put_number;
-use crate::text::put_words;
-use crate::text::refuse;
+use crate::writing::letter_line;
+use crate::writing::put;
+use crate::writing::put_number;
+use crate::writing::put_words;
+use crate::writing::refuse;
 
 // `x W`
 pub fn well_formed_line(words: &[u16], text: &mut [u8], at: usize) -> usize {
     if arena::well_formed(words) {
-        return accept(text, at);
+        return letter_line(text, at, b'a');
     }
     refuse(text, at, 20, true)
 }

@@ -5,119 +5,73 @@ mod chances;
 mod fields;
 mod images;
 mod marks;
-mod reading;
 mod rewards;
-mod settings;
 mod spaces;
 mod steps;
-mod text;
 mod views;
 mod with_image;
+mod writing;
 
 use crate::answer::answer_line;
-use crate::reading::Reading;
+use crate::writing::flush;
+use crate::writing::put;
 use libc::STDIN_FILENO;
 
-// Takes the bytes that were read; each newline ends a line, and its answer follows. The answers are written at the end, so
-// that whoever waits for them gets them before the next read.
+// Takes the bytes that were read, after the `begun` that are held; each newline ends a line, and its answer follows. The
+// answers are written at the end, so that whoever waits for them gets them before the next read.
 fn take_all(
     input: &[u8],
-    begun: Reading,
+    begun: usize,
+    line: &mut [u8],
     values: &mut [u64],
-    kinds: &mut [u8],
-    image: &mut [u16],
-    out: &mut [u16],
-    list: &mut [u16],
-    planes: &mut [f32],
     answers: &mut [u8],
-) -> Reading {
-    let mut line = begun;
+) -> usize {
+    let mut held = begun;
     let mut at = 0;
     let mut i = 0;
     while i < input.len() {
         let b = input[i];
         i += 1;
         if b == b'\n' {
-            at = answer_line(line, values, kinds, image, out, list, planes, answers, at);
-            line = reading::empty();
+            at = answer_line(line, held, values, answers, at);
+            held = 0;
         } else {
-            line = reading::take(line, b, values, kinds);
+            held = put(line, held, b);
         }
     }
-    text::flush(answers, at);
-    line
+    flush(answers, at);
+    held
 }
 
 // The last line, whose newline is missing.
-fn take_last(
-    line: Reading,
-    values: &mut [u64],
-    kinds: &mut [u8],
-    image: &mut [u16],
-    out: &mut [u16],
-    list: &mut [u16],
-    planes: &mut [f32],
-    answers: &mut [u8],
-) {
-    if reading::is_empty(line) {
+fn take_last(held: usize, line: &mut [u8], values: &mut [u64], answers: &mut [u8]) {
+    if held == 0 {
         return;
     }
-    let at = answer_line(line, values, kinds, image, out, list, planes, answers, 0);
-    text::flush(answers, at);
+    let newline = [b'\n'];
+    take_all(&newline, held, line, values, answers);
 }
 
 // Nothing says that the input ends, so the loop counts its turns down from a number that no run uses up.
-fn serve(
-    input: &mut [u8],
-    values: &mut [u64],
-    kinds: &mut [u8],
-    image: &mut [u16],
-    out: &mut [u16],
-    list: &mut [u16],
-    planes: &mut [f32],
-    answers: &mut [u8],
-) {
-    let mut line = reading::empty();
+fn serve(input: &mut [u8], line: &mut [u8], values: &mut [u64], answers: &mut [u8]) {
+    let mut held = 0;
     let mut turns = u64::MAX;
     while turns > 0 {
         let got = libc::read(STDIN_FILENO, input);
         let n = io::count(got, input);
         if n == 0 {
-            take_last(line, values, kinds, image, out, list, planes, answers);
+            take_last(held, line, values, answers);
             return;
         }
-        line = take_all(
-            &input[..n],
-            line,
-            values,
-            kinds,
-            image,
-            out,
-            list,
-            planes,
-            answers,
-        );
+        held = take_all(&input[..n], held, line, values, answers);
         turns -= 1;
     }
 }
 
 fn main() {
     let mut input = [0u8; 65536];
+    let mut line = [0u8; 131072];
     let mut values = [0u64; 18500];
-    let mut kinds = [0u8; 7];
-    let mut image = [0u16; 16384];
-    let mut out = [0u16; 16384];
-    let mut list = [0u16; 16384];
-    let mut planes = [0.0f32; 8192];
     let mut answers = [0u8; 131072];
-    serve(
-        &mut input,
-        &mut values,
-        &mut kinds,
-        &mut image,
-        &mut out,
-        &mut list,
-        &mut planes,
-        &mut answers,
-    );
+    serve(&mut input, &mut line, &mut values, &mut answers);
 }

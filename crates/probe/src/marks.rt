@@ -1,10 +1,10 @@
 // Events as text.
-use crate::text::put_flag;
-use crate::text::put_number;
+use crate::writing::put_each;
+use image::flag;
 use rules::Cause;
 use rules::Event;
 
-fn number_of(cause: Cause) -> u64 {
+fn number_of(cause: Cause) -> u16 {
     match cause {
         Cause::NoCause => 0,
         Cause::Wall => 1,
@@ -16,15 +16,18 @@ fn number_of(cause: Cause) -> u64 {
 
 // E, an event's eight numbers.
 pub fn put_event(text: &mut [u8], at: usize, e: Event) -> usize {
-    let a = put_flag(text, at, e.ate);
-    let b = put_flag(text, a, e.died);
     let cause = e.cause;
-    let c = put_number(text, b, number_of(cause));
-    let d = put_flag(text, c, e.killed);
-    let f = put_flag(text, d, e.won);
-    let g = put_flag(text, f, e.lost);
-    let h = put_flag(text, g, e.drew);
-    put_flag(text, h, e.survived)
+    let told = [
+        flag(e.ate),
+        flag(e.died),
+        number_of(cause),
+        flag(e.killed),
+        flag(e.won),
+        flag(e.lost),
+        flag(e.drew),
+        flag(e.survived),
+    ];
+    put_each(text, at, &told)
 }
 
 pub fn put_events(text: &mut [u8], from: usize, events: [Event; 8]) -> usize {

@@ -3,10 +3,9 @@ ghost use Prim.Native.Nat.{_≤_};
 ghost use lib.ListN.{length};
 use crate::fields::Told;
 use crate::fields::event_in;
-use crate::text::answer_number;
-use crate::text::no_call;
-use crate::text::refuse;
-use rules::Event;
+use crate::writing::answer_number;
+use crate::writing::letter_line;
+use crate::writing::refuse;
 use rules::Reward;
 use rules::Weights;
 
@@ -26,13 +25,6 @@ fn bits_of(x: f64) -> u64 {
     f64::to_bits(x)
 }
 
-fn reward(weights: Weights, event: Event, text: &mut [u8], at: usize) -> usize {
-    match arena::reward(weights, event) {
-        Reward::Sum(x) => answer_number(text, at, bits_of(x)),
-        Reward::Refused(no) => refuse(text, at, no, true),
-    }
-}
-
 fn weights_in(w: &[u64]) -> Weights
     requires { ⌜ 7 ≤ length (now w) ⌝ }
 {
@@ -50,10 +42,13 @@ fn weights_in(w: &[u64]) -> Weights
 // `w B1..B7 E`
 pub fn reward_line(values: &[u64], text: &mut [u8], at: usize) -> usize {
     if values.len() != 15 {
-        return no_call(text, at);
+        return letter_line(text, at, b'e');
     }
-    match event_in(&values[7..15]) {
-        Told::NoEvent => no_call(text, at),
-        Told::Tells(event) => reward(weights_in(values), event, text, at),
+    let Told::Tells(event) = event_in(&values[7..15]) else {
+        return letter_line(text, at, b'e');
+    };
+    match arena::reward(weights_in(values), event) {
+        Reward::Sum(x) => answer_number(text, at, bits_of(x)),
+        Reward::Refused(no) => refuse(text, at, no, true),
     }
 }

@@ -1,22 +1,15 @@
 // The spaces and the turn, which ask no state.
-use crate::settings::Side;
-use crate::settings::side_of;
-use crate::text::answer_number;
-use crate::text::no_call;
-use crate::text::put;
-use crate::text::put_number;
-use crate::text::refuse;
-use rules::Heading;
+use crate::writing::answer_number;
+use crate::writing::letter_line;
+use crate::writing::put;
+use crate::writing::put_number;
+use crate::writing::refuse;
+use image::heading_of;
+use image::number_of;
 use rules::RelativeAction;
 use rules::Space;
-
-fn put_box(text: &mut [u8], at: usize, planes: usize, high: usize, wide: usize) -> usize {
-    let a = put(text, at, b'a');
-    let b = put_number(text, a, planes as u64);
-    let c = put_number(text, b, high as u64);
-    let d = put_number(text, c, wide as u64);
-    put(text, d, b'\n')
-}
+use text::Grid;
+use text::grid_in;
 
 fn put_space(text: &mut [u8], at: usize, space: Space) -> usize {
     match space {
@@ -26,41 +19,32 @@ fn put_space(text: &mut [u8], at: usize, space: Space) -> usize {
             wide,
             low: _,
             top: _,
-        } => put_box(text, at, planes, high, wide),
+        } => {
+            let a = put(text, at, b'a');
+            let b = put_number(text, a, planes as u64);
+            let c = put_number(text, b, high as u64);
+            let d = put_number(text, c, wide as u64);
+            put(text, d, b'\n')
+        }
         Space::Discrete(n) => answer_number(text, at, n as u64),
         Space::Refused(no) => refuse(text, at, no, true),
     }
 }
 
 // `p GRID`
-pub fn observation_space_line(values: &[u64], kinds: &[u8], text: &mut [u8], at: usize) -> usize {
-    if values.len() != 1 {
-        return no_call(text, at);
-    }
-    if kinds.len() == 0 {
-        return no_call(text, at);
-    }
-    match side_of(kinds[0], values[0]) {
-        Side::NoSide => no_call(text, at),
-        Side::Cells(grid) => put_space(text, at, arena::observation_space(grid)),
+pub fn observation_space_line(s: &[u8], text: &mut [u8], at: usize) -> usize {
+    match grid_in(s) {
+        Grid::NoGrid => letter_line(text, at, b'e'),
+        Grid::GridIs(grid) => put_space(text, at, arena::observation_space(grid)),
     }
 }
 
-// `q`
-pub fn action_space_line(values: &[u64], text: &mut [u8], at: usize) -> usize {
-    if values.len() != 0 {
-        return no_call(text, at);
+// `q`, and no other letter.
+pub fn action_space_line(letter: u8, text: &mut [u8], at: usize) -> usize {
+    if letter != b'q' {
+        return letter_line(text, at, b'e');
     }
     put_space(text, at, arena::action_space())
-}
-
-fn heading_of(v: u64) -> Heading {
-    match v {
-        0 => Heading::Up,
-        1 => Heading::Right,
-        2 => Heading::Down,
-        _ => Heading::Left,
-    }
 }
 
 fn action_of(v: u64) -> RelativeAction {
@@ -71,25 +55,19 @@ fn action_of(v: u64) -> RelativeAction {
     }
 }
 
-fn number_of(heading: Heading) -> u64 {
-    match heading {
-        Heading::Up => 0,
-        Heading::Right => 1,
-        Heading::Down => 2,
-        Heading::Left => 3,
-    }
-}
-
 // `h HEADING ACTION`
 pub fn turn_line(values: &[u64], text: &mut [u8], at: usize) -> usize {
     if values.len() != 2 {
-        return no_call(text, at);
+        return letter_line(text, at, b'e');
     }
     let heading = values[0];
     let action = values[1];
-    if (3 < heading) | (2 < action) {
-        return no_call(text, at);
+    if 3 < heading {
+        return letter_line(text, at, b'e');
     }
-    let turned = arena::relative_to_absolute(heading_of(heading), action_of(action));
-    answer_number(text, at, number_of(turned))
+    if 2 < action {
+        return letter_line(text, at, b'e');
+    }
+    let turned = arena::relative_to_absolute(heading_of(heading as u16), action_of(action));
+    answer_number(text, at, number_of(turned) as u64)
 }

@@ -1,20 +1,19 @@
 // What an agent sees and may do: observation, actor, legal actions, length cell and truncation.
-use crate::buffers::fill_planes;
 use crate::buffers::planes_kept;
 use crate::fields::Told;
 use crate::fields::event_in;
 use crate::fields::size;
 use crate::fields::value;
 use crate::marks::put_event;
-use crate::text::answer_number;
-use crate::text::end;
-use crate::text::no_call;
-use crate::text::put;
-use crate::text::put_number;
-use crate::text::refuse;
+use crate::writing::answer_number;
+use crate::writing::end;
+use crate::writing::letter_line;
+use crate::writing::put;
+use crate::writing::put_number;
+use crate::writing::put_words;
+use crate::writing::refuse;
 use rules::Actor;
 use rules::Answer;
-use rules::Event;
 use rules::Legal;
 use rules::LengthCell;
 use rules::Truncated;
@@ -52,7 +51,6 @@ fn put_planes(text: &mut [u8], at: usize, planes: &[f32], n: usize) -> usize {
 }
 
 fn observe(words: &[u16], agent: u64, planes: &mut [f32], text: &mut [u8], at: usize) -> usize {
-    fill_planes(planes);
     match arena::observe(words, agent, planes) {
         Answer::Done(n) => put_planes(text, at, planes, n),
         Answer::Refused(no) => refuse(text, at, no, planes_kept(planes, 0)),
@@ -60,17 +58,12 @@ fn observe(words: &[u16], agent: u64, planes: &mut [f32], text: &mut [u8], at: u
 }
 
 // `o AGENT cap W`
-pub fn observe_line(
-    values: &[u64],
-    words: &[u16],
-    planes: &mut [f32],
-    text: &mut [u8],
-    at: usize,
-) -> usize {
+pub fn observe_line(values: &[u64], words: &[u16], text: &mut [u8], at: usize) -> usize {
     let cap = size(values, 1);
-    if planes.len() < cap {
-        return no_call(text, at);
+    if 8192 < cap {
+        return letter_line(text, at, b'e');
     }
+    let mut planes = [0.5f32; 8192];
     observe(words, value(values, 0), &mut planes[0..cap], text, at)
 }
 
@@ -83,60 +76,48 @@ pub fn actor_line(words: &[u16], text: &mut [u8], at: usize) -> usize {
     }
 }
 
-fn put_actions(text: &mut [u8], at: usize) -> usize {
-    let a = put(text, at, b'a');
-    let b = put_number(text, a, 3);
-    let c = put_number(text, b, 0);
-    let d = put_number(text, c, 1);
-    let e = put_number(text, d, 2);
-    put(text, e, b'\n')
-}
-
 // `l AGENT W`
 pub fn legal_line(agent: u64, words: &[u16], text: &mut [u8], at: usize) -> usize {
     match arena::legal_actions(words, agent) {
-        Legal::AnyAction => put_actions(text, at),
+        Legal::AnyAction => {
+            let actions = [0u16, 1, 2];
+            let i = put(text, at, b'a');
+            let j = put_words(text, i, &actions, 3);
+            put(text, j, b'\n')
+        }
         Legal::NoAction => answer_number(text, at, 0),
         Legal::Refused(no) => refuse(text, at, no, true),
     }
 }
 
-fn put_key(text: &mut [u8], at: usize, key: u64) -> usize {
-    let a = put(text, at, b'a');
-    let b = put_number(text, a, 1);
-    let c = put_number(text, b, key);
-    put(text, c, b'\n')
-}
-
 // `z W`
 pub fn length_cell_line(words: &[u16], text: &mut [u8], at: usize) -> usize {
     match arena::length_cell(words) {
-        LengthCell::Key(key) => put_key(text, at, key),
+        LengthCell::Key(key) => {
+            let i = put(text, at, b'a');
+            let j = put_number(text, i, 1);
+            let k = put_number(text, j, key);
+            put(text, k, b'\n')
+        }
         LengthCell::NoKey => answer_number(text, at, 0),
         LengthCell::Refused(no) => refuse(text, at, no, true),
-    }
-}
-
-fn put_mark(text: &mut [u8], at: usize, event: Event) -> usize {
-    let a = put(text, at, b'a');
-    let b = put_event(text, a, event);
-    put(text, b, b'\n')
-}
-
-fn truncation(words: &[u16], agent: u64, event: Event, text: &mut [u8], at: usize) -> usize {
-    match arena::truncation(words, agent, event) {
-        Truncated::Marked(marked) => put_mark(text, at, marked),
-        Truncated::Refused(no) => refuse(text, at, no, true),
     }
 }
 
 // `u AGENT E W`
 pub fn truncation_line(values: &[u64], words: &[u16], text: &mut [u8], at: usize) -> usize {
     if values.len() < 9 {
-        return no_call(text, at);
+        return letter_line(text, at, b'e');
     }
-    match event_in(&values[1..9]) {
-        Told::NoEvent => no_call(text, at),
-        Told::Tells(event) => truncation(words, values[0], event, text, at),
+    let Told::Tells(event) = event_in(&values[1..9]) else {
+        return letter_line(text, at, b'e');
+    };
+    match arena::truncation(words, values[0], event) {
+        Truncated::Marked(marked) => {
+            let i = put(text, at, b'a');
+            let j = put_event(text, i, marked);
+            put(text, j, b'\n')
+        }
+        Truncated::Refused(no) => refuse(text, at, no, true),
     }
 }

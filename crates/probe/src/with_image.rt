@@ -1,17 +1,17 @@
 // The calls that end in an image: its words are read first, then the call goes by its letter.
+use crate::buffers::PATTERN;
 use crate::chances;
 use crate::fields::NOWHERE;
 use crate::fields::size;
 use crate::fields::value;
 use crate::fields::words_in;
 use crate::images;
-use crate::steps;
-use crate::text::no_call;
 use crate::views;
+use crate::writing::letter_line;
 ghost use Prim.Native.Nat.{_≤_};
 
 // Where the words begin after a list, whose count is field k and at most `most`.
-fn after_list(values: &[u64], k: usize, most: usize) -> usize
+pub fn after_list(values: &[u64], k: usize, most: usize) -> usize
     requires { ⌜ (k ≤ 8) × (most ≤ 2048) ⌝ }
 {
     let n = size(values, k);
@@ -34,73 +34,39 @@ fn words_from(letter: u8, values: &[u64]) -> usize {
         b'd' => 3,
         b'u' => 9,
         b'k' => after_list(values, 0, 2048),
-        b's' => after_list(values, 8, 64),
         _ => NOWHERE,
     }
 }
 
-// The calls on an image that lend no buffer.
-fn query(letter: u8, values: &[u64], words: &[u16], text: &mut [u8], at: usize) -> usize {
+fn query(
+    letter: u8,
+    values: &[u64],
+    from: usize,
+    words: &[u16],
+    text: &mut [u8],
+    at: usize,
+) -> usize {
     match letter {
         b'c' => chances::count_line(words, text, at),
+        b'd' => chances::draw_line(values, words, text, at),
+        b'k' => chances::rank_line(values, from, words, text, at),
+        b'o' => views::observe_line(values, words, text, at),
         b't' => views::actor_line(words, text, at),
         b'z' => views::length_cell_line(words, text, at),
         b'x' => images::well_formed_line(words, text, at),
         b'b' => images::body_line(value(values, 0), words, text, at),
         b'l' => views::legal_line(value(values, 0), words, text, at),
         b'u' => views::truncation_line(values, words, text, at),
-        _ => no_call(text, at),
+        _ => letter_line(text, at, b'e'),
     }
 }
 
-// The calls on an image that lend a buffer.
-fn lending_call(
-    letter: u8,
-    values: &[u64],
-    kinds: &[u8],
-    from: usize,
-    words: &[u16],
-    out: &mut [u16],
-    list: &mut [u16],
-    planes: &mut [f32],
-    text: &mut [u8],
-    at: usize,
-) -> usize {
-    match letter {
-        b'd' => chances::draw_line(values, words, out, list, text, at),
-        b'o' => views::observe_line(values, words, planes, text, at),
-        b'k' => chances::rank_line(values, from, words, list, text, at),
-        b's' => steps::step_line(values, kinds, from, words, out, text, at),
-        _ => query(letter, values, words, text, at),
-    }
-}
-
-pub fn image_call(
-    letter: u8,
-    values: &[u64],
-    kinds: &[u8],
-    image: &mut [u16],
-    out: &mut [u16],
-    list: &mut [u16],
-    planes: &mut [f32],
-    text: &mut [u8],
-    at: usize,
-) -> usize {
+pub fn image_call(letter: u8, values: &[u64], text: &mut [u8], at: usize) -> usize {
+    let mut image = [PATTERN; 16384];
     let from = words_from(letter, values);
-    let n = words_in(values, from, image);
-    if image.len() < n {
-        return no_call(text, at);
+    let n = words_in(values, from, &mut image);
+    if 16384 < n {
+        return letter_line(text, at, b'e');
     }
-    lending_call(
-        letter,
-        values,
-        kinds,
-        from,
-        &image[0..n],
-        out,
-        list,
-        planes,
-        text,
-        at,
-    )
+    query(letter, values, from, &image[0..n], text, at)
 }

@@ -66,7 +66,7 @@ pub fn next_start(s: &[u8], at: usize) -> usize
 }
 
 // Where the k-th field starts; past the line where there is none.
-fn start_of(s: &[u8], k: usize) -> usize
+pub fn start_of(s: &[u8], k: usize) -> usize
     ensures { λ r. ⌜ (r ≤ length (now (s .entry)) + 1) × (piecesFrom 32 (now (s .entry)) r ≡ drop k (fieldsOf (now (s .entry)))) ⌝ }
 {
     let mut at = 0;

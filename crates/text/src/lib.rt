@@ -1,4 +1,4 @@
-// The replay's text: the input cut into lines, lines read, pieces of lines written. The types that its modules share.
+// The text of the programs: the input cut into lines, lines read, pieces of lines written. The types that its modules share.
 mod bytes;
 mod fields;
 mod letters;
@@ -7,14 +7,18 @@ mod numbers;
 mod split;
 
 pub use bytes::put;
+pub use bytes::put_item;
 pub use fields::more_if;
+pub use fields::start_of;
 pub use letters::put_body;
 pub use letters::put_events;
 pub use letters::put_head;
 pub use letters::put_places;
 pub use letters::put_refusal;
+pub use lines::next_number;
 pub use lines::read_first;
 pub use lines::read_later;
+pub use numbers::grid_in;
 use rules::Limit;
 use rules::Setting;
 pub use split::feed;

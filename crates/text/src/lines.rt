@@ -116,7 +116,7 @@ fn draw_in(s: &[u8]) -> Entry
 }
 
 // The number of the field that starts at `at`, and the start of the next.
-fn next_number(s: &[u8], at: usize) -> Got
+pub fn next_number(s: &[u8], at: usize) -> Got
     requires { ⌜ at ≤ length (now s) + 1 ⌝ }
     ensures { λ r. ⌜ Gets (now (s .entry)) at r ⌝ }
 {

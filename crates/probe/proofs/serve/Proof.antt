@@ -6,15 +6,11 @@ use Rattle.probe.proofs.serve.Statement.{statement}
 use Rattle.probe.proofs.serve.Tie as tie
 
 abbrev Inv-loop : tie.InvT-loop
-Inv-loop input₀ values₀ kinds₀ image₀ out₀ list₀ planes₀ answers₀ line₀ turns₀ input values kinds image out list planes answers line turns =
-    (length input ≡ length input₀) × (length values ≡ length values₀) × (length kinds ≡ length kinds₀) × (length image ≡ length image₀) × (length out ≡ length out₀) × (length list ≡ length list₀) × (length planes ≡ length planes₀) × (length answers ≡ length answers₀)
+Inv-loop input₀ line₀ values₀ answers₀ held₀ turns₀ input line values answers held turns =
+    (length input ≡ length input₀) × (length line ≡ length line₀) × (length values ≡ length values₀) × (length answers ≡ length answers₀)
 
 abbrev μ-loop : tie.MeasureT-loop
-μ-loop input₀ values₀ kinds₀ image₀ out₀ list₀ planes₀ answers₀ line₀ turns₀ input values kinds image out list planes answers line turns =
-    turns
-
-empty-requires : tie.Need-empty-requires Inv-loop μ-loop
-empty-requires c κs = search needs
+μ-loop input₀ line₀ values₀ answers₀ held₀ turns₀ input line values answers held turns = turns
 
 loop-holds : tie.Need-loop-holds Inv-loop μ-loop
 loop-holds c = search needs
@@ -40,18 +36,6 @@ same-length-3 c = search needs
 same-length-4 : tie.Need-same-length-4 Inv-loop μ-loop
 same-length-4 c = search needs
 
-same-length-5 : tie.Need-same-length-5 Inv-loop μ-loop
-same-length-5 c = search needs
-
-same-length-6 : tie.Need-same-length-6 Inv-loop μ-loop
-same-length-6 c = search needs
-
-same-length-7 : tie.Need-same-length-7 Inv-loop μ-loop
-same-length-7 c = search needs
-
-same-length-8 : tie.Need-same-length-8 Inv-loop μ-loop
-same-length-8 c = search needs
-
 returns : tie.Need-returns Inv-loop μ-loop
 returns c = search needs
 
@@ -73,29 +57,17 @@ loop-less c = search needs
 loop-again : tie.Need-loop-again Inv-loop μ-loop
 loop-again c = search needs
 
-same-length-9 : tie.Need-same-length-9 Inv-loop μ-loop
-same-length-9 c = search needs
+same-length-5 : tie.Need-same-length-5 Inv-loop μ-loop
+same-length-5 c = search needs
 
-same-length-10 : tie.Need-same-length-10 Inv-loop μ-loop
-same-length-10 c = search needs
+same-length-6 : tie.Need-same-length-6 Inv-loop μ-loop
+same-length-6 c = search needs
 
-same-length-11 : tie.Need-same-length-11 Inv-loop μ-loop
-same-length-11 c = search needs
+same-length-7 : tie.Need-same-length-7 Inv-loop μ-loop
+same-length-7 c = search needs
 
-same-length-12 : tie.Need-same-length-12 Inv-loop μ-loop
-same-length-12 c = search needs
-
-same-length-13 : tie.Need-same-length-13 Inv-loop μ-loop
-same-length-13 c = search needs
-
-same-length-14 : tie.Need-same-length-14 Inv-loop μ-loop
-same-length-14 c = search needs
-
-same-length-15 : tie.Need-same-length-15 Inv-loop μ-loop
-same-length-15 c = search needs
-
-same-length-16 : tie.Need-same-length-16 Inv-loop μ-loop
-same-length-16 c = search needs
+same-length-8 : tie.Need-same-length-8 Inv-loop μ-loop
+same-length-8 c = search needs
 
 returns-2 : tie.Need-returns-2 Inv-loop μ-loop
 returns-2 c = search needs
@@ -106,7 +78,6 @@ serve-spec =
     (tie.spec
     Inv-loop
     μ-loop
-    empty-requires
     loop-holds
     read-requires
     count-requires
@@ -115,10 +86,6 @@ serve-spec =
     same-length-2
     same-length-3
     same-length-4
-    same-length-5
-    same-length-6
-    same-length-7
-    same-length-8
     returns
     slice-reshare-prefix-take-all
     slice-aggregate-take-all
@@ -126,12 +93,8 @@ serve-spec =
     sub-turns
     loop-less
     loop-again
-    same-length-9
-    same-length-10
-    same-length-11
-    same-length-12
-    same-length-13
-    same-length-14
-    same-length-15
-    same-length-16
+    same-length-5
+    same-length-6
+    same-length-7
+    same-length-8
     returns-2)

@@ -7,12 +7,11 @@ use Rattle.probe.proofs.take_all.Statement.{statement}
 use Rattle.probe.proofs.take_all.Tie as tie
 
 abbrev Inv-loop : tie.InvT-loop
-Inv-loop input values₀ kinds₀ image₀ out₀ list₀ planes₀ answers₀ line₀ at₀ i₀ values kinds image out list planes answers line at i =
-    (i ≤ length input) × (length values ≡ length values₀) × (length kinds ≡ length kinds₀) × (length image ≡ length image₀) × (length out ≡ length out₀) × (length list ≡ length list₀) × (length planes ≡ length planes₀) × (length answers ≡ length answers₀)
+Inv-loop input begun line₀ values₀ answers₀ held₀ at₀ i₀ line values answers held at i =
+    (i ≤ length input) × (length line ≡ length line₀) × (length values ≡ length values₀) × (length answers ≡ length answers₀)
 
 abbrev μ-loop : tie.MeasureT-loop
-μ-loop input values₀ kinds₀ image₀ out₀ list₀ planes₀ answers₀ line₀ at₀ i₀ values kinds image out list planes answers line at i =
-    length input - i
+μ-loop input begun line₀ values₀ answers₀ held₀ at₀ i₀ line values answers held at i = length input - i
 
 loop-holds : tie.Need-loop-holds Inv-loop μ-loop
 loop-holds c = search needs
@@ -26,17 +25,14 @@ add-i c = search needs
 answer-line-requires : tie.Need-answer-line-requires Inv-loop μ-loop
 answer-line-requires c κs = search needs
 
-empty-requires : tie.Need-empty-requires Inv-loop μ-loop
-empty-requires c κs = search needs
-
 loop-less : tie.Need-loop-less Inv-loop μ-loop
 loop-less c = search needs
 
 loop-again : tie.Need-loop-again Inv-loop μ-loop
 loop-again c = search needs
 
-take-requires : tie.Need-take-requires Inv-loop μ-loop
-take-requires c κs = search needs
+put-requires : tie.Need-put-requires Inv-loop μ-loop
+put-requires c κs = search needs
 
 loop-less-2 : tie.Need-loop-less-2 Inv-loop μ-loop
 loop-less-2 c = search needs
@@ -56,18 +52,6 @@ same-length-2 c = search needs
 same-length-3 : tie.Need-same-length-3 Inv-loop μ-loop
 same-length-3 c = search needs
 
-same-length-4 : tie.Need-same-length-4 Inv-loop μ-loop
-same-length-4 c = search needs
-
-same-length-5 : tie.Need-same-length-5 Inv-loop μ-loop
-same-length-5 c = search needs
-
-same-length-6 : tie.Need-same-length-6 Inv-loop μ-loop
-same-length-6 c = search needs
-
-same-length-7 : tie.Need-same-length-7 Inv-loop μ-loop
-same-length-7 c = search needs
-
 returns : tie.Need-returns Inv-loop μ-loop
 returns c = search needs
 
@@ -81,18 +65,13 @@ take-all-spec =
     shared-slice-read-b
     add-i
     answer-line-requires
-    empty-requires
     loop-less
     loop-again
-    take-requires
+    put-requires
     loop-less-2
     loop-again-2
     flush-requires
     same-length
     same-length-2
     same-length-3
-    same-length-4
-    same-length-5
-    same-length-6
-    same-length-7
     returns)

@@ -3,8 +3,8 @@ use mathlib.Core.Path.{_≡_}
 use Prim.Native.Nat.{_-_, _≤_}
 use native.Mathlib.Omega.{arith}
 use borrow.Author.Needs.{needs}
-use Rattle.probe.proofs.text.put_each.Statement.{statement}
-use Rattle.probe.proofs.text.put_each.Tie as tie
+use Rattle.probe.proofs.writing.put_each.Statement.{statement}
+use Rattle.probe.proofs.writing.put_each.Tie as tie
 
 abbrev Inv-loop : tie.InvT-loop
 Inv-loop text₀ from words at₀ k₀ text at k = (k ≤ length words) × (length text ≡ length text₀)

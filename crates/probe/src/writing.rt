@@ -1,7 +1,7 @@
 // Answers as text, put one after the other into a lent buffer. Each call answers the index after what it put.
 // An answer has at most 60,000 bytes and the buffer is written out at 32,768, so that its room never ends.
 use libc::STDOUT_FILENO;
-ghost use Prim.Native.Nat.{_<_};
+use text::put_item;
 
 pub fn put(text: &mut [u8], at: usize, b: u8) -> usize {
     if text.len() <= at {
@@ -20,56 +20,15 @@ pub fn flush(text: &[u8], at: usize) -> usize {
     0
 }
 
-fn put_digit(text: &mut [u8], at: usize, v: u64) -> usize
-    requires { ⌜ v < 10 ⌝ }
-{
-    put(text, at, 48 + v as u8)
-}
-
-fn put_bytes(text: &mut [u8], from: usize, bytes: &[u8]) -> usize {
-    let mut at = from;
-    let mut k = 0;
-    while k < bytes.len() {
-        at = put(text, at, bytes[k]);
-        k += 1;
-    }
-    at
-}
-
-fn put_long(text: &mut [u8], at: usize, v: u64) -> usize {
-    let mut digits = [0u8; 20];
-    let k = io::decimal(v, &mut digits);
-    put_bytes(text, at, &digits[..k])
-}
-
-// A number in decimal. Most are short.
-fn put_decimal(text: &mut [u8], at: usize, v: u64) -> usize {
-    if v < 10 {
-        return put_digit(text, at, v);
-    }
-    if v < 100 {
-        let i = put_digit(text, at, v / 10);
-        return put_digit(text, i, v % 10);
-    }
-    if v < 1000 {
-        let i = put_digit(text, at, v / 100);
-        let j = put_digit(text, i, v / 10 % 10);
-        return put_digit(text, j, v % 10);
-    }
-    put_long(text, at, v)
-}
-
-// A space and a number.
+// A space and a number, of at most twenty digits.
 pub fn put_number(text: &mut [u8], at: usize, v: u64) -> usize {
-    let i = put(text, at, b' ');
-    put_decimal(text, i, v)
-}
-
-pub fn put_flag(text: &mut [u8], at: usize, flag: bool) -> usize {
-    if flag {
-        return put_number(text, at, 1);
+    if text.len() < 21 {
+        return at;
     }
-    put_number(text, at, 0)
+    if text.len() - 21 < at {
+        return at;
+    }
+    put_item(text, at, b' ', v)
 }
 
 // Each word, after a space.
@@ -98,8 +57,7 @@ pub fn end(text: &mut [u8], at: usize, kept: bool) -> usize {
         return put(text, at, b'\n');
     }
     let i = put(text, at, b' ');
-    let j = put(text, i, b'!');
-    put(text, j, b'\n')
+    letter_line(text, i, b'!')
 }
 
 // The line of a refusal.
@@ -116,14 +74,8 @@ pub fn answer_number(text: &mut [u8], at: usize, v: u64) -> usize {
     put(text, j, b'\n')
 }
 
-// The line of an answer that says nothing more.
-pub fn accept(text: &mut [u8], at: usize) -> usize {
-    let i = put(text, at, b'a');
-    put(text, i, b'\n')
-}
-
-// The answer to a line that is no call.
-pub fn no_call(text: &mut [u8], at: usize) -> usize {
-    let i = put(text, at, b'e');
+// A letter that ends its line: `a` for an answer that says nothing more, `e` for no call.
+pub fn letter_line(text: &mut [u8], at: usize, letter: u8) -> usize {
+    let i = put(text, at, letter);
     put(text, i, b'\n')
 }
