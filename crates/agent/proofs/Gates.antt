@@ -7,10 +7,9 @@ use lib.Dec.{eqb, ltb}
 use borrow.Author.Tests.{lt-ltb, le-ltb}
 use Rattle.lists.specs.Choice.{_if_else_}
 use Rattle.rules.specs.Image.{snakesIn, dueIn, aliveAt, stateOf, wellFormed}
-use Rattle.rules.specs.LengthKey.{lengthKey}
 use Rattle.rules.specs.Turns.{truncated}
 use Rattle.rules.specs.Says.{refuses, gives}
-use Rattle.rules.specs.Calls.{actorSays, legalSays, keySays, truncationSays}
+use Rattle.rules.specs.Calls.{actorSays, legalSays, truncationSays}
 use Rattle.rules.specs.declared.Event.{Event}
 use Rattle.rules.proofs.Parts.{state-snake}
 
@@ -20,10 +19,6 @@ module _ (w : List ℕ) (bad : wellFormed w ≡ false) where
   pub actor-20 : refuses 20 ≡ actorSays w
   unfolding actorSays
   actor-20 = rw bad
-
-  pub key-20 : refuses 20 ≡ keySays w
-  unfolding keySays
-  key-20 = rw bad
 
   module _ (a : ℕ) where
     pub legal-20 : refuses 20 ≡ legalSays w a
@@ -38,10 +33,6 @@ module _ (w : List ℕ) (ok : wellFormed w ≡ true) where
   pub actor-gives : (b : Bool) → ltb 0 (dueIn w) ≡ b → gives b ≡ actorSays w
   unfolding actorSays stateOf
   actor-gives b e = rw (ok, e)
-
-  pub key-gives : gives (lengthKey (stateOf w)) ≡ keySays w
-  unfolding keySays
-  key-gives = rw ok
 
   -- ---- 26
 

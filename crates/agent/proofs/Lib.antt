@@ -1,4 +1,3 @@
 pub mod Sizes
-pub mod Keys
 pub mod Gates
 pub mod Theorems

@@ -1,11 +1,7 @@
-// What an agent may do and gets: turns, legal actions, the spaces, the length cell, truncation, the reward.
-mod lengths;
-mod rewards;
+// What an agent may do: turns, legal actions, the spaces, and the mark of a truncation.
 mod spaces;
 mod turns;
 
-pub use lengths::length_cell;
-pub use rewards::reward;
 pub use spaces::action_space;
 pub use spaces::observation_space;
 pub use turns::actor;

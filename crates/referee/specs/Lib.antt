@@ -2,5 +2,3 @@ pub mod Places
 pub mod Shown
 pub mod Match
 pub mod Run
-pub mod Sample
-pub mod Cases

@@ -16,9 +16,9 @@ pub use Rattle.theorems.proofs.Definitions.{turn-is, check-is, body-is,
 pub use Rattle.rules.proofs.Examples.{examples-hold, more-hold}
 -- Demand 2: its sample match, as states and as text
 pub use Rattle.rules.proofs.Sample.{sample-holds as sample-played}
-pub use Rattle.referee.proofs.Cases.{sample-holds as sample-printed}
+pub use Rattle.theorems.proofs.Cases.{sample-holds as sample-printed}
 -- Demand 2: where the replay is subtle, input and output as one table
-pub use Rattle.referee.proofs.Cases.{cases-hold}
+pub use Rattle.theorems.proofs.Cases.{cases-hold}
 -- Demand 2: what a program prints that takes the lines of its input one by one is the replay of that input
 pub use Rattle.referee.proofs.Whole.{run-prints}
 -- Demand 2: the cell ahead shows above the head, for each heading

@@ -2,5 +2,6 @@ pub mod Tables
 pub mod Refusals
 pub mod Eaten
 pub mod Longest
+pub mod Cases
 pub mod Definitions
 pub mod Headlines

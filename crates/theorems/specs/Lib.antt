@@ -1,1 +1,3 @@
 pub mod Orders
+pub mod Sample
+pub mod Cases
