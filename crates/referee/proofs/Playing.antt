@@ -19,10 +19,11 @@ use Rattle.rules.specs.Events.{blank, eight}
 use Rattle.rules.specs.declared.Event.{Event}
 use Rattle.rules.proofs.Image.{snakes-is}
 use Rattle.text.specs.Lines.{readLater}
-use Rattle.text.specs.Text.{Wrote, lineText, refusalText}
-use Rattle.referee.specs.Shown.{lineShown, markShown}
-use Rattle.referee.specs.Match.{Turn, snakesOf, endsBy, marked, moved, movedTurn, eventsShown, asked, beginSays, turnSays, endText, lineSays, closeText, Stops, Shows, Plays}
-use Rattle.referee.specs.declared.Match.{Match}
+use Rattle.text.specs.Text.{lineText, refusalText}
+use Rattle.standing.specs.Shown.{lineShown, markShown}
+use Rattle.referee.specs.Match.{Turn, marked, movedTurn, eventsShown, asked, beginSays, turnSays, lineSays, closeText, Stops, Shows, Plays}
+use Rattle.standing.specs.Standing.{snakesOf, endsBy, moved, endText}
+use Rattle.standing.specs.declared.Match.{Match}
 use Rattle.referee.specs.declared.Desk.{Desk}
 use Rattle.referee.specs.declared.Turned.{Turned}
 use Rattle.referee.proofs.Showing.{line-shown, marks-shown}

@@ -1,14 +1,14 @@
 -- The words of a state's image show the line of the state, and mark its living. Assumes nothing.
-use Prim.Native.Nat.{ℕ, suc, _+_, _-_, _<_, _≤_}
+use Prim.Native.Nat.{ℕ, suc, _+_, _-_, _<_}
 use native.Mathlib.Nat.{add-zero}
 use native.Mathlib.Omega.{arith}
-use mathlib.Core.Path.{_≡_, refl, sym, ap, ap₂, _∙_}
+use mathlib.Core.Path.{_≡_, refl, sym, ap, _∙_}
 use mathlib.Core.Bool.{Bool}
 use mathlib.Core.List.{List, [], _∷_, _++_}
 use lib.Dec.{eqb}
 use lib.ListN.{length, getD, take, drop, replicate}
 use lib.Seq.{getD-drop, getD-take}
-use Rattle.lists.specs.Below.{eachBelow, concatBelow, filled}
+use Rattle.lists.specs.Below.{filled}
 use Rattle.lists.proofs.Below.{each-ext, concat-ext}
 use Rattle.rules.specs.State.{State, count, snakeOf}
 use Rattle.rules.specs.Image.{word, lengthAt, aliveAt, startAt, bodyOf, imageOf}
@@ -16,8 +16,8 @@ use Rattle.rules.specs.Events.{blank}
 use Rattle.rules.specs.Turns.{truncated}
 use Rattle.rules.specs.declared.Event.{Event}
 use Rattle.rules.proofs.Image.{alive-is, length-is, body-is, bit-back}
-use Rattle.text.specs.Text.{eventsText, firstText, bodyText, snakeText, headText, lineText}
-use Rattle.referee.specs.Shown.{snakeShown, snakeShownBy, lineShown, markShown}
+use Rattle.text.specs.Text.{firstText, bodyText, snakeText, headText, lineText}
+use Rattle.standing.specs.Shown.{snakeShown, snakeShownBy, lineShown, markShown}
 use Rattle.referee.specs.Match.{markedAt, marked}
 
 -- the first word of a part that is not empty

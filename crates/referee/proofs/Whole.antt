@@ -14,7 +14,8 @@ use Rattle.text.specs.Fields.{upTo}
 use Rattle.text.specs.Lines.{readFirst, readLater}
 use Rattle.text.specs.Split.{linesOf}
 use Rattle.text.specs.Text.{Wrote}
-use Rattle.referee.specs.Match.{Turn, snakesOf, openedBy, beginSays, turnSays, said, lineSays, closeText, Plays, onward, playOn, played, replayOf}
+use Rattle.referee.specs.Match.{Turn, openedBy, beginSays, turnSays, said, lineSays, closeText, Plays, onward, playOn, played, replayOf}
+use Rattle.standing.specs.Standing.{snakesOf}
 use Rattle.referee.specs.Run.{Took, Closed, deskAfter, Run, holds, goes, stops, ends, goes-last, stops-last}
 use Rattle.referee.specs.declared.Desk.{Desk}
 use Rattle.referee.specs.declared.Turned.{Turned}

@@ -1,4 +1,2 @@
-pub mod Places
-pub mod Shown
 pub mod Match
 pub mod Run

@@ -1,9 +1,8 @@
 -- The match as a value, what each line does to it, and the whole replay (01, 'Replay'). Assumes nothing.
 use Prim.Native.Nat.{ℕ, _+_}
 use mathlib.Core.Path.{_≡_}
-use mathlib.Core.Bool.{Bool, true, false, not, _&&_, _||_}
+use mathlib.Core.Bool.{Bool, true, false, not}
 use mathlib.Core.List.{List, [], _∷_, _++_}
-use lib.Dec.{ltb, leb, eqb}
 use lib.ListN.{length, getD, take, replicate}
 use Rattle.lists.specs.Choice.{_if_else_}
 use Rattle.lists.specs.Below.{filled}
@@ -15,20 +14,18 @@ use Rattle.rules.specs.Turns.{truncated}
 use Rattle.rules.specs.Says.{Says, refuses, gives, seen, beside, lent}
 use Rattle.rules.specs.Calls.{initialSays, stepSays, Draw, drawSays}
 use Rattle.rules.specs.declared.Setting.{Setting}
-use Rattle.rules.specs.declared.Limit.{Limit}
-use Rattle.rules.specs.declared.Limit.the-variants.{Unset, Is}
 use Rattle.rules.specs.declared.Event.{Event}
 use Rattle.text.specs.Lines.{readFirst, readLater}
 use Rattle.text.specs.Split.{linesOf}
-use Rattle.referee.specs.Places.{placesOf}
-use Rattle.referee.specs.Shown.{lineShown, markShown}
-use Rattle.text.specs.Text.{lineText, refusalText, placesText, Wrote}
+use Rattle.standing.specs.Shown.{lineShown, markShown}
+use Rattle.standing.specs.Standing.{snakesOf, endsBy, moved, endText}
+use Rattle.text.specs.Text.{lineText, refusalText, Wrote}
 use Rattle.text.specs.declared.First.{First}
 use Rattle.text.specs.declared.First.the-variants.{NoFirst, Opens}
 use Rattle.text.specs.declared.Line.{Line}
 use Rattle.text.specs.declared.Line.the-variants.{NoLine, DrawLine, MoveLine}
 use Rattle.text.specs.declared.Entry.{Entry}
-use Rattle.referee.specs.declared.Match.{Match}
+use Rattle.standing.specs.declared.Match.{Match}
 use Rattle.referee.specs.declared.Desk.{Desk}
 use Rattle.referee.specs.declared.Turned.{Turned}
 
@@ -37,10 +34,6 @@ pub record Turn : Type 0 where
   pub next : State
   pub game : Match
   pub text : List ℕ
-
--- no accepted setting has more than eight snakes
-abbrev pub snakesOf : Match → ℕ
-snakesOf m = 8 if ltb 8 (m .setting .snakes) else m .setting .snakes
 
 -- ---- the first line
 
@@ -70,41 +63,12 @@ drawnTurn m d = record { next = d .next; game = m; text = lineText 100 false (d 
 
 -- ---- a move
 
--- one move more; 2^64 - 1 of them are never made
-abbrev pub counted : ℕ → ℕ
-counted k = k + 1 if ltb k 18446744073709551615 else k
-
--- 'moves at or above max_ticks'
-abbrev pub reached : Limit → ℕ → Bool
-reached Unset k = false
-reached (Is most) k = leb most k
-
--- 'After a move that is not terminal'
-abbrev pub endsBy : Match → Bool → Bool
-endsBy m over = not over && reached (m .setting .ticks) (counted (m .moves))
-
 -- 'marks the living y'
 abbrev pub markedAt : State → List Event → ℕ → Event
 markedAt t es i = truncated (getD es i blank) (snakeOf t i .alive)
 
 abbrev pub marked : State → List Event → List Event
 marked t es = filled (markedAt t es) (count t) 8 blank
-
--- the move on which a snake died: this one, k, for those that die on it
-abbrev pub deathAt : ℕ → List ℕ → List Event → ℕ → ℕ
-deathAt k deaths es i = k if getD es i blank .died else getD deaths i 0
-
-abbrev pub deathsAfter : ℕ → List ℕ → List Event → List ℕ
-deathsAfter k deaths es = filled (deathAt k deaths es) 8 8 0
-
--- the match after a move that was terminal or not, with these events
-abbrev pub moved : Match → Bool → List Event → Match
-moved m over es = record {
-  setting = m .setting;
-  moves = counted (m .moves);
-  deaths = deathsAfter (counted (m .moves)) (m .deaths) es;
-  over = over || endsBy m over;
-}
 
 -- 'marks the living y and ends the match; its line still shows terminal 0'
 unfoldable pub movedTurn : Match → Outcome → Turn
@@ -166,11 +130,7 @@ pub record Shows (m : Match) (letter : ℕ) (over : Bool) (w : List ℕ) (es : L
   pub words : r .words ≡ length w
   pub text : Wrote out exit 0 (r .text) (lineShown letter over w es (snakesIn w)) 462
 
--- ---- the end of the input
-
--- '`p` and each place'
-unfoldable pub endText : Match → List ℕ
-endText m = placesText (placesOf (snakesOf m) (m .deaths)) (snakesOf m)
+-- ---- at a desk
 
 -- what a line does at a desk, the first line or a later one; w is its image
 unfoldable pub lineSays : Desk → List ℕ → List ℕ → ℕ → ℕ → Says Turn

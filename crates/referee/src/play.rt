@@ -1,12 +1,12 @@
 // A replay as a program holds it: its image stays in one lent buffer, the next one is made in another and takes its place.
 use crate::Desk;
-use crate::Match;
 use crate::Turned;
-use crate::game::put_end;
 use crate::turns::begin;
 use crate::turns::turn;
 use rules::Limit;
 use rules::Setting;
+use standing::Match;
+use standing::put_end;
 use text::put_refusal;
 ghost use mathlib.Core.Path.{_≡_};
 ghost use mathlib.Core.Bool.{false};

@@ -1,16 +1,16 @@
 // A line of the input, taken: the first one begins the match, the others make its turns. Each answer is taken apart, and a refusal stops.
-use crate::Match;
 use crate::Turned;
-use crate::game::after_move;
-use crate::game::ends_by;
-use crate::game::mark_all;
-use crate::game::no_events;
-use crate::game::snakes_of;
-use crate::shown::put_line;
-use crate::shown::word_at;
 use rules::Answer;
 use rules::Event;
 use rules::Setting;
+use standing::Match;
+use standing::after_move;
+use standing::ends_by;
+use standing::mark_all;
+use standing::no_events;
+use standing::put_line;
+use standing::snakes_of;
+use standing::word_at;
 use text::Entry;
 use text::First;
 use text::Line;
@@ -25,7 +25,8 @@ ghost use Rattle.rules.specs.Events.{eight};
 ghost use Rattle.rules.specs.Image.{snakesIn};
 ghost use Rattle.rules.specs.Says.{says, seen};
 ghost use Rattle.rules.specs.Calls.{initialSays, stepSays, drawSays};
-ghost use Rattle.referee.specs.Match.{fresh, opened, drawnTurn, eventsShown, moved, movedTurn, snakesOf, asked, beginSays, turnSays, refusalIn, Plays, Stops, Shows};
+ghost use Rattle.referee.specs.Match.{fresh, opened, drawnTurn, eventsShown, movedTurn, asked, beginSays, turnSays, refusalIn, Plays, Stops, Shows};
+ghost use Rattle.standing.specs.Standing.{moved, snakesOf};
 
 // A match that has just begun.
 fn fresh_match(setting: Setting) -> Match

@@ -14,7 +14,7 @@ use Rattle.rules.specs.Setting.{isZero, isSet, areaOf, worst, someShort, badCel
 use Rattle.rules.specs.Step.{stepped}
 use Rattle.rules.specs.Chance.{outcomes, drawn, afterDraw, canRank}
 use Rattle.rules.specs.Reward.{allFinite}
-use Rattle.rules.specs.Says.{Says, refuses, gives}
+use Rattle.rules.specs.Says.{Says, refuses}
 use Rattle.rules.specs.Calls.{differs, badAction}
 use Rattle.rules.specs.declared.Setting.{Setting}
 use Rattle.rules.specs.declared.Weights.{Weights}

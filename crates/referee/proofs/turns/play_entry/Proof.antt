@@ -1,5 +1,5 @@
 use Rattle.referee.proofs.Playing.{refused-line}
-use Rattle.referee.specs.Match.{snakesOf}
+use Rattle.standing.specs.Standing.{snakesOf}
 use lib.ListN.{length, take}
 use mathlib.Core.Path.{_≡_}
 use native.Mathlib.Nat.{sub-zero}

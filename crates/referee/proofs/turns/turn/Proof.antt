@@ -1,4 +1,4 @@
-use Rattle.referee.specs.Match.{snakesOf}
+use Rattle.standing.specs.Standing.{snakesOf}
 use Rattle.referee.proofs.Playing.{turn-over, turn-on, refused-line}
 use lib.ListN.{length}
 use Rattle.text.specs.Lines.{readLater}

@@ -1,0 +1,21 @@
+use Rattle.standing.specs.Standing.{reached}
+use Prim.Native.Nat.{ℕ}
+use mathlib.Core.Bool.{Bool, not, _&&_}
+use mathlib.Core.Path.{ap, _∙_}
+use borrow.Author.Needs.{needs}
+use Rattle.standing.proofs.moves.ends_by.Statement.{statement}
+use Rattle.standing.proofs.moves.ends_by.Tie as tie
+
+count-on-requires : tie.Need-count-on-requires
+count-on-requires c κs = search needs
+
+has-reached-requires : tie.Need-has-reached-requires
+has-reached-requires c κs = search needs
+
+returns : tie.Need-returns
+returns c =
+    let a = c .before .before .before .args in
+    ap (λ (x : Bool). not (a .over) && x) (c .has-reached .ensures ∙ ap (λ (k : ℕ). reached (a .m .setting .ticks) k) (c .before .count-on .ensures))
+
+pub ends-by-spec : {M : Type 1} → statement M
+ends-by-spec = tie.close (tie.spec count-on-requires has-reached-requires returns)

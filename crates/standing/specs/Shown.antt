@@ -1,0 +1,25 @@
+-- The output's line as the words of an image show it. Assumes nothing.
+use Prim.Native.Nat.{ℕ}
+use mathlib.Core.Bool.{Bool}
+use mathlib.Core.List.{List, [], _∷_, _++_}
+use lib.Dec.{eqb}
+use lib.ListN.{getD}
+use Rattle.lists.specs.Below.{concatBelow}
+use Rattle.rules.specs.Events.{blank}
+use Rattle.rules.specs.Turns.{truncated}
+use Rattle.rules.specs.Image.{word, dueIn, foodCountIn, startAt, lengthAt, aliveAt}
+use Rattle.rules.specs.declared.Event.{Event}
+use Rattle.text.specs.Text.{bodyText, eventsText, headText}
+
+unfoldable pub snakeShown : List ℕ → ℕ → Event → List ℕ
+snakeShown w i e = bodyText (eqb (aliveAt w i) 1) (lengthAt w i) (word w (startAt w i)) ++ (58 ∷ []) ++ eventsText e
+
+abbrev pub snakeShownBy : List ℕ → List Event → ℕ → List ℕ
+snakeShownBy w es i = snakeShown w i (getD es i blank)
+
+unfoldable pub lineShown : ℕ → Bool → List ℕ → List Event → ℕ → List ℕ
+lineShown letter over w es n = headText letter over (dueIn w) (foodCountIn w) ++ concatBelow n (snakeShownBy w es) ++ (10 ∷ [])
+
+-- the events marked, by the words
+abbrev pub markShown : List ℕ → List Event → ℕ → Event
+markShown w es i = truncated (getD es i blank) (eqb (aliveAt w i) 1)

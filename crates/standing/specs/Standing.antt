@@ -1,0 +1,52 @@
+-- How a match stands: the moves made, the move on which each snake died, its end and its last line (01, 'Replay'). Assumes nothing.
+use Prim.Native.Nat.{ℕ, _+_}
+use mathlib.Core.Bool.{Bool, false, not, _&&_, _||_}
+use mathlib.Core.List.{List}
+use lib.Dec.{ltb, leb}
+use lib.ListN.{getD}
+use Rattle.lists.specs.Choice.{_if_else_}
+use Rattle.lists.specs.Below.{filled}
+use Rattle.rules.specs.Events.{blank}
+use Rattle.rules.specs.declared.Limit.{Limit}
+use Rattle.rules.specs.declared.Limit.the-variants.{Unset, Is}
+use Rattle.rules.specs.declared.Event.{Event}
+use Rattle.text.specs.Text.{placesText}
+use Rattle.standing.specs.Places.{placesOf}
+use Rattle.standing.specs.declared.Match.{Match}
+
+-- no accepted setting has more than eight snakes
+abbrev pub snakesOf : Match → ℕ
+snakesOf m = 8 if ltb 8 (m .setting .snakes) else m .setting .snakes
+
+-- one move more; 2^64 - 1 of them are never made
+abbrev pub counted : ℕ → ℕ
+counted k = k + 1 if ltb k 18446744073709551615 else k
+
+-- 'moves at or above max_ticks'
+abbrev pub reached : Limit → ℕ → Bool
+reached Unset k = false
+reached (Is most) k = leb most k
+
+-- 'After a move that is not terminal'
+abbrev pub endsBy : Match → Bool → Bool
+endsBy m over = not over && reached (m .setting .ticks) (counted (m .moves))
+
+-- the move on which a snake died: this one, k, for those that die on it
+abbrev pub deathAt : ℕ → List ℕ → List Event → ℕ → ℕ
+deathAt k deaths es i = k if getD es i blank .died else getD deaths i 0
+
+abbrev pub deathsAfter : ℕ → List ℕ → List Event → List ℕ
+deathsAfter k deaths es = filled (deathAt k deaths es) 8 8 0
+
+-- the match after a move that was terminal or not, with these events
+abbrev pub moved : Match → Bool → List Event → Match
+moved m over es = record {
+  setting = m .setting;
+  moves = counted (m .moves);
+  deaths = deathsAfter (counted (m .moves)) (m .deaths) es;
+  over = over || endsBy m over;
+}
+
+-- '`p` and each place'
+unfoldable pub endText : Match → List ℕ
+endText m = placesText (placesOf (snakesOf m) (m .deaths)) (snakesOf m)

@@ -1,0 +1,161 @@
+// The match as a value: what a move makes of it, which events its line shows, and its last line.
+use crate::Match;
+use crate::ranks::places;
+use crate::shown::word_at;
+use rules::Cause;
+use rules::Event;
+use rules::Limit;
+use text::put_places;
+ghost use mathlib.Core.Path.{_≡_};
+ghost use mathlib.Core.Bool.{_||_};
+ghost use mathlib.Core.List.{[]};
+ghost use Prim.Native.Nat.{_<_, _≤_};
+ghost use lib.ListN.{length};
+ghost use Rattle.lists.specs.Choice.{_if_else_};
+ghost use Rattle.lists.specs.Below.{filled};
+ghost use Rattle.rules.specs.Events.{blank, eight};
+ghost use Rattle.rules.specs.Turns.{truncated};
+ghost use Rattle.rules.specs.declared.Event.{Event};
+ghost use Rattle.text.specs.Text.{Wrote};
+ghost use Rattle.standing.specs.Shown.{markShown};
+ghost use Rattle.standing.specs.Standing.{snakesOf, counted, reached, endsBy, deathsAfter, moved, endText};
+
+// At most eight, as every accepted setting has.
+pub fn snakes_of(m: Match) -> usize
+    ensures { λ r. ⌜ (r ≡ snakesOf m) × (r ≤ 8) ⌝ }
+{
+    let s = m.setting;
+    let n = s.snakes;
+    if 8 < n {
+        return 8;
+    }
+    n as usize
+}
+
+fn no_event() -> Event
+    ensures { λ r. ⌜ r ≡ blank ⌝ }
+{
+    Event {
+        ate: false,
+        died: false,
+        cause: Cause::NoCause,
+        killed: false,
+        won: false,
+        lost: false,
+        drew: false,
+        survived: false,
+    }
+}
+
+pub fn no_events() -> [Event; 8]
+    ensures { λ r. ⌜ r ≡ eight [] ⌝ }
+{
+    [no_event(); 8]
+}
+
+// One move more; 2^64 - 1 of them are never made.
+fn count_on(k: u64) -> u64
+    ensures { λ r. ⌜ r ≡ counted k ⌝ }
+{
+    if k < 18446744073709551615 {
+        return k + 1;
+    }
+    k
+}
+
+fn has_reached(limit: Limit, k: u64) -> bool
+    ensures { λ r. ⌜ r ≡ reached limit k ⌝ }
+{
+    match limit {
+        Limit::Unset => false,
+        Limit::Is(most) => most <= k,
+    }
+}
+
+// Whether a move ends the match by max_ticks.
+pub fn ends_by(m: Match, over: bool) -> bool
+    ensures { λ r. ⌜ r ≡ endsBy m over ⌝ }
+{
+    let s = m.setting;
+    let ticks = s.ticks;
+    !over & has_reached(ticks, count_on(m.moves))
+}
+
+// Truncation: the survival flag is the alive flag.
+fn mark(e: Event, alive: bool) -> Event
+    ensures { λ r. ⌜ r ≡ truncated e alive ⌝ }
+{
+    let cause = e.cause;
+    Event {
+        ate: e.ate,
+        died: e.died,
+        cause,
+        killed: e.killed,
+        won: e.won,
+        lost: e.lost,
+        drew: e.drew,
+        survived: alive,
+    }
+}
+
+// The events of n snakes, the living marked y.
+pub fn mark_all(image: &[u16], events: [Event; 8], n: usize) -> [Event; 8]
+    requires { ⌜ n ≤ 8 ⌝ }
+    ensures { λ r. ⌜ r ≡ filled (markShown (now (image .entry)) events) n 8 blank ⌝ }
+{
+    let mut out = no_events();
+    let mut i = 0;
+    while i < n {
+        let e = events[i];
+        out[i] = mark(e, word_at(image, 8 + 4 * i) == 1);
+        i += 1;
+    }
+    out
+}
+
+fn death_of(k: u64, old: u64, e: Event) -> u64
+    ensures { λ r. ⌜ r ≡ (k if e .died else old) ⌝ }
+{
+    if e.died { k } else { old }
+}
+
+// For each snake the move on which it died: move k for those that die on it.
+fn deaths_after(k: u64, deaths: [u64; 8], events: [Event; 8]) -> [u64; 8]
+    ensures { λ r. ⌜ r ≡ deathsAfter k deaths events ⌝ }
+{
+    let mut out = [0u64; 8];
+    let mut i = 0;
+    while i < 8 {
+        let e = events[i];
+        out[i] = death_of(k, deaths[i], e);
+        i += 1;
+    }
+    out
+}
+
+// The match after a move.
+pub fn after_move(m: Match, over: bool, events: [Event; 8]) -> Match
+    ensures { λ r. ⌜ r ≡ moved m over events ⌝ }
+{
+    let k = count_on(m.moves);
+    let old = m.deaths;
+    let deaths = deaths_after(k, old, events);
+    let setting = m.setting;
+    Match {
+        setting,
+        moves: k,
+        deaths,
+        over: over | ends_by(m, over),
+    }
+}
+
+// The last line: the places.
+pub fn put_end(out: &mut [u8], m: Match) -> usize
+    requires { ⌜ 170 ≤ length (now out) ⌝ }
+    ensures { λ r. ⌜ Wrote (now (out .entry)) (now (out .exit)) 0 r (endText m) 170 ⌝ }
+{
+    let n = snakes_of(m);
+    let deaths = m.deaths;
+    let all = places(deaths, n);
+    put_places(out, all, n)
+}
