@@ -3,75 +3,15 @@
 
 use crate::states::Setting;
 
-#[repr(C)]
-#[derive(Clone, Copy)]
-pub struct FlatSetting {
-    snakes: u64,
-    grid: i32,
-    size: u64,
-    last: bool,
-    lead_set: bool,
-    lead: u64,
-    food: u64,
-    ticks_set: bool,
-    ticks: u64,
-}
+// The declarations are the Rust client's: both link the same archive.
+#[allow(dead_code)]
+#[path = "../../clients/rust/src/raw.rs"]
+mod raw;
 
-#[repr(C)]
-#[derive(PartialEq, Debug)]
-pub struct Written {
-    pub refusal: u8,
-    pub words: usize,
-}
-
-#[repr(C)]
-pub struct Stepped {
-    pub refusal: u8,
-    pub terminal: bool,
-    pub words: usize,
-}
-
-#[repr(C)]
-pub struct Drawn {
-    pub refusal: u8,
-    pub words: usize,
-    pub cells: usize,
-}
-
-#[repr(C)]
-pub struct Number {
-    pub refusal: u8,
-    pub value: u64,
-}
-
-extern "C" {
-    fn lundaspro_well_formed(image: *const u16, len: usize) -> bool;
-    fn lundaspro_validate(setting: FlatSetting) -> u8;
-    fn lundaspro_initial_state(setting: FlatSetting, out: *mut u16, out_len: usize) -> Written;
-    fn lundaspro_step(
-        setting: FlatSetting,
-        image: *const u16,
-        image_len: usize,
-        actions: *const u64,
-        actions_len: usize,
-        out: *mut u16,
-        out_len: usize,
-        events: *mut u16,
-        events_len: usize,
-    ) -> Stepped;
-    fn lundaspro_count(image: *const u16, len: usize) -> Number;
-    fn lundaspro_draw(
-        image: *const u16,
-        image_len: usize,
-        index: u64,
-        out: *mut u16,
-        out_len: usize,
-        list: *mut u16,
-        list_len: usize,
-    ) -> Drawn;
-    fn lundaspro_rank(image: *const u16, image_len: usize, list: *const u16, list_len: usize) -> Number;
-    fn lundaspro_observe(image: *const u16, image_len: usize, agent: u64, obs: *mut f32, obs_len: usize) -> Written;
-}
+use raw::{
+    lundaspro_count, lundaspro_draw, lundaspro_initial_state, lundaspro_observe, lundaspro_rank, lundaspro_step, lundaspro_validate,
+    lundaspro_well_formed, Drawn, Number, Setting as FlatSetting, Stepped, Written,
+};
 
 pub const IMAGE_WORDS: usize = 9253;
 pub const LIST_WORDS: usize = 20;

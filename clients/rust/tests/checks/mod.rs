@@ -34,6 +34,24 @@ fn alive(heading: u16, body: &[u16]) -> Snake<'_> {
     }
 }
 
+// Side 3: a living snake on the middle cell, and a dead one without cells.
+fn one_dead() -> Image {
+    image(
+        3,
+        0,
+        0,
+        &[
+            alive(0, &[4]),
+            Snake {
+                heading: 0,
+                alive: 0,
+                body: &[],
+            },
+        ],
+        &[],
+    )
+}
+
 fn image(side: u16, due: u16, birth: u16, snakes: &[Snake], food: &[u16]) -> Image {
     let mut words = vec![snakes.len() as u16, side, due, birth, food.len() as u16];
     let mut start = 5 + 4 * snakes.len();
@@ -314,20 +332,7 @@ fn refused_images() {
 
 fn refused_steps() {
     let set = setting(2, 3, 1, 0);
-    let good = image(
-        3,
-        0,
-        0,
-        &[
-            alive(0, &[4]),
-            Snake {
-                heading: 0,
-                alive: 0,
-                body: &[],
-            },
-        ],
-        &[],
-    );
+    let good = one_dead();
     let due = image(3, 1, 0, &[alive(0, &[4]), alive(0, &[3])], &[]);
     assert_eq!(number(good.step(&setting(2, 3, 0, 0), &[])), 2);
     assert_eq!(number(good.step(&setting(2, 4, 1, 0), &[])), 21);
@@ -470,20 +475,7 @@ fn turns() {
 
 // Every event goes out as a number and comes back with the survival flag of a living and of a dead agent.
 fn events_as_numbers() {
-    let image = image(
-        3,
-        0,
-        0,
-        &[
-            alive(0, &[4]),
-            Snake {
-                heading: 0,
-                alive: 0,
-                body: &[],
-            },
-        ],
-        &[],
-    );
+    let image = one_dead();
     for number in (0..5u16).flat_map(|cause| (0..128).map(move |flags| 256 * cause + flags)) {
         let event = Event::from_number(number);
         assert_eq!(event.number(), number);
