@@ -16,12 +16,12 @@ use Rattle.rules.specs.Chance.{free, outcomes, drawnFrom, drawn, afterDraw}
 use Rattle.rules.proofs.DrawFacts.{drawn-due}
 use Rattle.rules.proofs.Fairness.{listed}
 use Rattle.rules.proofs.FreeCells.{free-short}
-use Rattle.chance.specs.Marks.{unmarked}
-use Rattle.chance.specs.Odds.{Stands}
+use Rattle.odds.specs.Marks.{unmarked}
+use Rattle.odds.specs.Odds.{Stands}
+use Rattle.odds.specs.declared.odds.Odds.{Odds}
 use Rattle.chance.specs.Next.{nextWords}
-use Rattle.chance.specs.declared.odds.Odds.{Odds}
 use Rattle.chance.proofs.NextImage.{next-is}
-use Rattle.chance.proofs.Marking.{size-le}
+use Rattle.chance.proofs.Bounds.{size-le}
 
 module _ (w board : List ℕ) (r : Odds) (s : Sound w) (o : Stands w board r) (i : ℕ) (h : i < outcomes (stateOf w)) where
   pub cells-long : length (drawn (stateOf w) i) ≡ r .size

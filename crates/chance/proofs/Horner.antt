@@ -19,9 +19,9 @@ use Rattle.rules.specs.Chance.{free, drawSize, rankIn, canRank}
 use Rattle.rules.proofs.FreeCells.{place-scan, of-from, free-distinct}
 use Rattle.rules.proofs.Draws.{InTurn, in-turn, turn-among, turn-distinct}
 use Rattle.rules.proofs.Fairness.{ranked-listed, listed-ranked}
-use Rattle.chance.specs.Marks.{marked, unmarked}
-use Rattle.chance.specs.Odds.{inTurn}
-use Rattle.chance.proofs.Scans.{mark-yes, mark-no, open-member, unmarked-set}
+use Rattle.odds.specs.Marks.{marked, unmarked}
+use Rattle.odds.proofs.Scans.{mark-yes, mark-no, open-member, unmarked-set}
+use Rattle.chance.specs.Ranking.{inTurn}
 
 -- ---- the test
 

@@ -1,7 +1,5 @@
-pub mod Scans
-pub mod Radix
+pub mod Bounds
 pub mod Horner
-pub mod Marking
 pub mod NextImage
 pub mod Drawing
 pub mod Saying

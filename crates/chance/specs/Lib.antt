@@ -1,4 +1,3 @@
-pub mod Marks
-pub mod Odds
 pub mod Next
 pub mod Answers
+pub mod Ranking

@@ -1,8 +1,5 @@
 // Chance (`chance_node`, `apply_chance_node` of the Rust): how many outcomes a draw has, what an index draws, and the index of a list.
-mod board;
-mod index;
 mod next;
-mod odds;
 mod ranks;
 
 use image::well_formed;

@@ -1,11 +1,11 @@
 // The answer of a draw (`apply_chance_node`): the cells in the order drawn, and the next image.
-use crate::board::pick_cells;
-use crate::index::split;
-use crate::odds::Odds;
-use crate::odds::odds_of;
 use image::put_all;
 use image::write_contents;
 use lists::write_at;
+use odds::Odds;
+use odds::odds_of;
+use odds::pick_cells;
+use odds::split;
 use rules::Answer;
 use rules::Drawn;
 ghost use mathlib.Core.Path.{_≡_};
@@ -19,8 +19,8 @@ ghost use Rattle.rules.specs.Image.{dueIn, foodAt, stateOf};
 ghost use Rattle.rules.specs.Facts.{Sound};
 ghost use Rattle.rules.specs.Chance.{outcomes, drawnFrom};
 ghost use Rattle.rules.specs.Says.{gives};
-ghost use Rattle.chance.specs.Marks.{unmarked};
-ghost use Rattle.chance.specs.Odds.{Stands};
+ghost use Rattle.odds.specs.Marks.{unmarked};
+ghost use Rattle.odds.specs.Odds.{Stands};
 ghost use Rattle.image.specs.Writers.{Fresh};
 ghost use Rattle.chance.specs.Next.{nextWords};
 ghost use Rattle.chance.specs.Answers.{drawOf, dueSays, Answers, Refuses};

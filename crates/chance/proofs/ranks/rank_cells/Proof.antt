@@ -5,10 +5,10 @@ use native.Mathlib.Omega.{arith}
 use Prim.Native.Nat.{_+_, _-_, _≤_, _<_}
 use mathlib.Core.Path.{_≡_, refl, sym, ap, _∙_}
 use lib.ListN.{length, getD, drop, length-set}
-use Rattle.chance.specs.Marks.{unmarked}
+use Rattle.odds.specs.Marks.{unmarked}
 use Rattle.lists.specs.Products.{falling}
 use Rattle.rules.specs.Chance.{rankIn}
-use Rattle.chance.specs.Odds.{inTurn}
+use Rattle.chance.specs.Ranking.{inTurn}
 use Rattle.chance.proofs.ranks.rank_cells.Statement.{statement}
 use Rattle.chance.proofs.ranks.rank_cells.Tie as tie
 

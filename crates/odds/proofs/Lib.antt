@@ -1,0 +1,3 @@
+pub mod Scans
+pub mod Radix
+pub mod Marking
