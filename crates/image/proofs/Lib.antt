@@ -1,5 +1,4 @@
 pub mod Headed
-pub mod Checked
 pub mod Asked
 pub mod Left
 pub mod Growing

@@ -1,4 +1,3 @@
 pub mod Records
-pub mod Checked
 pub mod Memory
 pub mod Writers

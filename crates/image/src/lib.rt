@@ -1,9 +1,6 @@
-// The state image in 16-bit words: which slices are well-formed, what their parts are, and how words are written.
+// The state image in 16-bit words: what its parts are, and how words are written. The check of `shape` is passed on, so that callers name one crate.
 mod added;
 mod bodies;
-mod cells;
-mod check;
-mod contents;
 mod eaten;
 mod parts;
 mod table;
@@ -11,8 +8,6 @@ mod words;
 
 pub use added::put_all;
 pub use bodies::write_body;
-pub use cells::stamps_once;
-pub use check::well_formed;
 pub use eaten::count_left;
 pub use eaten::write_left;
 pub use lists::Found;
@@ -25,6 +20,8 @@ pub use parts::food_of;
 pub use parts::food_start;
 pub use parts::holds_in;
 use rules::Heading;
+pub use shape::stamps_once;
+pub use shape::well_formed;
 pub use table::record_at;
 pub use table::records;
 pub use words::flag;

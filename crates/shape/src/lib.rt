@@ -1,0 +1,7 @@
+// Which slices are well-formed images: refusal 20.
+mod cells;
+mod check;
+mod contents;
+
+pub use cells::stamps_once;
+pub use check::well_formed;
