@@ -7,20 +7,20 @@ use lib.IntN.{ℤ, pos, negsuc, natAbs}
 use lib.Signed.{ltZ, nonNeg}
 use borrow.Author.Tests.{ltb-false}
 use Rattle.rules.specs.View.{lit}
-use Rattle.rules.specs.Says.{refuses, gives, box}
+use Rattle.rules.specs.Says.{refuses, gives, box, byTable}
 use Rattle.rules.specs.Calls.{spaceSays}
 
 module _ (g : ℤ) where
   pub space-high : ltZ (pos 32) g ≡ true → refuses 5 ≡ spaceSays g
-  unfolding spaceSays
+  unfolding spaceSays byTable
   space-high h = rw h
 
   pub space-low : ltZ (pos 32) g ≡ false → ltZ g (pos 1) ≡ true → refuses 5 ≡ spaceSays g
-  unfolding spaceSays
+  unfolding spaceSays byTable
   space-low h l = rw (h, l)
 
 pub space-box : (g : ℤ) → ltZ (pos 32) g ≡ false → ltZ g (pos 1) ≡ false → gives (box 5 (natAbs g) (natAbs g) (lit false) (lit true)) ≡ spaceSays g
-unfolding spaceSays
+unfolding spaceSays byTable
 space-box (pos g) h l = rw (h, l)
 space-box (negsuc g) h l = absurd (true≢false l)
 

@@ -1,21 +1,21 @@
 -- What the arena's answer says, part by part, is what the flat answer says. Assumes nothing.
 use Prim.Native.Nat.{ℕ, zero, suc, _+_, _<_, _≤_}
 use mathlib.Core.Path.{_≡_, refl, ap, ap₂}
-use mathlib.Core.Bool.{Bool, true, false, not}
-use mathlib.Core.List.{List, [], _++_}
+use mathlib.Core.Bool.{Bool, true, false, false≢true}
+use mathlib.Core.List.{List, [], _∷_, _++_}
 use native.Mathlib.Omega.{arith}
 use borrow.Author.Tests.{lt-ltb, le-ltb}
-use lib.Dec.{ltb, eqb}
-use lib.ListN.{length}
+use lib.ListN.{length, getD}
 use Rattle.lists.specs.Choice.{_if_else_}
 use Rattle.lists.specs.Lists.{overFront}
+use Rattle.lists.specs.Tables.{Table}
 use Rattle.rules.specs.State.{State}
 use Rattle.rules.specs.Events.{eight}
-use Rattle.rules.specs.Image.{snakesIn, dueIn, imageOf, stateOf, wellFormed}
-use Rattle.rules.specs.Setting.{settingCheck}
+use Rattle.rules.specs.Image.{imageOf, stateOf}
 use Rattle.rules.specs.Step.{Outcome, stepped}
-use Rattle.rules.specs.Says.{Says, refuses, gives, first, says, seen, beside, lent}
-use Rattle.rules.specs.Calls.{stepSays, differs, badAction, Draw}
+use Rattle.rules.specs.Says.{Says, refuses, gives, says, seen, beside, lent, byTable}
+use Rattle.rules.specs.Calls.{stepSays, Draw}
+use Rattle.rules.specs.Orders.{stepOrder}
 use Rattle.rules.specs.declared.Setting.{Setting}
 use Rattle.rules.specs.declared.Answer.{Answer}
 use Rattle.rules.specs.declared.Answer.the-variants.{Done, Refused}
@@ -57,17 +57,16 @@ module _ (old new told : List ℕ) where
 pub data Refuses {A : Type 0} (x : Says A) : Type 0 where
   by : (k : ℕ) → x ≡ refuses k → Refuses x
 
--- where the last test holds, nothing is given
-in-order : {A : Type 0} (k : ℕ) (a b c d e f : Bool) (x : Says A) → f ≡ true
-    → Refuses (first k (refuses 20 if a else refuses 21 if b else refuses 22 if c else refuses 24 if d else refuses 25 if e else refuses 29 if f else x))
-in-order (suc k) a b c d e f x t = by (suc k) refl
-in-order zero true b c d e f x t = by 20 refl
-in-order zero false true c d e f x t = by 21 refl
-in-order zero false false true d e f x t = by 22 refl
-in-order zero false false false true e f x t = by 24 refl
-in-order zero false false false false true f x t = by 25 refl
-in-order zero false false false false false true x t = by 29 refl
-in-order zero false false false false false false x t = let z : Apart = cc in absurd (omega arith)
+-- where some row holds, nothing is given
+some-row : {A : Type 0} (t : Table) (k : ℕ) (r : Says A) → getD t k (0, false) .1 ≡ true → Refuses (byTable t r)
+unfolding byTable
+some-row [] k r h = absurd (false≢true h)
+some-row (e ∷ es) k r h = go k (e .1) h (λ j. some-row es j r)
+  where
+    go : (j : ℕ) (b : Bool) → getD ((e .0, b) ∷ es) j (0, false) .1 ≡ true → ((i : ℕ) → getD es i (0, false) .1 ≡ true → Refuses (byTable es r)) → Refuses (refuses (e .0) if b else byTable es r)
+    go j true q later = by (e .0) refl
+    go zero false q later = absurd (false≢true q)
+    go (suc j) false q later = later j q
 
 some-words : (t : State) → 0 < length (imageOf t)
 unfolding imageOf
@@ -77,8 +76,7 @@ pub no-room : (s : Setting) (w acts : List ℕ) → Refuses (stepSays s w acts 0
 unfolding stepSays
 no-room s w acts =
     let o = stepped s (stateOf w) acts in
-    in-order (settingCheck s) (not (wellFormed w)) (differs s w) (ltb 0 (dueIn w)) (not (eqb (length acts) (snakesIn w))) (badAction (stateOf w) acts) (ltb 0 (length (imageOf (o .next)))) (gives o)
-    (lt-ltb 0 _ (some-words (o .next)))
+    some-row (stepOrder s w acts 0) 17 (gives o) (lt-ltb 0 (length (imageOf (o .next))) (some-words (o .next)))
 
 pub untold-is : (x : Says Outcome) → Refuses x → (r : FlatWritten) → r ≡ flatWritten (seen (λ o. length (imageOf (o .next))) x)
     → record { refusal = r .refusal; terminal = false; words = 0 } ≡ flatStepped x

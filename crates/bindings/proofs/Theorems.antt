@@ -1,29 +1,31 @@
 -- The flat forms lose nothing: an event's number tells the event, refusal 0 that an answer came, and two flat answers that meet one
 -- promise are equal, with the lent memory. Assumes nothing.
-use Prim.Native.Nat.{ℕ, zero, suc, _*_, _-_, _^_}
+use Prim.Native.Nat.{ℕ, zero, suc}
 use mathlib.Core.Path.{_≡_, refl, sym, ap, _∙_}
-use mathlib.Core.Bool.{Bool, true, false, not, _&&_, _||_}
+use mathlib.Core.Bool.{Bool, true, false, not, _&&_, false≢true}
 use mathlib.Core.List.{List, [], _∷_}
 use lib.Dec.{eqb, ltb}
 use borrow.Author.Tests.{eqb-true}
-use lib.IntN.{ℤ, pos}
-use lib.Signed.{ltZ}
+use lib.IntN.{ℤ}
 use lib.Ieee.{Float}
 use lib.ListN.{getD, length}
 use Rattle.lists.specs.Choice.{_if_else_}
-use Rattle.lists.specs.Lists.{every}
+use Rattle.lists.specs.Lists.{every, all}
+use Rattle.lists.specs.Tables.{Table}
 use Rattle.lists.proofs.Tests.{and-left, and-right, every-at}
+use Rattle.lists.proofs.Tables.{numbered}
 use Rattle.rules.specs.State.{snakeOf}
-use Rattle.rules.specs.Image.{snakesIn, dueIn, areaIn, imageOf, stateOf, wellFormed}
+use Rattle.rules.specs.Image.{imageOf, stateOf}
 use Rattle.rules.specs.Step.{Outcome, stepped}
-use Rattle.rules.specs.Chance.{outcomes, drawn, afterDraw, rankOf, canRank}
+use Rattle.rules.specs.Chance.{outcomes, drawn, afterDraw, rankOf}
 use Rattle.rules.specs.View.{view, lit}
 use Rattle.rules.specs.LengthKey.{lengthKey}
 use Rattle.rules.specs.Turns.{chanceActs, legalFor, truncated}
-use Rattle.rules.specs.Reward.{allFinite, rewardOf}
-use Rattle.rules.specs.Setting.{settingCheck, sideOf, initialState}
-use Rattle.rules.specs.Says.{Says, refuses, gives, first, box}
-use Rattle.rules.specs.Calls.{settingSays, initialSays, stepSays, differs, badAction, observeSays, countSays, drawSays, rankSays, actorSays, legalSays, keySays, truncationSays, rewardSays, spaceSays}
+use Rattle.rules.specs.Reward.{rewardOf}
+use Rattle.rules.specs.Setting.{settingOrder, sideOf, initialState}
+use Rattle.rules.specs.Says.{Says, refuses, gives, byTable, box}
+use Rattle.rules.specs.Calls.{settingSays, initialSays, stepSays, observeSays, countSays, drawSays, rankSays, actorSays, legalSays, keySays, truncationSays, rewardSays, spaceSays}
+use Rattle.rules.specs.Orders.{initialOrder, stepOrder, observeOrder, countOrder, drawOrder, rankOrder, imageOrder, agentOrder, rewardOrder, spaceOrder}
 use Rattle.rules.specs.declared.Setting.{Setting}
 use Rattle.rules.specs.declared.Weights.{Weights}
 use Rattle.rules.specs.declared.Cause.{Cause}
@@ -108,86 +110,69 @@ named (refuses zero) = false
 named (refuses (suc k)) = true
 named (gives a) = true
 
-module _ {A : Type 0} where
-  none : (a : A) → named (gives a) ≡ true
-  unfolding named
-  none a = refl
-
-  or : (b : Bool) (k : ℕ) (x : Says A) → named x ≡ true → named (refuses (suc k) if b else x) ≡ true
-  unfolding named
-  or true k x h = refl
-  or false k x h = h
-
-  after : (k : ℕ) (x : Says A) → named x ≡ true → named (first k x) ≡ true
-  unfolding named
-  after zero x h = h
-  after (suc k) x h = refl
+pub table-named : {A : Type 0} (t : Table) (a : A) → numbered t ≡ true → named (byTable t (gives a)) ≡ true
+unfolding named byTable all
+table-named [] a h = refl
+table-named (e ∷ es) a h = go (e .0) (e .1) (and-left (ltb 0 (e .0)) (numbered es) h) (table-named es a (and-right (ltb 0 (e .0)) (numbered es) h))
+  where
+    go : (n : ℕ) (b : Bool) → ltb 0 n ≡ true → named (byTable es (gives a)) ≡ true → named (refuses n if b else byTable es (gives a)) ≡ true
+    go zero b z q = absurd (false≢true z)
+    go (suc n) true z q = refl
+    go (suc n) false z q = q
 
 module _ (w : List ℕ) (a : ℕ) where
   pub count-named : named (countSays w) ≡ true
-  unfolding countSays
-  count-named = or (not (wellFormed w)) 19 _ (or (eqb (dueIn w) 0) 22 _ (or (ltb (2 ^ 64 - 1) (outcomes (stateOf w))) 27 _ (none (outcomes (stateOf w)))))
+  unfolding countSays all
+  count-named = table-named (countOrder w) (outcomes (stateOf w)) refl
 
   pub rank-named : (l : List ℕ) → named (rankSays w l) ≡ true
-  unfolding rankSays
-  rank-named l = or (not (wellFormed w)) 19 _ (or (eqb (dueIn w) 0) 22 _ (or (ltb (2 ^ 64 - 1) (outcomes (stateOf w))) 27 _ (or (not (canRank (stateOf w) l)) 29 _ (none (rankOf (stateOf w) l)))))
+  unfolding rankSays all
+  rank-named l = table-named (rankOrder w l) (rankOf (stateOf w) l) refl
 
   pub draw-named : (room list : ℕ) → named (drawSays w a room list) ≡ true
-  unfolding drawSays
-  draw-named room list =
-      let t = stateOf w in
-      or (not (wellFormed w)) 19 _
-      (or (eqb (dueIn w) 0) 22 _
-      (or (ltb (2 ^ 64 - 1) (outcomes t)) 27 _
-      (or (not (ltb a (outcomes t))) 26 _
-      (or (ltb room (length (imageOf (afterDraw t a))) || ltb list (length (drawn t a))) 28 _ (none (record { next = afterDraw t a; cells = drawn t a }))))))
+  unfolding drawSays all
+  draw-named room list = table-named (drawOrder w a room list) (record { next = afterDraw (stateOf w) a; cells = drawn (stateOf w) a }) refl
 
   pub observe-named : (room : ℕ) → named (observeSays w a room) ≡ true
-  unfolding observeSays
-  observe-named room = or (not (wellFormed w)) 19 _ (or (not (ltb a (snakesIn w))) 25 _ (or (ltb room (5 * areaIn w)) 28 _ (none (view (stateOf w) a))))
+  unfolding observeSays all
+  observe-named room = table-named (observeOrder w a room) (view (stateOf w) a) refl
 
   pub actor-named : named (actorSays w) ≡ true
-  unfolding actorSays
-  actor-named = or (not (wellFormed w)) 19 _ (none (chanceActs (stateOf w)))
+  unfolding actorSays all
+  actor-named = table-named (imageOrder w) (chanceActs (stateOf w)) refl
 
   pub key-named : named (keySays w) ≡ true
-  unfolding keySays
-  key-named = or (not (wellFormed w)) 19 _ (none (lengthKey (stateOf w)))
+  unfolding keySays all
+  key-named = table-named (imageOrder w) (lengthKey (stateOf w)) refl
 
   pub legal-named : named (legalSays w a) ≡ true
-  unfolding legalSays
-  legal-named = or (not (wellFormed w)) 19 _ (or (not (ltb a (snakesIn w))) 25 _ (none (legalFor (stateOf w) a)))
+  unfolding legalSays all
+  legal-named = table-named (agentOrder w a) (legalFor (stateOf w) a) refl
 
   pub truncation-named : (e : Event) → named (truncationSays w a e) ≡ true
-  unfolding truncationSays
-  truncation-named e = or (not (wellFormed w)) 19 _ (or (not (ltb a (snakesIn w))) 25 _ (none (truncated e (snakeOf (stateOf w) a .alive))))
+  unfolding truncationSays all
+  truncation-named e = table-named (agentOrder w a) (truncated e (snakeOf (stateOf w) a .alive)) refl
 
 module _ (s : Setting) where
   pub setting-named : named (settingSays s) ≡ true
-  unfolding settingSays
-  setting-named = after (settingCheck s) _ (none tt)
+  unfolding settingSays all
+  setting-named = table-named (settingOrder s) tt refl
 
   pub initial-named : (room : ℕ) → named (initialSays s room) ≡ true
-  unfolding initialSays
-  initial-named room = after (settingCheck s) _ (or (ltb room (length (imageOf (initialState s)))) 28 _ (none (initialState s)))
+  unfolding initialSays all
+  initial-named room = table-named (initialOrder s room) (initialState s) refl
 
   pub step-named : (w acts : List ℕ) (room : ℕ) → named (stepSays s w acts room) ≡ true
-  unfolding stepSays
-  step-named w acts room =
-      let o = stepped s (stateOf w) acts in
-      after (settingCheck s) _
-      (or (not (wellFormed w)) 19 _
-      (or (differs s w) 20 _
-      (or (ltb 0 (dueIn w)) 21 _
-      (or (not (eqb (length acts) (snakesIn w))) 23 _ (or (badAction (stateOf w) acts) 24 _ (or (ltb room (length (imageOf (o .next)))) 28 _ (none o)))))))
+  unfolding stepSays all
+  step-named w acts room = table-named (stepOrder s w acts room) (stepped s (stateOf w) acts) refl
 
 pub reward-named : (w : Weights) (e : Event) → named (rewardSays w e) ≡ true
-unfolding rewardSays
-reward-named w e = or (not (allFinite w)) 30 _ (none (rewardOf w e))
+unfolding rewardSays all
+reward-named w e = table-named (rewardOrder w) (rewardOf w e) refl
 
 pub space-named : (g : ℤ) → named (spaceSays g) ≡ true
-unfolding spaceSays
-space-named g = or (ltZ (pos 32) g || ltZ g (pos 1)) 4 _ (none (box 5 (sideOf g) (sideOf g) (lit false) (lit true)))
+unfolding spaceSays all
+space-named g = table-named (spaceOrder g) (box 5 (sideOf g) (sideOf g) (lit false) (lit true)) refl
 
 -- ---- two answers that meet one promise
 

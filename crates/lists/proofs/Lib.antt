@@ -23,3 +23,4 @@ pub mod Runs
 pub mod Distinct
 pub mod Insert
 pub mod Repeats
+pub mod Tables

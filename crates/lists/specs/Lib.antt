@@ -6,3 +6,4 @@ pub mod Search
 pub mod Equal
 pub mod Boards
 pub mod Written
+pub mod Tables

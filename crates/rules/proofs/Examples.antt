@@ -9,9 +9,10 @@ use Rattle.rules.specs.Step.{causeOf, outcomeOf, stepped}
 use Rattle.rules.specs.Chance.{freeFrom, free, outcomes, digits, pick, drawnFrom, drawn, rankIn, rankOf}
 use Rattle.rules.specs.LengthKey.{sorted, folded, lengthKey}
 use Rattle.rules.specs.Examples.{EachHolds, theTwelve, twoMore}
+use Rattle.lists.specs.Tables.{fault}
 
 pub examples-hold : EachHolds theTwelve
-unfolding allBelow someBelow countBelow eachBelow concatBelow lowestFrom any keep member insert without place falling unblocked trail placed badCell settingCheck causeOf outcomeOf stepped freeFrom free outcomes digits pick drawnFrom drawn rankIn rankOf sorted folded lengthKey theTwelve
+unfolding allBelow someBelow countBelow eachBelow concatBelow lowestFrom any keep member insert without place falling unblocked trail placed badCell settingCheck causeOf outcomeOf stepped freeFrom free outcomes digits pick drawnFrom drawn rankIn rankOf sorted folded lengthKey theTwelve fault
 examples-hold =
     ((refl, refl), (refl, ((refl, refl), (refl, (refl, (refl, (refl, ((refl, refl, refl, refl), ((refl, refl, refl, refl), (refl, (refl, (refl, (refl, (refl, tt))))))))))))))
 

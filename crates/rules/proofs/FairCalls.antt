@@ -19,7 +19,7 @@ use Rattle.rules.specs.State.{State}
 use Rattle.rules.specs.Image.{dueIn, imageOf, stateOf, wellFormed}
 use Rattle.rules.specs.Chance.{free, drawSize, outcomes, drawn, withFood, afterDraw, rankOf, canRank}
 use Rattle.rules.specs.Births.{afterDraws}
-use Rattle.rules.specs.Says.{Says, refuses, gives, seen, beside, lent, says}
+use Rattle.rules.specs.Says.{Says, refuses, gives, seen, beside, lent, says, byTable}
 use Rattle.rules.specs.Calls.{Draw, countSays, drawSays, rankSays}
 use Rattle.rules.specs.Promises.{Counts, Draws, Ranks}
 use Rattle.rules.specs.declared.Number.{Number}
@@ -45,14 +45,14 @@ module _ (w : List ℕ) (ok : wellFormed w ≡ true) (due : 0 < dueIn w) (fits :
 
   -- the count answers P, the product of k factors from n downward
   pub count-answers : (r : Number) → Counts w r → r ≡ Value (falling (length (free (stateOf w))) (drawSize (stateOf w)))
-  unfolding countSays
+  unfolding countSays byTable
   count-answers r c =
       let e : countSays w ≡ gives (outcomes (stateOf w)) = rw (ok, some-due, le-ltb (2 ^ 64 - 1) (outcomes (stateOf w)) fits) in
       number-one r (Value (outcomes (stateOf w))) (c .answer ∙ e) ∙ ap Value (fair-image w ok .count)
 
   -- each list of k different free cells ranks as one index below P, whose draw is that list
   pub rank-answers : (l : List ℕ) → canRank (stateOf w) l ≡ true → (r : Number) → Ranks w l r → r ≡ Value (rankOf (stateOf w) l)
-  unfolding rankSays
+  unfolding rankSays byTable
   rank-answers l h r c =
       let e : rankSays w l ≡ gives (rankOf (stateOf w) l) = rw (ok, some-due, le-ltb (2 ^ 64 - 1) (outcomes (stateOf w)) fits, h) in
       number-one r (Value (rankOf (stateOf w) l)) (c .answer ∙ e)
@@ -81,7 +81,7 @@ module _ (w : List ℕ) (i : ℕ) (old new list cells : List ℕ) (r : Drawn) (p
 
   -- it was lawful, and the buffers hold the next image and the ordered list
   pub draw-answers : Answered w i old new list cells n (r .cells)
-  unfolding drawSays drawing
+  unfolding drawSays drawing byTable
   draw-answers =
       let f : Draw → ℕ = λ d. length (imageOf (d .next)) in
       let t = stateOf w in

@@ -30,3 +30,4 @@ pub mod Extremes
 pub mod TakenWords
 pub mod FairCalls
 pub mod Firsts
+pub mod Tables

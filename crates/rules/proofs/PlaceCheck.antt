@@ -19,14 +19,15 @@ use Rattle.lists.proofs.Repeats.{map-concat, all-concat, sum-same}
 use Rattle.lists.proofs.Below.{some-never, concat-long, sum-ext}
 use Rattle.rules.specs.Places.{inside, cellOf}
 use Rattle.rules.specs.Placement.{tracing, even, placed}
-use Rattle.rules.specs.Setting.{badCell}
-use Rattle.rules.specs.SettingParts.{startPlace, allOf, someShortOf, placeCheck, cellsOf}
+use Rattle.rules.specs.Setting.{badCell, allPlaced, someShort}
+use Rattle.rules.specs.SettingParts.{startPlace, placeCheck, cellsOf}
 use Rattle.rules.specs.declared.Place.{Place}
 use Rattle.rules.proofs.Facts.{square-le}
 use Rattle.rules.proofs.Places.{cell-below}
 use Rattle.rules.proofs.Placement.{traced-short, traced-inside, traced-reach}
 use Rattle.rules.proofs.Starts.{start-inside}
 use Rattle.rules.proofs.Taken.{bad-repeats}
+use Rattle.lists.specs.Tables.{fault}
 
 -- the cells of places inside are below the area
 cells-below : (g : ℕ) (ps : List Place) → 1 ≤ g → all (inside (pos g)) ps ≡ true → (j : ℕ) → getD (map (cellOf g) ps) j 0 < g * g
@@ -49,14 +50,14 @@ module _ (g n k : ℕ) (side : 3 ≤ g) (small : g ≤ 32) (some : 1 ≤ k) wher
   unfolding placed
   body-inside i h = traced-inside (pos g) (tracing i) k (startPlace (pos g) n i) (start-inside g n i side h)
 
-  pub all-inside : all (inside (pos g)) (allOf (pos g) n k) ≡ true
+  pub all-inside : all (inside (pos g)) (allPlaced (pos g) n k) ≡ true
   all-inside = all-concat (inside (pos g)) n (placed (pos g) n k) body-inside
 
   pub body-most : (i : ℕ) → length (placed (pos g) n k i) ≤ k
   unfolding placed
   body-most i = traced-short (pos g) (tracing i) k (startPlace (pos g) n i) some
 
-  pub all-cells : map (cellOf g) (allOf (pos g) n k) ≡ concatBelow n (cellsOf g n k)
+  pub all-cells : map (cellOf g) (allPlaced (pos g) n k) ≡ concatBelow n (cellsOf g n k)
   all-cells = map-concat (cellOf g) n (placed (pos g) n k)
 
   pub body-reach : (i : ℕ) → i < n → length (placed (pos g) n k i) ≤ 125
@@ -64,20 +65,20 @@ module _ (g n k : ℕ) (side : 3 ≤ g) (small : g ≤ 32) (some : 1 ≤ k) wher
   body-reach i h = let r = traced-reach g small (tracing i) k (startPlace (pos g) n i) (start-inside g n i side h) in omega (arith, four-turns i)
 
   pub cells-under : Under 1024 (concatBelow n (cellsOf g n k))
-  cells-under j = rw (← all-cells) (omega (arith, cells-below g (allOf (pos g) n k) (omega arith) all-inside j, square-le g small))
+  cells-under j = rw (← all-cells) (omega (arith, cells-below g (allPlaced (pos g) n k) (omega arith) all-inside j, square-le g small))
 
   pub check-cells : (f : ℕ) → placeCheck (pos g) n k f
-      ≡ (9 if someShortOf (pos g) n k else 11 if not (distinct (concatBelow n (cellsOf g n k))) else 12 if ltb (g * g - length (allOf (pos g) n k)) f else 0)
-  unfolding placeCheck
+      ≡ (9 if someShort (pos g) n k else 11 if not (distinct (concatBelow n (cellsOf g n k))) else 12 if ltb (g * g - length (allPlaced (pos g) n k)) f else 0)
+  unfolding placeCheck fault
   check-cells f =
-      chosen (someShortOf (pos g) n k) (distinct (concatBelow n (cellsOf g n k))) (badCell (pos g) [] (allOf (pos g) n k)) _
-      (bad-repeats g (allOf (pos g) n k) all-inside ∙ ap (λ (l : List ℕ). 0 if distinct l else 11) all-cells)
+      chosen (someShort (pos g) n k) (distinct (concatBelow n (cellsOf g n k))) (badCell (pos g) [] (allPlaced (pos g) n k)) _
+      (bad-repeats g (allPlaced (pos g) n k) all-inside ∙ ap (λ (l : List ℕ). 0 if distinct l else 11) all-cells)
 
   -- ---- where no body is short
 
-  module _ (none : someShortOf (pos g) n k ≡ false) where
+  module _ (none : someShort (pos g) n k ≡ false) where
     pub body-long : (i : ℕ) → i < n → length (placed (pos g) n k i) ≡ k
     body-long i h = le-antisymm (body-most i) (ltb-false (length (placed (pos g) n k i)) k (some-never (λ i. ltb (length (placed (pos g) n k i)) k) n i h none))
 
-    pub all-long : length (allOf (pos g) n k) ≡ n * k
+    pub all-long : length (allPlaced (pos g) n k) ≡ n * k
     all-long = concat-long n (placed (pos g) n k) ∙ sum-ext n (λ i. length (placed (pos g) n k i)) (λ i. k) body-long ∙ sum-same n k

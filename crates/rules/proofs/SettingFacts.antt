@@ -18,8 +18,8 @@ use Rattle.lists.proofs.Tests.{tell, and-left, and-right, both}
 use Rattle.lists.proofs.Pigeonhole.{cells-short}
 use Rattle.rules.specs.Places.{inside, cellOf}
 use Rattle.rules.specs.Placement.{placed}
-use Rattle.rules.specs.Setting.{isSet, isZero, sideOf, settingCheck}
-use Rattle.rules.specs.SettingParts.{allOf, someShortOf, Limited, placeCheck, cellsOf}
+use Rattle.rules.specs.Setting.{isSet, isZero, sideOf, settingCheck, allPlaced, someShort}
+use Rattle.rules.specs.SettingParts.{Limited, placeCheck, cellsOf}
 use Rattle.rules.specs.SettingFacts.{Accepts}
 use Rattle.rules.specs.declared.Place.{Place}
 use Rattle.rules.specs.declared.Setting.{Setting}
@@ -77,22 +77,22 @@ two-lead : (l : Limit) (k n : ℕ) → (isSet l && not (eqb n 2)) ≡ false → 
 two-lead l k n h e = eqb-true n 2 (not-false (eqb n 2) (sym (ap (λ (m : Limit). isSet m && not (eqb n 2)) e) ∙ h))
 
 module _ (g n k f : ℕ) (side : 3 ≤ g) (small : g ≤ 32) (some : 1 ≤ k) (e : placeCheck (pos g) n k f ≡ 0) where
-  held : Fine (someShortOf (pos g) n k) (distinct (concatBelow n (cellsOf g n k))) (ltb (g * g - length (allOf (pos g) n k)) f)
-  held = fine (someShortOf (pos g) n k) (distinct (concatBelow n (cellsOf g n k))) (ltb (g * g - length (allOf (pos g) n k)) f) (sym (check-cells g n k side small some f) ∙ e)
+  held : Fine (someShort (pos g) n k) (distinct (concatBelow n (cellsOf g n k))) (ltb (g * g - length (allPlaced (pos g) n k)) f)
+  held = fine (someShort (pos g) n k) (distinct (concatBelow n (cellsOf g n k))) (ltb (g * g - length (allPlaced (pos g) n k)) f) (sym (check-cells g n k side small some f) ∙ e)
 
-  total-is : length (allOf (pos g) n k) ≡ n * k
+  total-is : length (allPlaced (pos g) n k) ≡ n * k
   total-is = all-long g n k side small some (held .nine)
 
   -- different cells are no more than the grid has
   total-most : n * k ≤ g * g
   total-most =
-      let c = cells-all g (allOf (pos g) n k) (all-inside g n k side small some) in
+      let c = cells-all g (allPlaced (pos g) n k) (all-inside g n k side small some) in
       let l = cells-short (g * g) (concatBelow n (cellsOf g n k)) (held .eleven) (rw (all-cells g n k side small some) at c) in
-      let m = ap (λ (l : List ℕ). length l) (sym (all-cells g n k side small some)) ∙ length-map (allOf (pos g) n k) (cellOf g) ∙ total-is in
+      let m = ap (λ (l : List ℕ). length l) (sym (all-cells g n k side small some)) ∙ length-map (allPlaced (pos g) n k) (cellOf g) ∙ total-is in
       omega (arith, l, m)
 
   food-most : f + n * k ≤ g * g
-  food-most = omega (arith, ltb-false (g * g - length (allOf (pos g) n k)) f (held .twelve), total-is, total-most)
+  food-most = omega (arith, ltb-false (g * g - length (allPlaced (pos g) n k)) f (held .twelve), total-is, total-most)
 
 module _ (s : Setting) (e : settingCheck s ≡ 0) where
   limits-hold : Limited s
@@ -134,8 +134,8 @@ module _ (s : Setting) (e : settingCheck s ≡ 0) where
         lead-two = λ j q. two-lead (s .lead) j n (lead-two-or s (limits-none s e)) q;
         worst-max = worst-most s (limits-none s e);
         long = λ i l. ap (λ (z : ℤ). length (placed z n k i)) is-side ∙ body-long g n k low high o (h .nine) i l;
-        within = ap (λ (z : ℤ). all (inside z) (allOf z n k)) is-side ∙ all-inside g n k low high o;
+        within = ap (λ (z : ℤ). all (inside z) (allPlaced z n k)) is-side ∙ all-inside g n k low high o;
         apart = h .eleven;
-        total = ap (λ (z : ℤ). length (allOf z n k)) is-side ∙ total-is g n k (s .food) low high o checked;
+        total = ap (λ (z : ℤ). length (allPlaced z n k)) is-side ∙ total-is g n k (s .food) low high o checked;
         food-free = f;
       }

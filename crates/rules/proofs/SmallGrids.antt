@@ -15,15 +15,16 @@ use Rattle.lists.specs.Lists.{any}
 use Rattle.lists.proofs.Below.{some-found, some-false, concat-split, concat-next, concat-none}
 use Rattle.rules.specs.Places.{within, inside, ahead}
 use Rattle.rules.specs.Placement.{unblocked, trail, tracing, placed}
-use Rattle.rules.specs.Setting.{badCell}
-use Rattle.rules.specs.SettingParts.{startPlace, allOf, someShortOf, placeCheck}
+use Rattle.rules.specs.Setting.{badCell, allPlaced, someShort}
+use Rattle.rules.specs.SettingParts.{startPlace, placeCheck}
 use Rattle.rules.specs.declared.Place.{Place}
 use Rattle.rules.specs.declared.Heading.{Heading}
 use Rattle.rules.proofs.Placement.{none-left, shut-first, trail-shut}
+use Rattle.lists.specs.Tables.{fault}
 
 -- 9 by a body that is short
 short-nine : (g : ℤ) (n k f i : ℕ) → i < n → length (placed g n k i) < k → placeCheck g n k f ≡ 9
-unfolding placeCheck
+unfolding placeCheck fault
 short-nine g n k f i h l = rw (some-found (λ i. ltb (length (placed g n k i)) k) n i h (lt-ltb (length (placed g n k i)) k l))
 
 -- ---- a grid without a cell
@@ -44,7 +45,7 @@ module _ (g : ℤ) (n : ℕ) (none : (x : ℤ) → within g x ≡ false) where
   unfolding badCell
   first-off ps i = rw (off (startPlace g n i))
 
-  head-off : 1 ≤ n → badCell g [] (allOf g n 1) ≡ 10
+  head-off : 1 ≤ n → badCell g [] (allPlaced g n 1) ≡ 10
   head-off h =
       let e : 0 + 1 + (n - 1) ≡ n = omega arith in
       ap (λ (m : ℕ). badCell g [] (concatBelow m (placed g n 1))) (sym e)
@@ -52,11 +53,11 @@ module _ (g : ℤ) (n : ℕ) (none : (x : ℤ) → within g x ≡ false) where
       ∙ ap (λ (l : List Place). badCell g [] (l ++ concatBelow (n - 1) (λ j. placed g n 1 (0 + 1 + j)))) (concat-next (placed g n 1) 0 ∙ ap (λ (l : List Place). l ++ placed g n 1 0) (concat-none (placed g n 1)) ∙ alone 1 0)
       ∙ first-off (concatBelow (n - 1) (λ j. placed g n 1 (0 + 1 + j))) 0
 
-  none-short : someShortOf g n 1 ≡ false
+  none-short : someShort g n 1 ≡ false
   none-short = some-false (λ i. ltb (length (placed g n 1 i)) 1) n (λ i h. rw (alone 1 i))
 
   pub empty-ten : (f : ℕ) → 1 ≤ n → placeCheck g n 1 f ≡ 10
-  unfolding placeCheck
+  unfolding placeCheck fault
   empty-ten f h = rw (none-short, head-off h)
 
   pub empty-nine : (k f : ℕ) → 1 ≤ n → 1 < k → placeCheck g n k f ≡ 9
@@ -85,7 +86,7 @@ few P a b c d e f g (suc (suc (suc (suc (suc (suc (suc (suc zero)))))))) h k = g
 few P a b c d e f g (suc (suc (suc (suc (suc (suc (suc (suc (suc n))))))))) h k = absurd (omega arith)
 
 one-ten : (f n : ℕ) → 2 ≤ n → n ≤ 8 → placeCheck (pos 1) n 1 f ≡ 10
-unfolding placeCheck someBelow concatBelow placed trail unblocked badCell any
+unfolding placeCheck someBelow concatBelow placed trail unblocked badCell any fault
 one-ten f = few (λ n. placeCheck (pos 1) n 1 f ≡ 10) refl refl refl refl refl refl refl
 
 -- a body of suc k places
@@ -101,15 +102,15 @@ unfolding trail unblocked
 one-short m = few (λ n. length (bodyTo (pos 1) n (suc m) 0) ≡ 1) refl refl refl refl refl refl refl
 
 two-ten-1 : (f n : ℕ) → 2 ≤ n → n ≤ 8 → placeCheck (pos 2) n 1 f ≡ 10
-unfolding placeCheck someBelow concatBelow placed trail unblocked badCell any
+unfolding placeCheck someBelow concatBelow placed trail unblocked badCell any fault
 two-ten-1 f = few (λ n. placeCheck (pos 2) n 1 f ≡ 10) refl refl refl refl refl refl refl
 
 two-ten-2 : (f n : ℕ) → 2 ≤ n → n ≤ 8 → placeCheck (pos 2) n 2 f ≡ 10
-unfolding placeCheck someBelow concatBelow placed trail unblocked badCell any
+unfolding placeCheck someBelow concatBelow placed trail unblocked badCell any fault
 two-ten-2 f = few (λ n. placeCheck (pos 2) n 2 f ≡ 10) refl refl refl refl refl refl refl
 
 two-ten-3 : (f n : ℕ) → 2 ≤ n → n ≤ 8 → placeCheck (pos 2) n 3 f ≡ 10
-unfolding placeCheck someBelow concatBelow placed trail unblocked badCell any
+unfolding placeCheck someBelow concatBelow placed trail unblocked badCell any fault
 two-ten-3 f = few (λ n. placeCheck (pos 2) n 3 f ≡ 10) refl refl refl refl refl refl refl
 
 two-short : (m n : ℕ) → 2 ≤ n → n ≤ 8 → length (bodyTo (pos 2) n (suc (suc (suc m))) (n - 1)) ≡ 3

@@ -7,7 +7,7 @@ use mathlib.Core.Option.{some}
 use lib.IntN.{pos}
 use Rattle.lists.specs.Below.{eachBelow}
 use Rattle.rules.specs.State.{Snake, State}
-use Rattle.rules.specs.Setting.{settingCheck, worst}
+use Rattle.rules.specs.Setting.{sideOf, settingCheck, worst}
 use Rattle.rules.specs.Step.{stepped}
 use Rattle.rules.specs.Chance.{free, outcomes, drawn, rankOf}
 use Rattle.rules.specs.View.{shows}
@@ -32,7 +32,7 @@ pub data Example : Type 0 where
 -- an accepted setting and its product; a refused one and its number; the free cells, the count, and what an index draws, which ranks as that index;
 -- a place, a heading and the place where it shows; a step's events; the length cell
 abbrev pub Holds : Example → Type 0
-Holds (accepted s p) = (settingCheck s ≡ 0) × (worst s ≡ p)
+Holds (accepted s p) = (settingCheck s ≡ 0) × (worst (s .snakes) (sideOf (s .grid)) (s .food) ≡ p)
 Holds (refused s k) = settingCheck s ≡ k
 Holds (draw t cells p i list) = (free t ≡ cells) × (outcomes t ≡ p) × (drawn t i ≡ list) × (rankOf t list ≡ i)
 Holds (turn g r c h r′ c′) = shows g h r c ≡ r′ * g + c′

@@ -15,6 +15,7 @@ pub mod LengthKey
 pub mod Turns
 pub mod Reward
 pub mod Says
+pub mod Orders
 pub mod Calls
 pub mod Promises
 pub mod Examples

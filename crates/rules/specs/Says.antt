@@ -4,7 +4,9 @@ use mathlib.Core.Bool.{Bool, true, false}
 use mathlib.Core.List.{List, [], _∷_}
 use mathlib.Core.Option.{Option, none, some}
 use lib.Ieee.{Float}
+use Rattle.lists.specs.Choice.{_if_else_}
 use Rattle.lists.specs.Lists.{overFront}
+use Rattle.lists.specs.Tables.{Table}
 use Rattle.rules.specs.declared.Event.{Event}
 use Rattle.rules.specs.declared.Verdict.{Verdict}
 use Rattle.rules.specs.declared.Verdict.the-variants.{Accepted, Refused as RefusedVerdict}
@@ -34,6 +36,11 @@ module _ {A : Type 0} where
   abbrev pub first : ℕ → Says A → Says A
   first zero r = r
   first (suc k) r = refuses (suc k)
+
+  -- the first row that holds refuses by its number; r where none does
+  unfoldable pub byTable : Table → Says A → Says A
+  byTable [] r = r
+  byTable (e ∷ es) r = let x = byTable es r in refuses (e .0) if e .1 else x
 
 module _ {A B : Type 0} where
   -- the same, seen through f

@@ -1,7 +1,7 @@
 -- The check of a setting, refusals 1 to 12, and the initial state (01, 'Numbers a refusal gives' and 'Modules' 2). Assumes nothing.
 use Prim.Native.Nat.{ℕ, zero, suc, _+_, _*_, _-_, _^_, min}
 use mathlib.Core.Bool.{Bool, true, false, not, cond, _&&_, _||_}
-use mathlib.Core.List.{List, [], _∷_, map}
+use mathlib.Core.List.{List, [], _∷_, _++_, map}
 use lib.Dec.{leb, ltb, eqb}
 use lib.ListN.{length}
 use lib.IntN.{ℤ, pos, negsuc}
@@ -10,6 +10,7 @@ use Rattle.lists.specs.Choice.{_if_else_}
 use Rattle.lists.specs.Below.{someBelow, eachBelow, concatBelow}
 use Rattle.lists.specs.Lists.{any}
 use Rattle.lists.specs.Products.{falling}
+use Rattle.lists.specs.Tables.{Table, fault}
 use Rattle.rules.specs.Places.{inside, same, cellOf}
 use Rattle.rules.specs.Placement.{placed, startHeading}
 use Rattle.rules.specs.State.{Snake, State}
@@ -36,43 +37,55 @@ abbrev pub areaOf : Setting → ℕ
 areaOf s = sideOf (s .grid) * sideOf (s .grid)
 
 -- 'product g²(g²-1).. of min(snakes, food) factors'
-abbrev pub worst : Setting → ℕ
-worst s = falling (areaOf s) (min (s .snakes) (s .food))
+abbrev pub worst : ℕ → ℕ → ℕ → ℕ
+worst n g f = falling (g * g) (min n f)
 
-abbrev pub bodyPlaced : Setting → ℕ → List Place
-bodyPlaced s i = placed (s .grid) (s .snakes) (s .size) i
+-- 'some body cannot be traced to its length', of n bodies of k places
+abbrev pub someShort : ℤ → ℕ → ℕ → Bool
+someShort g n k = someBelow n (λ i. ltb (length (placed g n k i)) k)
 
--- 'some body cannot be traced to its length'
-abbrev pub someShort : Setting → Bool
-someShort s = someBelow (s .snakes) (λ i. ltb (length (bodyPlaced s i)) (s .size))
+-- n bodies of k places, one after the other: 'in snake then body order'
+abbrev pub allPlaced : ℤ → ℕ → ℕ → List Place
+allPlaced g n k = concatBelow n (placed g n k)
 
 -- 'first bad cell, in snake then body order: outside / already taken'; 0 where there is none
 unfoldable pub badCell : ℤ → List Place → List Place → ℕ
 badCell g before [] = 0
 badCell g before (p ∷ ps) = let r = badCell g (p ∷ before) ps in cond (inside g p) (cond (any (same p) before) 11 r) 10
 
-abbrev pub allPlaced : Setting → List Place
-allPlaced s = concatBelow (s .snakes) (bodyPlaced s)
+-- 6 to 8: f food for n snakes on side g
+abbrev pub crowdOrder : ℕ → ℕ → ℕ → Table
+crowdOrder n g f = (6, ltb (g * g) f) ∷ (7, ltb 10000 f) ∷ (8, ltb (2 ^ 53) (worst n g f)) ∷ []
 
--- 1 to 12 in this order, and 0 for an accepted setting
+-- 1 to 8: the numbers of a setting
+abbrev pub limitsOrder : Setting → Table
+limitsOrder s =
+    (1, ltb (s .snakes) 2 || ltb 8 (s .snakes))
+    ∷ (2, eqb (s .size) 0)
+    ∷ (3, isZero (s .lead))
+    ∷ (4, isSet (s .lead) && not (eqb (s .snakes) 2))
+    ∷ (5, ltZ (pos 32) (s .grid))
+    ∷ crowdOrder (s .snakes) (sideOf (s .grid)) (s .food)
+
+-- 9 to 12: its places, for f food
+abbrev pub placesOrder : ℤ → ℕ → ℕ → ℕ → Table
+placesOrder g n k f =
+    (9, someShort g n k)
+    ∷ (10, eqb (badCell g [] (allPlaced g n k)) 10)
+    ∷ (11, eqb (badCell g [] (allPlaced g n k)) 11)
+    ∷ (12, ltb (sideOf g * sideOf g - length (allPlaced g n k)) f)
+    ∷ []
+
+-- 'Setting: 1 to 12 as listed'
+abbrev pub settingOrder : Setting → Table
+settingOrder s = limitsOrder s ++ placesOrder (s .grid) (s .snakes) (s .size) (s .food)
+
+-- the number, and 0 for an accepted setting
 unfoldable pub settingCheck : Setting → ℕ
-settingCheck s =
-    1 if ltb (s .snakes) 2 || ltb 8 (s .snakes) else
-    2 if eqb (s .size) 0 else
-    3 if isZero (s .lead) else
-    4 if isSet (s .lead) && not (eqb (s .snakes) 2) else
-    5 if ltZ (pos 32) (s .grid) else
-    6 if ltb (areaOf s) (s .food) else
-    7 if ltb 10000 (s .food) else
-    8 if ltb (2 ^ 53) (worst s) else
-    9 if someShort s else
-    10 if eqb (badCell (s .grid) [] (allPlaced s)) 10 else
-    11 if eqb (badCell (s .grid) [] (allPlaced s)) 11 else
-    12 if ltb (areaOf s - length (allPlaced s)) (s .food) else
-    0
+settingCheck s = fault (settingOrder s)
 
 abbrev pub startSnake : Setting → ℕ → Snake
-startSnake s i = record { heading = startHeading i; alive = true; body = map (cellOf (sideOf (s .grid))) (bodyPlaced s i) }
+startSnake s i = record { heading = startHeading i; alive = true; body = map (cellOf (sideOf (s .grid))) (placed (s .grid) (s .snakes) (s .size) i) }
 
 -- 'At start food due = food, birth = food > 0'
 unfoldable pub initialState : Setting → State

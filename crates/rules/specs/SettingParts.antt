@@ -8,27 +8,23 @@ use lib.ListN.{length}
 use lib.IntN.{ℤ, pos}
 use lib.Signed.{ltZ}
 use Rattle.lists.specs.Choice.{_if_else_, bit}
-use Rattle.lists.specs.Below.{someBelow, concatBelow}
+use Rattle.lists.specs.Below.{concatBelow}
+use Rattle.lists.specs.Tables.{fault}
 use Rattle.rules.specs.Places.{cellOf}
 use Rattle.rules.specs.Headings.{numberOf}
 use Rattle.rules.specs.Image.{front}
 use Rattle.rules.specs.Placement.{rowOf, colOf, startHeading, placed}
-use Rattle.rules.specs.Setting.{isSet, isZero, sideOf, areaOf, worst, badCell}
+use Rattle.rules.specs.Setting.{sideOf, areaOf, limitsOrder, placesOrder}
 use Rattle.rules.specs.declared.Setting.{Setting}
 use Rattle.rules.specs.declared.Place.{Place}
 
 -- 1 to 8
 unfoldable pub limitsCheck : Setting → ℕ
-limitsCheck s =
-    1 if ltb (s .snakes) 2 || ltb 8 (s .snakes) else
-    2 if eqb (s .size) 0 else
-    3 if isZero (s .lead) else
-    4 if isSet (s .lead) && not (eqb (s .snakes) 2) else
-    5 if ltZ (pos 32) (s .grid) else
-    6 if ltb (areaOf s) (s .food) else
-    7 if ltb 10000 (s .food) else
-    8 if ltb (2 ^ 53) (worst s) else
-    0
+limitsCheck s = fault (limitsOrder s)
+
+-- 9 to 12, for f food
+unfoldable pub placeCheck : ℤ → ℕ → ℕ → ℕ → ℕ
+placeCheck g n k f = fault (placesOrder g n k f)
 
 -- what a setting without a fault in 1 to 8 tells the second half
 pub record Limited (s : Setting) : Type 0 where
@@ -40,22 +36,6 @@ pub record Limited (s : Setting) : Type 0 where
 
 abbrev pub startPlace : ℤ → ℕ → ℕ → Place
 startPlace g n i = record { row = rowOf g n i; col = colOf g i }
-
--- n bodies of k places, one after the other
-abbrev pub allOf : ℤ → ℕ → ℕ → List Place
-allOf g n k = concatBelow n (placed g n k)
-
-abbrev pub someShortOf : ℤ → ℕ → ℕ → Bool
-someShortOf g n k = someBelow n (λ i. ltb (length (placed g n k i)) k)
-
--- 9 to 12, for food f
-unfoldable pub placeCheck : ℤ → ℕ → ℕ → ℕ → ℕ
-placeCheck g n k f =
-    9 if someShortOf g n k else
-    10 if eqb (badCell g [] (allOf g n k)) 10 else
-    11 if eqb (badCell g [] (allOf g n k)) 11 else
-    12 if ltb (sideOf g * sideOf g - length (allOf g n k)) f else
-    0
 
 -- a body's cells
 abbrev pub cellsOf : ℕ → ℕ → ℕ → ℕ → List ℕ

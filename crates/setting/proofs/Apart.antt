@@ -19,8 +19,8 @@ use Rattle.lists.proofs.Shorter.{map-take}
 use Rattle.lists.proofs.Tests.{and-left, and-right, or-second, ordered, less, more}
 use Rattle.rules.specs.Places.{cellOf}
 use Rattle.rules.specs.Placement.{tracing, unblocked, trail, traced, placed}
-use Rattle.rules.specs.Setting.{sideOf}
-use Rattle.rules.specs.SettingParts.{Limited, startPlace, someShortOf, placeCheck, cellsOf}
+use Rattle.rules.specs.Setting.{sideOf, someShort}
+use Rattle.rules.specs.SettingParts.{Limited, startPlace, placeCheck, cellsOf}
 use Rattle.rules.specs.declared.Place.{Place}
 use Rattle.rules.specs.declared.Setting.{Setting}
 use Rattle.rules.proofs.Placement.{trail-take}
@@ -41,14 +41,14 @@ placed-take g n j k i o h =
 -- ---- bodies that lie apart
 
 lies : ℕ → ℕ → ℕ → Bool
-lies g n k = not (someShortOf (pos g) n k) && distinct (concatBelow n (cellsOf g n k))
+lies g n k = not (someShort (pos g) n k) && distinct (concatBelow n (cellsOf g n k))
 
 -- what holds of a length holds of a shorter one
 module _ (g n k m : ℕ) (some : 1 ≤ k) (h : k ≤ m) (l : lies g n m ≡ true) where
-  none-short : someShortOf (pos g) n k ≡ false
+  none-short : someShort (pos g) n k ≡ false
   unfolding lies
   none-short =
-      let q = not-true (someShortOf (pos g) n m) (and-left (not (someShortOf (pos g) n m)) (distinct (concatBelow n (cellsOf g n m))) l) in
+      let q = not-true (someShort (pos g) n m) (and-left (not (someShort (pos g) n m)) (distinct (concatBelow n (cellsOf g n m))) l) in
       some-false (λ i. ltb (length (placed (pos g) n k i)) k) n
       (λ i t.
       let r = ltb-false (length (placed (pos g) n m i)) m (some-never (λ i. ltb (length (placed (pos g) n m i)) m) n i t q) in
@@ -62,7 +62,7 @@ module _ (g n k m : ℕ) (some : 1 ≤ k) (h : k ≤ m) (l : lies g n m ≡ true
   unfolding lies
   apart =
       ap distinct (concat-ext n (cellsOf g n k) (λ i. take k (cellsOf g n m i)) (λ i _. cells-cut i))
-      ∙ distinct-cut (cellsOf g n m) k n (and-right (not (someShortOf (pos g) n m)) (distinct (concatBelow n (cellsOf g n m))) l)
+      ∙ distinct-cut (cellsOf g n m) k n (and-right (not (someShort (pos g) n m)) (distinct (concatBelow n (cellsOf g n m))) l)
 
 -- ---- the longest, by computation; where the span is below 2 there is none
 

@@ -17,8 +17,8 @@ use Rattle.lists.specs.Lists.{writeAt, overFront, distinct}
 use Rattle.lists.proofs.Tests.{ordered, less, more, first-some}
 use Rattle.lists.proofs.Writes.{write-front}
 use Rattle.rules.specs.Places.{cellOf}
-use Rattle.rules.specs.Setting.{sideOf, settingCheck}
-use Rattle.rules.specs.SettingParts.{limitsCheck, allOf, someShortOf, placeCheck, cellsOf}
+use Rattle.rules.specs.Setting.{sideOf, settingCheck, allPlaced, someShort}
+use Rattle.rules.specs.SettingParts.{limitsCheck, placeCheck, cellsOf}
 use Rattle.rules.specs.declared.Setting.{Setting}
 use Rattle.rules.proofs.SettingParts.{check-parts}
 use Rattle.rules.proofs.SettingFacts.{nine-or-ten}
@@ -38,15 +38,15 @@ free-less a t f = elim (ordered (a - t) f) [
 module _ (g n size f : ℕ) (old : List ℕ) (ready : Ready g n size old) (new : List ℕ) (b : Bool) (p : Placed g n size old new b) where
   pub judge-short : not b ≡ true → Judged (placeCheck (pos g) n size f) (concatBelow n (cellsOf g n size)) old new 9
   judge-short t =
-      let s : someShortOf (pos g) n size ≡ true = not-false (someShortOf (pos g) n size) (sym (p .says) ∙ not-true b t) in
+      let s : someShort (pos g) n size ≡ true = not-false (someShort (pos g) n size) (sym (p .says) ∙ not-true b t) in
       record {
         says = sym (check-cells g n size (ready .side-min) (ready .side-max) (ready .size-min) f ∙ rw s);
         words = λ z. let y : _≡_ {A = ℕ} 9 0 = z in absurd (omega arith);
       }
 
   module _ (t : not b ≡ false) where
-    none : someShortOf (pos g) n size ≡ false
-    none = not-true (someShortOf (pos g) n size) (sym (p .says) ∙ not-false b t)
+    none : someShort (pos g) n size ≡ false
+    none = not-true (someShort (pos g) n size) (sym (p .says) ∙ not-false b t)
 
     size-most : size ≤ 125
     size-most =
@@ -58,7 +58,7 @@ module _ (g n size f : ℕ) (old : List ℕ) (ready : Ready g n size old) (new :
     total-is : length (concatBelow n (cellsOf g n size)) ≡ n * size
     total-is =
         ap (λ (l : List ℕ). length l) (sym (all-cells g n size (ready .side-min) (ready .side-max) (ready .size-min)))
-        ∙ length-map (allOf (pos g) n size) (cellOf g)
+        ∙ length-map (allPlaced (pos g) n size) (cellOf g)
         ∙ all-long g n size (ready .side-min) (ready .side-max) (ready .size-min) none
 
     words-are : new ≡ writeAt old 0 (concatBelow n (cellsOf g n size))

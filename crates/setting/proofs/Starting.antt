@@ -26,6 +26,7 @@ use Rattle.rules.specs.declared.Answer.{Answer}
 use Rattle.rules.specs.declared.Answer.the-variants.{Done, Refused}
 use Rattle.rules.specs.declared.Setting.{Setting}
 use Rattle.rules.proofs.Firsts.{first-refuses}
+use Rattle.rules.proofs.Tables.{startFor, initial-says}
 use Rattle.rules.proofs.Facts.{square-le}
 use Rattle.rules.proofs.InitialFacts.{cells-long, start-image}
 use Rattle.rules.proofs.SettingFacts.{accepts}
@@ -40,10 +41,9 @@ module _ (s : Setting) (old : List ℕ) where
       }
 
   pub starts-refused : (k : ℕ) → k ≡ settingCheck s → (k ≡ 0 → ⊥) → Starts s old old (Refused k)
-  unfolding initialSays
   starts-refused k e h =
-      let r : Says State = refuses 29 if ltb (length old) (length (imageOf (initialState s))) else gives (initialState s) in
-      refused old (Refused k) k (ap (λ (j : ℕ). first j r) (sym e) ∙ first-refuses k r h) refl refl
+      let r = startFor s (length old) in
+      refused old (Refused k) k (initial-says s (length old) ∙ ap (λ (j : ℕ). first j r) (sym e) ∙ first-refuses k r h) refl refl
 
 module _ (s : Setting) (e : settingCheck s ≡ 0) where
   pub total-is : length (startCells s) ≡ s .snakes * s .size
@@ -87,15 +87,13 @@ module _ (s : Setting) (e : settingCheck s ≡ 0) where
     count-is = ap (λ (l : List ℕ). 5 + 4 * s .snakes + length l) c ∙ sym image-long
 
     pub starts-short : length old < 5 + 4 * s .snakes + length cells → Starts s old old (Refused 29)
-    unfolding initialSays
     starts-short h =
         refused s old old (Refused 29) 29
-        (rw (e, lt-ltb (length old) (length (imageOf (initialState s))) (omega (arith, count-is))))
+        (rw (initial-says s (length old), e, lt-ltb (length old) (length (imageOf (initialState s))) (omega (arith, count-is))))
         refl refl
 
     given : 5 + 4 * s .snakes + length cells ≤ length old → initialSays s (length old) ≡ gives (initialState s)
-    unfolding initialSays
-    given h = rw (e, le-ltb (length old) (length (imageOf (initialState s))) (omega (arith, count-is)))
+    given h = rw (initial-says s (length old), e, le-ltb (length old) (length (imageOf (initialState s))) (omega (arith, count-is)))
 
     pub starts-done : (new : List ℕ) (g : ℕ) → g ≡ sideOf (s .grid) → 5 + 4 * s .snakes + length cells ≤ length old
         → new ≡ writeAt old 0 ((s .snakes ∷ g ∷ s .food ∷ bit (ltb 0 (s .food)) ∷ 0 ∷ []) ++ (concatBelow (s .snakes) (startRecord (s .snakes) (s .size)) ++ cells))

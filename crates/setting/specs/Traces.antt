@@ -10,7 +10,8 @@ use Rattle.lists.specs.Below.{concatBelow}
 use Rattle.lists.specs.Lists.{writeAt}
 use Rattle.rules.specs.Places.{ahead, inside}
 use Rattle.rules.specs.Placement.{unblocked}
-use Rattle.rules.specs.SettingParts.{someShortOf, cellsOf}
+use Rattle.rules.specs.SettingParts.{cellsOf}
+use Rattle.rules.specs.Setting.{someShort}
 use Rattle.rules.specs.declared.Heading.{Heading}
 use Rattle.rules.specs.declared.Heading.the-variants.{Up, Right, Down, Left}
 use Rattle.rules.specs.declared.Place.{Place}
@@ -37,7 +38,7 @@ pub record Ready (g n size : ℕ) (cells : List ℕ) : Type 0 where
 
 -- whether every body has its length, and the cells of all bodies where each has
 pub record Placed (g n size : ℕ) (old new : List ℕ) (r : Bool) : Type 0 where
-  pub says : r ≡ not (someShortOf (pos g) n size)
+  pub says : r ≡ not (someShort (pos g) n size)
   pub words : r ≡ true → new ≡ writeAt old 0 (concatBelow n (cellsOf g n size))
 
 -- the number that is given, and the cells of all bodies where it is 0

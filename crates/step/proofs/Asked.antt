@@ -2,23 +2,27 @@
 use Prim.Native.Nat.{ℕ, zero, suc}
 use mathlib.Core.Path.{_≡_, refl, sym, ap, _∙_}
 use mathlib.Core.Bool.{Bool, true, false, not, _&&_}
-use mathlib.Core.List.{List}
+use mathlib.Core.List.{List, [], _∷_}
 use native.Mathlib.Omega.{arith}
 use lib.Dec.{ltb, eqb}
 use lib.ListN.{length, getD, replicate}
 use borrow.Author.Tests.{eqb-true, not-false}
-use Rattle.lists.specs.Choice.{_if_else_, firstOf}
+use Rattle.lists.specs.Choice.{firstOf}
 use Rattle.lists.specs.Below.{someBelow}
+use Rattle.lists.specs.Lists.{all}
+use Rattle.lists.specs.Tables.{Table, fault}
 use Rattle.lists.proofs.Below.{some-ext}
+use Rattle.lists.proofs.Tables.{fault-both, fault-none, row-out}
 use Rattle.lists.proofs.Tests.{first-some, first-then}
-use Rattle.rules.specs.Setting.{settingCheck}
+use Rattle.rules.specs.Setting.{settingOrder, settingCheck}
 use Rattle.rules.specs.State.{Snake, snakeOf}
 use Rattle.rules.specs.Image.{snakesIn, dueIn, aliveAt, stateOf, imageOf, wellFormed}
 use Rattle.rules.specs.Facts.{Sound}
-use Rattle.rules.specs.Says.{Says, refuses, gives, first, seen, beside, lent, says, saysVerdict}
+use Rattle.rules.specs.Says.{Says, refuses, gives, first, seen, beside, lent, says, saysVerdict, byTable}
 use Rattle.rules.specs.Events.{blank, eight}
 use Rattle.rules.specs.Promises.{Validates, Steps}
-use Rattle.rules.specs.Calls.{settingSays, differs, badAction, stepSays}
+use Rattle.rules.specs.Calls.{stepSays}
+use Rattle.rules.specs.Orders.{differs, badAction, askedRows, askedOrder}
 use Rattle.rules.specs.Step.{Outcome, stepped}
 use Rattle.rules.specs.declared.Setting.{Setting}
 use Rattle.rules.specs.declared.Stepped.{Stepped}
@@ -26,6 +30,7 @@ use Rattle.rules.specs.declared.Verdict.{Verdict}
 use Rattle.rules.specs.declared.Verdict.the-variants.{Accepted, Refused}
 use Rattle.rules.proofs.Facts.{sound}
 use Rattle.rules.proofs.Firsts.{first-refuses}
+use Rattle.rules.proofs.Tables.{setting-says, table-then}
 use Rattle.rules.proofs.Parts.{state-count, state-snake}
 use Rattle.judge.specs.declared.Judged.{Judged}
 use Rattle.judge.specs.World.{Judges}
@@ -43,50 +48,35 @@ verdict-number (Refused n) zero h = let z : _≡_ {A = ℕ} 0 1 = cc in absurd (
 verdict-number (Refused n) (suc k) h = cc
 
 pub validated : (s : Setting) (v : Verdict) → Validates s v → numberIn v ≡ settingCheck s
-unfolding settingSays
-validated s v p = verdict-number v (settingCheck s) (p .answer)
-
-module _ {A : Type 0} (r : Says A) where
-  or-first : (k n : ℕ) (x : Says A) → x ≡ first n r → first k x ≡ first (firstOf k n) r
-  or-first zero n x h = h
-  or-first (suc k) n x h = refl
-
-  next-first : (b : Bool) (k n : ℕ) (x : Says A) → x ≡ first n r → (refuses (suc k) if b else x) ≡ first (suc k if b else n) r
-  next-first true k n x h = refl
-  next-first false k n x h = h
+validated s v p = verdict-number v (settingCheck s) (p .answer ∙ setting-says s)
 
 -- a step says the first number that is asked, and else what the room allows
 pub step-says : (s : Setting) (w acts : List ℕ) (room : ℕ) → stepSays s w acts room ≡ first (asked s w acts) (roomFor (stepped s (stateOf w) acts) room)
-unfolding stepSays asked
+unfolding stepSays asked byTable all
 step-says s w acts room =
-    let r = roomFor (stepped s (stateOf w) acts) room in
-    or-first r (settingCheck s) _ _
-    (next-first r (not (wellFormed w)) 19 _ _
-    (next-first r (differs s w) 20 _ _
-    (next-first r (ltb 0 (dueIn w)) 21 _ _
-    (next-first r (not (eqb (length acts) (snakesIn w))) 23 _ _
-    (next-first r (badAction (stateOf w) acts) 24 _ _ refl)))))
+    let o = stepped s (stateOf w) acts in
+    table-then (askedOrder s w acts) ((29, ltb room (length (imageOf (o .next)))) ∷ []) (gives o) refl
 
 -- ---- where no number is given
 
-if-zero : (b : Bool) (k r : ℕ) → (suc k if b else r) ≡ 0 → (b ≡ false) × (r ≡ 0)
-if-zero true k r h = absurd (omega arith)
-if-zero false k r h = (refl, h)
+module _ (s : Setting) (w acts : List ℕ) where
+  abbrev rows : Table
+  rows = (20, not (wellFormed w)) ∷ askedRows s w acts
 
-module _ (s : Setting) (w acts : List ℕ) (h : asked s w acts ≡ 0) where
-  image-asked : (not (wellFormed w) ≡ false) × (askedOf s w acts ≡ 0)
-  unfolding asked
-  image-asked = if-zero (not (wellFormed w)) 19 (askedOf s w acts) (first-then (settingCheck s) _ h)
+  asked-parts : asked s w acts ≡ firstOf (settingCheck s) (fault rows)
+  unfolding asked settingCheck all
+  asked-parts = fault-both (settingOrder s) rows refl
 
-  pub asked-sound : Sound w
-  asked-sound = sound w (not-false (wellFormed w) (image-asked .0))
+  module _ (h : asked s w acts ≡ 0) where
+    rows-out : (k : ℕ) → getD rows k (0, false) .1 ≡ false
+    unfolding all
+    rows-out k = row-out rows k (fault-none rows refl (first-then (settingCheck s) (fault rows) (sym asked-parts ∙ h)))
 
-  pub asked-count : length acts ≡ snakesIn w
-  asked-count =
-      let a = if-zero (differs s w) 20 _ (image-asked .1) in
-      let b = if-zero (ltb 0 (dueIn w)) 21 _ (a .1) in
-      let c = if-zero (not (eqb (length acts) (snakesIn w))) 23 _ (b .1) in
-      eqb-true _ _ (not-false (eqb (length acts) (snakesIn w)) (c .0))
+    pub asked-sound : Sound w
+    asked-sound = sound w (not-false (wellFormed w) (rows-out 0))
+
+    pub asked-count : length acts ≡ snakesIn w
+    asked-count = eqb-true _ _ (not-false (eqb (length acts) (snakesIn w)) (rows-out 3))
 
 -- ---- 25, by the image's words
 
@@ -100,34 +90,41 @@ bad-words w acts =
 
 module _ (s : Setting) (w acts : List ℕ) where
   pub asked-other : differs s w ≡ true → 21 ≡ askedOf s w acts
+  unfolding askedOf fault
   asked-other a = rw a
 
   module _ (a : differs s w ≡ false) where
     pub asked-due : ltb 0 (dueIn w) ≡ true → 22 ≡ askedOf s w acts
+    unfolding askedOf fault
     asked-due b = rw (a, b)
 
     module _ (b : ltb 0 (dueIn w) ≡ false) where
       pub asked-many : eqb (length acts) (snakesIn w) ≡ false → 24 ≡ askedOf s w acts
+      unfolding askedOf fault
       asked-many c = rw (a, b, c)
 
       module _ (c : eqb (length acts) (snakesIn w) ≡ true) where
         pub asked-bad : badAction (stateOf w) acts ≡ true → 25 ≡ askedOf s w acts
+        unfolding askedOf fault
         asked-bad d = rw (a, b, c, d)
 
         pub asked-none : badAction (stateOf w) acts ≡ false → 0 ≡ askedOf s w acts
+        unfolding askedOf fault
         asked-none d = rw (a, b, c, d)
 
   pub asked-setting : (k : ℕ) → k ≡ settingCheck s → (k ≡ 0 → ⊥) → k ≡ asked s w acts
-  unfolding asked
-  asked-setting k e h = sym (first-some k _ h) ∙ ap (λ (n : ℕ). firstOf n (20 if not (wellFormed w) else askedOf s w acts)) e
+  asked-setting k e h = sym (first-some k _ h) ∙ ap (λ (n : ℕ). firstOf n (fault (rows s w acts))) e ∙ sym (asked-parts s w acts)
+
+  by-rows : settingCheck s ≡ 0 → asked s w acts ≡ fault (rows s w acts)
+  by-rows a = asked-parts s w acts ∙ ap (λ (n : ℕ). firstOf n (fault (rows s w acts))) a
 
   pub asked-malformed : settingCheck s ≡ 0 → wellFormed w ≡ false → 20 ≡ asked s w acts
-  unfolding asked
-  asked-malformed a b = rw (a, b)
+  unfolding fault
+  asked-malformed a b = rw (by-rows a, b)
 
   pub asked-image : (k : ℕ) → settingCheck s ≡ 0 → wellFormed w ≡ true → k ≡ askedOf s w acts → k ≡ asked s w acts
-  unfolding asked
-  asked-image k a b e = rw (a, b) e
+  unfolding askedOf fault
+  asked-image k a b e = rw (by-rows a, b) e
 
 -- ---- a judged array is ready to be applied
 

@@ -10,7 +10,7 @@ ghost use mathlib.Core.Path.{_≡_};
 ghost use lib.ListN.{length};
 ghost use Rattle.rules.specs.Image.{snakesIn, stateOf};
 ghost use Rattle.rules.specs.Facts.{Sound};
-ghost use Rattle.rules.specs.Calls.{differs, badAction};
+ghost use Rattle.rules.specs.Orders.{differs, badAction};
 ghost use Rattle.rules.specs.Step.{stepped};
 ghost use Rattle.rules.specs.Promises.{Steps};
 ghost use Rattle.step.specs.Applied.{Applied};

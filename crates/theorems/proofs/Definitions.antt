@@ -11,14 +11,14 @@ use Rattle.rules.specs.Headings.{turned}
 use Rattle.rules.specs.Events.{blank, eight}
 use Rattle.rules.specs.State.{State, snakeOf}
 use Rattle.rules.specs.Image.{imageOf, stateOf, wellFormed}
-use Rattle.rules.specs.Setting.{sideOf, initialState}
+use Rattle.rules.specs.Setting.{sideOf, settingOrder, initialState}
 use Rattle.rules.specs.Step.{Outcome, stepped}
 use Rattle.rules.specs.Chance.{outcomes, drawn, afterDraw, rankOf}
 use Rattle.rules.specs.View.{view, lit}
 use Rattle.rules.specs.LengthKey.{lengthKey}
 use Rattle.rules.specs.Turns.{chanceActs, legalFor, truncated}
 use Rattle.rules.specs.Reward.{rewardOf}
-use Rattle.rules.specs.Says.{Says, gives, seen, beside, lent, saysKey, saysActor, saysLegal}
+use Rattle.rules.specs.Says.{gives, byTable, box, seen, beside, lent, saysKey, saysActor, saysLegal}
 use Rattle.rules.specs.Calls.{settingSays, initialSays, stepSays, observeSays, countSays, Draw, drawSays, rankSays, actorSays, legalSays, keySays, truncationSays, rewardSays, spaceSays, bodyAsked}
 use Rattle.rules.specs.Promises.{Turns, Checks, Validates, Starts, Steps, Observes, Counts, Draws, Ranks, ActsNext, Allows, Keys, Truncates, Rewards, ObservationSpace, ActionSpace, Parts}
 use Rattle.rules.specs.declared.Heading.{Heading}
@@ -46,13 +46,13 @@ use Rattle.rules.specs.declared.Space.the-variants.{Box, Discrete}
 use Rattle.rules.proofs.Answers.{answer-one, verdict-one, number-one, mark-one, sum-one, space-one}
 use denote.Ref.{RefT}
 use Rattle.image.specs.Memory.{wordPlace, startAsked}
-use Rattle.theorems.specs.Orders.{Table, byTable, noneHold, settingOrder, initialOrder, stepOrder, observeOrder, countOrder, drawOrder, rankOrder, imageOrder, agentOrder, rewardOrder, spaceOrder}
-use Rattle.theorems.proofs.Tables.{table-gives}
-use Rattle.theorems.proofs.Refusals.{setting-order, initial-order, step-order, observe-order, count-order, draw-order, rank-order, actor-order, legal-order, key-order, truncation-order, reward-order, space-order}
+use Rattle.lists.specs.Tables.{Table, noneHold}
+use Rattle.rules.specs.Orders.{initialOrder, stepOrder, observeOrder, countOrder, drawOrder, rankOrder, imageOrder, agentOrder, rewardOrder, spaceOrder}
+use Rattle.rules.proofs.Tables.{table-gives}
 
 module _ {A : Type 0} where
-  lawful : (x : Says A) (t : Table) (a : A) → x ≡ byTable t (gives a) → noneHold t ≡ true → x ≡ gives a
-  lawful x t a o h = o ∙ table-gives t (gives a) h
+  lawful : (t : Table) (a : A) → noneHold t ≡ true → byTable t (gives a) ≡ gives a
+  lawful t a h = table-gives t (gives a) h
 
 -- the action turns the heading
 pub turn-is : (h : Heading) (a : RelativeAction) (r : Heading) → Turns h a r → r ≡ turned h a
@@ -68,13 +68,15 @@ body-is w i r p = p .answer
 
 -- a setting without a fault is accepted
 pub validate-is : (s : Setting) (r : Verdict) → Validates s r → noneHold (settingOrder s) ≡ true → r ≡ Accepted
-validate-is s r p h = verdict-one r Accepted (p .answer ∙ lawful (settingSays s) (settingOrder s) tt (setting-order s) h)
+unfolding settingSays
+validate-is s r p h = verdict-one r Accepted (p .answer ∙ lawful (settingOrder s) tt h)
 
 -- the words written are the image of the initial state
 pub initial-is : (s : Setting) (old new : List ℕ) (r : Answer) → Starts s old new r → noneHold (initialOrder s (length old)) ≡ true
     → (r ≡ Done (length (imageOf (initialState s)))) × (take (length (imageOf (initialState s))) new ≡ imageOf (initialState s))
+unfolding initialSays
 initial-is s old new r p h =
-    let e = lawful (initialSays s (length old)) (initialOrder s (length old)) (initialState s) (initial-order s (length old)) h in
+    let e = lawful (initialOrder s (length old)) (initialState s) h in
     let t = imageOf (initialState s) in (
       answer-one r (Done (length t)) (p .answer ∙ ap (seen (λ (t : State). length (imageOf t))) e),
       ap (take (length t)) (p .words ∙ ap (lent imageOf old) e) ∙ over-take t old,
@@ -89,9 +91,10 @@ pub record StepIs (o : Outcome) (new : List ℕ) (r : Stepped) : Type 0 where
 
 pub step-is : (s : Setting) (w acts old new : List ℕ) (r : Stepped) → Steps s w acts old new r → noneHold (stepOrder s w acts (length old)) ≡ true
     → StepIs (stepped s (stateOf w) acts) new r
+unfolding stepSays
 step-is s w acts old new r p h =
     let o = stepped s (stateOf w) acts in
-    let e = lawful (stepSays s w acts (length old)) (stepOrder s w acts (length old)) o (step-order s w acts (length old)) h in
+    let e = lawful (stepOrder s w acts (length old)) o h in
     let t = imageOf (o .next) in
     record {
       answer = answer-one (r .answer) (Done (length t)) (p .answer ∙ ap (seen (λ (o : Outcome). length (imageOf (o .next)))) e);
@@ -103,15 +106,17 @@ step-is s w acts old new r p h =
 -- the numbers written are the agent's view
 pub observe-is : (w : List ℕ) (a : ℕ) (old new : List Float) (r : Answer) → Observes w a old new r → noneHold (observeOrder w a (length old)) ≡ true
     → (r ≡ Done (length (view (stateOf w) a))) × (take (length (view (stateOf w) a)) new ≡ view (stateOf w) a)
+unfolding observeSays
 observe-is w a old new r p h =
-    let e = lawful (observeSays w a (length old)) (observeOrder w a (length old)) (view (stateOf w) a) (observe-order w a (length old)) h in
+    let e = lawful (observeOrder w a (length old)) (view (stateOf w) a) h in
     let v = view (stateOf w) a in (
       answer-one r (Done (length v)) (p .answer ∙ ap (seen (λ (v : List Float). length v)) e),
       ap (take (length v)) (p .numbers ∙ ap (lent (λ (v : List Float). v) old) e) ∙ over-take v old,
     )
 
 pub count-is : (w : List ℕ) (r : Number) → Counts w r → noneHold (countOrder w) ≡ true → r ≡ Value (outcomes (stateOf w))
-count-is w r p h = number-one r (Value (outcomes (stateOf w))) (p .answer ∙ lawful (countSays w) (countOrder w) _ (count-order w) h)
+unfolding countSays
+count-is w r p h = number-one r (Value (outcomes (stateOf w))) (p .answer ∙ lawful (countOrder w) (outcomes (stateOf w)) h)
 
 -- a draw: the next image, and the ordered list of the cells drawn
 pub record DrawIs (t : State) (i : ℕ) (new cells : List ℕ) (r : Drawn) : Type 0 where
@@ -122,9 +127,10 @@ pub record DrawIs (t : State) (i : ℕ) (new cells : List ℕ) (r : Drawn) : Typ
 
 pub draw-is : (w : List ℕ) (i : ℕ) (old new list cells : List ℕ) (r : Drawn) → Draws w i old new list cells r
     → noneHold (drawOrder w i (length old) (length list)) ≡ true → DrawIs (stateOf w) i new cells r
+unfolding drawSays
 draw-is w i old new list cells r p h =
     let d : Draw = record { next = afterDraw (stateOf w) i; cells = drawn (stateOf w) i } in
-    let e = lawful (drawSays w i (length old) (length list)) (drawOrder w i (length old) (length list)) d (draw-order w i (length old) (length list)) h in
+    let e = lawful (drawOrder w i (length old) (length list)) d h in
     let t = imageOf (afterDraw (stateOf w) i) in
     let l = drawn (stateOf w) i in
     record {
@@ -135,31 +141,38 @@ draw-is w i old new list cells r p h =
     }
 
 pub rank-is : (w l : List ℕ) (r : Number) → Ranks w l r → noneHold (rankOrder w l) ≡ true → r ≡ Value (rankOf (stateOf w) l)
-rank-is w l r p h = number-one r (Value (rankOf (stateOf w) l)) (p .answer ∙ lawful (rankSays w l) (rankOrder w l) _ (rank-order w l) h)
+unfolding rankSays
+rank-is w l r p h = number-one r (Value (rankOf (stateOf w) l)) (p .answer ∙ lawful (rankOrder w l) (rankOf (stateOf w) l) h)
 
 -- whether chance acts
 pub actor-is : (w : List ℕ) (r : Actor) → ActsNext w r → noneHold (imageOrder w) ≡ true → saysActor r ≡ gives (chanceActs (stateOf w))
-actor-is w r p h = p .answer ∙ lawful (actorSays w) (imageOrder w) _ (actor-order w) h
+unfolding actorSays
+actor-is w r p h = p .answer ∙ lawful (imageOrder w) (chanceActs (stateOf w)) h
 
 -- the legal actions as a list
 pub legal-is : (w : List ℕ) (a : ℕ) (r : Legal) → Allows w a r → noneHold (agentOrder w a) ≡ true → saysLegal r ≡ gives (legalFor (stateOf w) a)
-legal-is w a r p h = p .answer ∙ lawful (legalSays w a) (agentOrder w a) _ (legal-order w a) h
+unfolding legalSays
+legal-is w a r p h = p .answer ∙ lawful (agentOrder w a) (legalFor (stateOf w) a) h
 
 -- the length cell, or none
 pub key-is : (w : List ℕ) (r : LengthCell) → Keys w r → noneHold (imageOrder w) ≡ true → saysKey r ≡ gives (lengthKey (stateOf w))
-key-is w r p h = p .answer ∙ lawful (keySays w) (imageOrder w) _ (key-order w) h
+unfolding keySays
+key-is w r p h = p .answer ∙ lawful (imageOrder w) (lengthKey (stateOf w)) h
 
 -- the event with its survival flag set
 pub truncation-is : (w : List ℕ) (a : ℕ) (e : Event) (r : Truncated) → Truncates w a e r → noneHold (agentOrder w a) ≡ true
     → r ≡ Marked (truncated e (snakeOf (stateOf w) a .alive))
-truncation-is w a e r p h = mark-one r (Marked _) (p .answer ∙ lawful (truncationSays w a e) (agentOrder w a) _ (truncation-order w a e) h)
+unfolding truncationSays
+truncation-is w a e r p h = mark-one r (Marked _) (p .answer ∙ lawful (agentOrder w a) (truncated e (snakeOf (stateOf w) a .alive)) h)
 
 pub reward-is : (w : Weights) (e : Event) (r : Reward) → Rewards w e r → noneHold (rewardOrder w) ≡ true → r ≡ Sum (rewardOf w e)
-reward-is w e r p h = sum-one r (Sum (rewardOf w e)) (p .answer ∙ lawful (rewardSays w e) (rewardOrder w) _ (reward-order w e) h)
+unfolding rewardSays
+reward-is w e r p h = sum-one r (Sum (rewardOf w e)) (p .answer ∙ lawful (rewardOrder w) (rewardOf w e) h)
 
 -- five planes of the grid's side, from 0.0 to 1.0
 pub space-is : (g : ℤ) (r : Space) → ObservationSpace g r → noneHold (spaceOrder g) ≡ true → r ≡ Box 5 (sideOf g) (sideOf g) (lit false) (lit true)
-space-is g r p h = space-one r (Box 5 (sideOf g) (sideOf g) (lit false) (lit true)) (p .answer ∙ lawful (spaceSays g) (spaceOrder g) _ (space-order g) h)
+unfolding spaceSays
+space-is g r p h = space-one r (Box 5 (sideOf g) (sideOf g) (lit false) (lit true)) (p .answer ∙ lawful (spaceOrder g) (box 5 (sideOf g) (sideOf g) (lit false) (lit true)) h)
 
 -- three actions
 pub action-space-is : (r : Space) → ActionSpace r → r ≡ Discrete 3

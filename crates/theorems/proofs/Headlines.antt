@@ -1,9 +1,9 @@
 -- The headline theorems by name, each under the demand that it answers; the file named has the statement. Assumes nothing.
 
--- Demand 1: what each call's definition says is its table of refusals, in document 01's order, and one answer where no row holds
-pub use Rattle.theorems.proofs.Refusals.{setting-order, initial-order, step-order, observe-order, count-order, draw-order, rank-order, actor-order, legal-order, key-order, truncation-order, reward-order, space-order}
+-- Demand 1: each call says what its table of refusals says (rules/specs/Calls), and the tables have document 01's numbers in its order
+pub use Rattle.theorems.proofs.Refusals.{setting-order, initial-order, step-order, observe-order, count-order, draw-order, rank-order, image-order, agent-order, reward-order, space-order}
 -- Demand 1: a table refuses by the number of its first row that holds, and by no other
-pub use Rattle.theorems.proofs.Tables.{table-gives, table-refuses, table-first}
+pub use Rattle.rules.proofs.Tables.{table-gives, table-refuses, table-first}
 -- Demand 1: so a call's refusal has that number
 pub use Rattle.theorems.proofs.Refusals.{validate-number, initial-number, step-number, observe-number, count-number, draw-number, rank-number, actor-number, legal-number, key-number, truncation-number, reward-number, space-number}
 -- Demand 1: a refusal leaves every lent word, both buffers of a draw

@@ -3,23 +3,24 @@
 use Prim.Native.Nat.{ℕ}
 use native.Mathlib.Omega.{arith}
 use mathlib.Core.Path.{_≡_, refl, sym, ap, _∙_}
-use mathlib.Core.Bool.{true, false}
-use mathlib.Core.List.{List}
+use mathlib.Core.Bool.{Bool, true, false}
+use mathlib.Core.List.{List, [], _∷_, _++_, map}
 use lib.IntN.{ℤ}
 use lib.Ieee.{Float}
 use lib.ListN.{length, drop}
 use lib.Seq.{drop-append-seam}
 use Rattle.lists.specs.Lists.{overFront}
+use Rattle.lists.specs.Tables.{Table, FirstRow}
 use Rattle.rules.specs.State.{snakeOf}
 use Rattle.rules.specs.Image.{imageOf, stateOf}
-use Rattle.rules.specs.Setting.{sideOf, initialState}
+use Rattle.rules.specs.Setting.{sideOf, settingOrder, initialState}
 use Rattle.rules.specs.Step.{Outcome, stepped}
 use Rattle.rules.specs.Chance.{outcomes, drawn, afterDraw, rankOf}
 use Rattle.rules.specs.View.{view, lit}
 use Rattle.rules.specs.LengthKey.{lengthKey}
 use Rattle.rules.specs.Turns.{chanceActs, legalFor, truncated}
 use Rattle.rules.specs.Reward.{rewardOf}
-use Rattle.rules.specs.Says.{Says, refuses, gives, seen, beside, lent, says, saysVerdict, saysNumber, saysKey, saysActor, saysLegal, saysMark, saysSum, box, saysSpace}
+use Rattle.rules.specs.Says.{Says, refuses, gives, byTable, seen, beside, lent, says, saysVerdict, saysNumber, saysKey, saysActor, saysLegal, saysMark, saysSum, box, saysSpace}
 use Rattle.rules.specs.Calls.{settingSays, initialSays, stepSays, observeSays, countSays, Draw, drawSays, rankSays, actorSays, legalSays, keySays, truncationSays, rewardSays, spaceSays}
 use Rattle.rules.specs.Promises.{Validates, Starts, Steps, Observes, Counts, Draws, Ranks, ActsNext, Allows, Keys, Truncates, Rewards, ObservationSpace}
 use Rattle.rules.specs.declared.Setting.{Setting}
@@ -45,61 +46,49 @@ use Rattle.rules.specs.declared.Reward.{Reward}
 use Rattle.rules.specs.declared.Reward.the-variants.{Refused as RefusedSum}
 use Rattle.rules.specs.declared.Space.{Space}
 use Rattle.rules.specs.declared.Space.the-variants.{Refused as RefusedSpace}
-use Rattle.theorems.specs.Orders.{Table, byTable, FirstRow, settingOrder, initialRows, initialOrder, stepRows, stepOrder, observeOrder, countOrder, drawOrder, rankOrder, imageOrder, agentOrder, rewardOrder, spaceOrder}
-use Rattle.theorems.proofs.Tables.{table-both, table-refuses, setting-table}
+use Rattle.rules.specs.Orders.{initialOrder, stepOrder, observeOrder, countOrder, drawOrder, rankOrder, imageOrder, agentOrder, rewardOrder, spaceOrder}
+use Rattle.rules.proofs.Tables.{table-refuses}
 
--- what each call's definition says is its table, and what comes where no row holds
-pub setting-order : (s : Setting) → settingSays s ≡ byTable (settingOrder s) (gives tt)
-unfolding settingSays
-setting-order s = setting-table s (gives tt)
+-- document 01's 'Order', and that each table has those numbers
+abbrev numbers : Table → List ℕ
+numbers t = map (λ (e : ℕ × Bool). e .0) t
 
-pub initial-order : (s : Setting) (room : ℕ) → initialSays s room ≡ byTable (initialOrder s room) (gives (initialState s))
-unfolding initialSays byTable
-initial-order s room = setting-table s _ ∙ sym (table-both (settingOrder s) (initialRows s room) (gives (initialState s)))
+abbrev settingNumbers : List ℕ
+settingNumbers = 1 ∷ 2 ∷ 3 ∷ 4 ∷ 5 ∷ 6 ∷ 7 ∷ 8 ∷ 9 ∷ 10 ∷ 11 ∷ 12 ∷ []
 
-pub step-order : (s : Setting) (w acts : List ℕ) (room : ℕ) → stepSays s w acts room ≡ byTable (stepOrder s w acts room) (gives (stepped s (stateOf w) acts))
-unfolding stepSays byTable
-step-order s w acts room = setting-table s _ ∙ sym (table-both (settingOrder s) (stepRows s w acts room) (gives (stepped s (stateOf w) acts)))
+pub setting-order : (s : Setting) → numbers (settingOrder s) ≡ settingNumbers
+setting-order s = refl
 
-pub observe-order : (w : List ℕ) (a room : ℕ) → observeSays w a room ≡ byTable (observeOrder w a room) (gives (view (stateOf w) a))
-unfolding observeSays byTable
+pub initial-order : (s : Setting) (room : ℕ) → numbers (initialOrder s room) ≡ settingNumbers ++ (29 ∷ [])
+initial-order s room = refl
+
+pub step-order : (s : Setting) (w acts : List ℕ) (room : ℕ) → numbers (stepOrder s w acts room) ≡ settingNumbers ++ (20 ∷ 21 ∷ 22 ∷ 24 ∷ 25 ∷ 29 ∷ [])
+step-order s w acts room = refl
+
+pub observe-order : (w : List ℕ) (a room : ℕ) → numbers (observeOrder w a room) ≡ 20 ∷ 26 ∷ 29 ∷ []
 observe-order w a room = refl
 
-pub count-order : (w : List ℕ) → countSays w ≡ byTable (countOrder w) (gives (outcomes (stateOf w)))
-unfolding countSays byTable
+pub count-order : (w : List ℕ) → numbers (countOrder w) ≡ 20 ∷ 23 ∷ 28 ∷ []
 count-order w = refl
 
-pub draw-order : (w : List ℕ) (i room listRoom : ℕ)
-    → drawSays w i room listRoom ≡ byTable (drawOrder w i room listRoom) (gives (record { next = afterDraw (stateOf w) i; cells = drawn (stateOf w) i }))
-unfolding drawSays byTable
+pub draw-order : (w : List ℕ) (i room listRoom : ℕ) → numbers (drawOrder w i room listRoom) ≡ 20 ∷ 23 ∷ 28 ∷ 27 ∷ 29 ∷ []
 draw-order w i room listRoom = refl
 
-pub rank-order : (w l : List ℕ) → rankSays w l ≡ byTable (rankOrder w l) (gives (rankOf (stateOf w) l))
-unfolding rankSays byTable
+pub rank-order : (w l : List ℕ) → numbers (rankOrder w l) ≡ 20 ∷ 23 ∷ 28 ∷ 30 ∷ []
 rank-order w l = refl
 
-pub actor-order : (w : List ℕ) → actorSays w ≡ byTable (imageOrder w) (gives (chanceActs (stateOf w)))
-unfolding actorSays byTable
-actor-order w = refl
+-- of the actor and the length cell
+pub image-order : (w : List ℕ) → numbers (imageOrder w) ≡ 20 ∷ []
+image-order w = refl
 
-pub legal-order : (w : List ℕ) (a : ℕ) → legalSays w a ≡ byTable (agentOrder w a) (gives (legalFor (stateOf w) a))
-unfolding legalSays byTable
-legal-order w a = refl
+-- of the legal actions and truncation
+pub agent-order : (w : List ℕ) (a : ℕ) → numbers (agentOrder w a) ≡ 20 ∷ 26 ∷ []
+agent-order w a = refl
 
-pub key-order : (w : List ℕ) → keySays w ≡ byTable (imageOrder w) (gives (lengthKey (stateOf w)))
-unfolding keySays byTable
-key-order w = refl
+pub reward-order : (w : Weights) → numbers (rewardOrder w) ≡ 31 ∷ []
+reward-order w = refl
 
-pub truncation-order : (w : List ℕ) (a : ℕ) (e : Event) → truncationSays w a e ≡ byTable (agentOrder w a) (gives (truncated e (snakeOf (stateOf w) a .alive)))
-unfolding truncationSays byTable
-truncation-order w a e = refl
-
-pub reward-order : (w : Weights) (e : Event) → rewardSays w e ≡ byTable (rewardOrder w) (gives (rewardOf w e))
-unfolding rewardSays byTable
-reward-order w e = refl
-
-pub space-order : (g : ℤ) → spaceSays g ≡ byTable (spaceOrder g) (gives (box 5 (sideOf g) (sideOf g) (lit false) (lit true)))
-unfolding spaceSays byTable
+pub space-order : (g : ℤ) → numbers (spaceOrder g) ≡ 5 ∷ []
 space-order g = refl
 
 -- ---- a refusal's number is that of the first row that holds, for each call that refuses
@@ -109,52 +98,63 @@ module _ {A B : Type 0} (f : A → B) where
   seen-refuses (refuses n) k h = let z : n ≡ k = cc in ap refuses z
   seen-refuses (gives a) k h = let z : _≡_ {A = ℕ} 0 1 = cc in absurd (omega arith)
 
-  first-row : (x : Says A) (t : Table) (a : A) (k : ℕ) → x ≡ byTable t (gives a) → seen f x ≡ refuses k → FirstRow t k
-  first-row x t a k o h = table-refuses t a k (sym o ∙ seen-refuses x k h)
+  first-row : (t : Table) (a : A) (k : ℕ) → seen f (byTable t (gives a)) ≡ refuses k → FirstRow t k
+  first-row t a k h = table-refuses t a k (seen-refuses (byTable t (gives a)) k h)
 
 module _ (k : ℕ) where
   pub validate-number : (s : Setting) (r : Verdict) → Validates s r → r ≡ RefusedVerdict k → FirstRow (settingOrder s) k
-  validate-number s r p e = table-refuses (settingOrder s) tt k (sym (setting-order s) ∙ sym (p .answer) ∙ ap saysVerdict e)
+  unfolding settingSays
+  validate-number s r p e = table-refuses (settingOrder s) tt k (sym (p .answer) ∙ ap saysVerdict e)
 
   pub initial-number : (s : Setting) (old new : List ℕ) (r : Answer) → Starts s old new r → r ≡ RefusedAnswer k → FirstRow (initialOrder s (length old)) k
-  initial-number s old new r p e = first-row _ (initialSays s (length old)) (initialOrder s (length old)) _ k (initial-order s (length old)) (sym (p .answer) ∙ ap says e)
+  unfolding initialSays
+  initial-number s old new r p e = first-row _ (initialOrder s (length old)) (initialState s) k (sym (p .answer) ∙ ap says e)
 
   pub step-number : (s : Setting) (w acts old new : List ℕ) (r : Stepped) → Steps s w acts old new r → r .answer ≡ RefusedAnswer k → FirstRow (stepOrder s w acts (length old)) k
-  step-number s w acts old new r p e =
-      first-row _ (stepSays s w acts (length old)) (stepOrder s w acts (length old)) _ k (step-order s w acts (length old)) (sym (p .answer) ∙ ap says e)
+  unfolding stepSays
+  step-number s w acts old new r p e = first-row _ (stepOrder s w acts (length old)) (stepped s (stateOf w) acts) k (sym (p .answer) ∙ ap says e)
 
   pub observe-number : (w : List ℕ) (a : ℕ) (old new : List Float) (r : Answer) → Observes w a old new r → r ≡ RefusedAnswer k → FirstRow (observeOrder w a (length old)) k
-  observe-number w a old new r p e =
-      first-row _ (observeSays w a (length old)) (observeOrder w a (length old)) _ k (observe-order w a (length old)) (sym (p .answer) ∙ ap says e)
+  unfolding observeSays
+  observe-number w a old new r p e = first-row _ (observeOrder w a (length old)) (view (stateOf w) a) k (sym (p .answer) ∙ ap says e)
 
   pub count-number : (w : List ℕ) (r : Number) → Counts w r → r ≡ RefusedNumber k → FirstRow (countOrder w) k
-  count-number w r p e = table-refuses (countOrder w) _ k (sym (count-order w) ∙ sym (p .answer) ∙ ap saysNumber e)
+  unfolding countSays
+  count-number w r p e = table-refuses (countOrder w) (outcomes (stateOf w)) k (sym (p .answer) ∙ ap saysNumber e)
 
   pub draw-number : (w : List ℕ) (i : ℕ) (old new list cells : List ℕ) (r : Drawn) → Draws w i old new list cells r → r .answer ≡ RefusedAnswer k
       → FirstRow (drawOrder w i (length old) (length list)) k
+  unfolding drawSays
   draw-number w i old new list cells r p e =
-      first-row _ (drawSays w i (length old) (length list)) (drawOrder w i (length old) (length list)) _ k (draw-order w i (length old) (length list)) (sym (p .answer) ∙ ap says e)
+      first-row _ (drawOrder w i (length old) (length list)) (record { next = afterDraw (stateOf w) i; cells = drawn (stateOf w) i }) k (sym (p .answer) ∙ ap says e)
 
   pub rank-number : (w l : List ℕ) (r : Number) → Ranks w l r → r ≡ RefusedNumber k → FirstRow (rankOrder w l) k
-  rank-number w l r p e = table-refuses (rankOrder w l) _ k (sym (rank-order w l) ∙ sym (p .answer) ∙ ap saysNumber e)
+  unfolding rankSays
+  rank-number w l r p e = table-refuses (rankOrder w l) (rankOf (stateOf w) l) k (sym (p .answer) ∙ ap saysNumber e)
 
   pub actor-number : (w : List ℕ) (r : Actor) → ActsNext w r → r ≡ RefusedActor k → FirstRow (imageOrder w) k
-  actor-number w r p e = table-refuses (imageOrder w) _ k (sym (actor-order w) ∙ sym (p .answer) ∙ ap saysActor e)
+  unfolding actorSays
+  actor-number w r p e = table-refuses (imageOrder w) (chanceActs (stateOf w)) k (sym (p .answer) ∙ ap saysActor e)
 
   pub legal-number : (w : List ℕ) (a : ℕ) (r : Legal) → Allows w a r → r ≡ RefusedLegal k → FirstRow (agentOrder w a) k
-  legal-number w a r p e = table-refuses (agentOrder w a) _ k (sym (legal-order w a) ∙ sym (p .answer) ∙ ap saysLegal e)
+  unfolding legalSays
+  legal-number w a r p e = table-refuses (agentOrder w a) (legalFor (stateOf w) a) k (sym (p .answer) ∙ ap saysLegal e)
 
   pub key-number : (w : List ℕ) (r : LengthCell) → Keys w r → r ≡ RefusedKey k → FirstRow (imageOrder w) k
-  key-number w r p e = table-refuses (imageOrder w) _ k (sym (key-order w) ∙ sym (p .answer) ∙ ap saysKey e)
+  unfolding keySays
+  key-number w r p e = table-refuses (imageOrder w) (lengthKey (stateOf w)) k (sym (p .answer) ∙ ap saysKey e)
 
   pub truncation-number : (w : List ℕ) (a : ℕ) (v : Event) (r : Truncated) → Truncates w a v r → r ≡ RefusedMark k → FirstRow (agentOrder w a) k
-  truncation-number w a v r p e = table-refuses (agentOrder w a) _ k (sym (truncation-order w a v) ∙ sym (p .answer) ∙ ap saysMark e)
+  unfolding truncationSays
+  truncation-number w a v r p e = table-refuses (agentOrder w a) (truncated v (snakeOf (stateOf w) a .alive)) k (sym (p .answer) ∙ ap saysMark e)
 
   pub reward-number : (w : Weights) (v : Event) (r : Reward) → Rewards w v r → r ≡ RefusedSum k → FirstRow (rewardOrder w) k
-  reward-number w v r p e = table-refuses (rewardOrder w) _ k (sym (reward-order w v) ∙ sym (p .answer) ∙ ap saysSum e)
+  unfolding rewardSays
+  reward-number w v r p e = table-refuses (rewardOrder w) (rewardOf w v) k (sym (p .answer) ∙ ap saysSum e)
 
   pub space-number : (g : ℤ) (r : Space) → ObservationSpace g r → r ≡ RefusedSpace k → FirstRow (spaceOrder g) k
-  space-number g r p e = table-refuses (spaceOrder g) _ k (sym (space-order g) ∙ sym (p .answer) ∙ ap saysSpace e)
+  unfolding spaceSays
+  space-number g r p e = table-refuses (spaceOrder g) (box 5 (sideOf g) (sideOf g) (lit false) (lit true)) k (sym (p .answer) ∙ ap saysSpace e)
 
 -- ---- a refusal leaves every lent word
 

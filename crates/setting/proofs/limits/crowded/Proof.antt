@@ -4,6 +4,7 @@ use native.Mathlib.Omega.{arith}
 use mathlib.Core.Path.{sym, ap, _∙_}
 use lib.Dec.{ltb}
 use Rattle.lists.specs.Products.{falling}
+use Rattle.lists.specs.Tables.{fault}
 use borrow.Author.Tests.{lt-ltb, le-ltb}
 use Rattle.rules.proofs.Facts.{square-le}
 use borrow.Author.Needs.{needs}
@@ -14,9 +15,11 @@ mul-area : tie.Need-mul-area
 mul-area c = record { fits = omega (arith, square-le (c .args .side) (c .pre)) }
 
 returns : tie.Need-returns
+unfolding fault
 returns c = simp (lt-ltb _ _ (c .if1 .taken))
 
 returns-2 : tie.Need-returns-2
+unfolding fault
 returns-2 c = simp (le-ltb _ _ (c .before .if1 .left), lt-ltb _ _ (c .if2 .taken))
 
 least-requires : tie.Need-least-requires
@@ -29,12 +32,14 @@ too-many-requires c κs =
     (square-le (a .side) (search needs), le-trans m (c .before .before .if1 .left))
 
 returns-3 : tie.Need-returns-3
+unfolding fault
 returns-3 c =
     let b = c .before .before .before in
     let t = sym (c .before .too-many .ensures ∙ ap (λ (k : ℕ). ltb 9007199254740992 (falling (b .before .before .args .side * b .before .before .args .side) k)) (c .before .before .least .ensures)) ∙ c .if3 .taken in
     simp (le-ltb _ _ (b .before .if1 .left), le-ltb _ _ (b .if2 .left), t)
 
 returns-4 : tie.Need-returns-4
+unfolding fault
 returns-4 c =
     let b = c .before .before .before in
     let t = sym (c .before .too-many .ensures ∙ ap (λ (k : ℕ). ltb 9007199254740992 (falling (b .before .before .args .side * b .before .before .args .side) k)) (c .before .before .least .ensures)) ∙ c .if3 .left in

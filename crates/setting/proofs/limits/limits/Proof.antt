@@ -7,6 +7,7 @@ use mir.Syntax.{w32}
 use mir.Val.{toZ, ofZ}
 use borrow.Author.Tests.{eq-eqb, ne-eqb}
 use borrow.Author.Needs.{needs}
+use Rattle.lists.specs.Tables.{fault}
 use Rattle.rules.specs.Setting.{sideOf}
 use Rattle.rules.specs.SettingParts.{limitsCheck}
 use Rattle.rules.proofs.Starts.{side-small}
@@ -15,18 +16,18 @@ use Rattle.setting.proofs.limits.limits.Statement.{statement}
 use Rattle.setting.proofs.limits.limits.Tie as tie
 
 returns : tie.Need-returns
-unfolding limitsCheck
+unfolding limitsCheck fault
 returns c = simp (c .if1 .taken)
 
 returns-2 : tie.Need-returns-2
-unfolding limitsCheck
+unfolding limitsCheck fault
 returns-2 c = simp (c .before .if1 .left, eq-eqb _ _ (c .if2 .taken))
 
 is-zero-requires : tie.Need-is-zero-requires
 is-zero-requires c κs = search needs
 
 returns-3 : tie.Need-returns-3
-unfolding limitsCheck
+unfolding limitsCheck fault
 returns-3 c =
     let b = c .before .before in
     simp (b .before .if1 .left, ne-eqb _ _ (b .if2 .left), sym (c .before .is-zero .ensures) ∙ c .if3 .taken)
@@ -35,14 +36,14 @@ is-set-requires : tie.Need-is-set-requires
 is-set-requires c κs = search needs
 
 returns-4 : tie.Need-returns-4
-unfolding limitsCheck
+unfolding limitsCheck fault
 returns-4 c =
     let z = c .before .before in
     let b = z .before .before in
     simp (b .before .if1 .left, ne-eqb _ _ (b .if2 .left), sym (z .before .is-zero .ensures) ∙ z .if3 .left, ← c .before .is-set .ensures, c .if4 .taken)
 
 returns-5 : tie.Need-returns-5
-unfolding limitsCheck
+unfolding limitsCheck fault
 returns-5 c =
     let f = c .before in
     let z = f .before .before in
@@ -64,7 +65,7 @@ crowded-requires c κs =
     rw (c .side-of .ensures ∙ ap sideOf e) (side-small g h)
 
 returns-6 : tie.Need-returns-6
-unfolding limitsCheck
+unfolding limitsCheck fault
 returns-6 c =
     let f = c .before .before .before in
     let z = f .before .before in

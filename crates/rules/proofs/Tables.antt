@@ -1,0 +1,104 @@
+-- What a call says by its table of refusals. Assumes nothing.
+use Prim.Native.Nat.{ℕ, zero, suc}
+use native.Mathlib.Omega.{arith}
+use mathlib.Core.Path.{_≡_, refl, sym, ap, _∙_}
+use mathlib.Core.Bool.{Bool, true, false, not, _&&_, false≢true}
+use mathlib.Core.List.{[], _∷_, _++_, append-nil}
+use lib.Dec.{ltb}
+use lib.ListN.{length, getD}
+use Rattle.lists.specs.Choice.{_if_else_}
+use Rattle.lists.specs.Lists.{all}
+use Rattle.lists.proofs.Tests.{and-left, and-right}
+use Rattle.lists.specs.Tables.{Table, fault, noneHold, FirstRow}
+use Rattle.lists.proofs.Tables.{numbered, row-out}
+use Rattle.rules.specs.State.{State}
+use Rattle.rules.specs.Image.{imageOf}
+use Rattle.rules.specs.Setting.{settingOrder, settingCheck, initialState}
+use Rattle.rules.specs.Calls.{settingSays, initialSays}
+use Rattle.rules.specs.Says.{Says, refuses, gives, first, byTable}
+use Rattle.rules.specs.declared.Setting.{Setting}
+
+module _ {A : Type 0} where
+  -- no row holds: what comes otherwise
+  pub table-gives : (t : Table) (r : Says A) → noneHold t ≡ true → byTable t r ≡ r
+  unfolding byTable all
+  table-gives [] r h = refl
+  table-gives (e ∷ es) r h = rest (e .1) (and-left _ _ h) (table-gives es r (and-right (not (e .1)) _ h))
+    where
+      rest : (b : Bool) → not b ≡ true → byTable es r ≡ r → (refuses (e .0) if b else byTable es r) ≡ r
+      rest true n q = absurd (false≢true n)
+      rest false n q = q
+
+  pub table-both : (t u : Table) (r : Says A) → byTable (t ++ u) r ≡ byTable t (byTable u r)
+  unfolding byTable
+  table-both [] u r = refl
+  table-both (e ∷ es) u r = ap (λ (x : Says A). refuses (e .0) if e .1 else x) (table-both es u r)
+
+  -- a refusal is the number of the first row that holds
+  pub table-refuses : (t : Table) (a : A) (k : ℕ) → byTable t (gives a) ≡ refuses k → FirstRow t k
+  unfolding byTable all
+  table-refuses [] a k h = let z : _≡_ {A = ℕ} 0 1 = cc in absurd (omega arith)
+  table-refuses (e ∷ es) a k h = go (e .0) (e .1) (λ q. table-refuses es a k q) h
+    where
+      go : (n : ℕ) (b : Bool) → (byTable es (gives a) ≡ refuses k → FirstRow es k) → (refuses n if b else byTable es (gives a)) ≡ refuses k → FirstRow ((n, b) ∷ es) k
+      go n true later q = let z : n ≡ k = cc in record { before = []; after = es; here = ap (λ (m : ℕ). (m, true) ∷ es) z; none = refl }
+      go n false later q =
+          let f = later q in
+          record { before = (n, false) ∷ f .before; after = f .after; here = ap (λ (l : Table). (n, false) ∷ l) (f .here); none = f .none }
+
+  -- and the first row that holds refuses by its number
+  pub table-first : (t : Table) (r : Says A) (k : ℕ) → FirstRow t k → byTable t r ≡ refuses k
+  unfolding byTable
+  table-first t r k f =
+      let u : Table = (k, true) ∷ f .after in
+      ap (λ (l : Table). byTable l r) (f .here) ∙ table-both (f .before) u r ∙ table-gives (f .before) (byTable u r) (f .none)
+
+  -- where a call gives, no row holds, and what it gives is what comes otherwise
+  pub table-given : (t : Table) (a b : A) → byTable t (gives a) ≡ gives b → (noneHold t ≡ true) × (a ≡ b)
+  unfolding byTable all
+  table-given [] a b h = (refl, cc)
+  table-given (e ∷ es) a b h = go (e .0) (e .1) (λ q. table-given es a b q) h
+    where
+      go : (n : ℕ) (c : Bool) → (byTable es (gives a) ≡ gives b → (noneHold es ≡ true) × (a ≡ b)) → (refuses n if c else byTable es (gives a)) ≡ gives b
+          → ((not c && noneHold es) ≡ true) × (a ≡ b)
+      go n true later q = let z : _≡_ {A = ℕ} 0 1 = cc in absurd (omega arith)
+      go n false later q = later q
+
+  module _ (t : Table) (a b : A) (e : byTable t (gives a) ≡ gives b) where
+    -- so the k-th row does not hold
+    pub given-out : (k : ℕ) → getD t k (0, false) .1 ≡ false
+    given-out k = row-out t k (table-given t a b e .0)
+
+    pub given-is : a ≡ b
+    given-is = table-given t a b e .1
+
+  -- of two tables in a row, the second is asked where the first finds nothing
+  pub table-then : (t u : Table) (r : Says A) → numbered t ≡ true → byTable (t ++ u) r ≡ first (fault t) (byTable u r)
+  unfolding fault byTable all
+  table-then [] u r h = refl
+  table-then (e ∷ es) u r h = go (e .0) (e .1) (and-left _ _ h) (table-then es u r (and-right (ltb 0 (e .0)) _ h))
+    where
+      go : (n : ℕ) (b : Bool) → ltb 0 n ≡ true → byTable (es ++ u) r ≡ first (fault es) (byTable u r)
+          → (refuses n if b else byTable (es ++ u) r) ≡ first (n if b else fault es) (byTable u r)
+      go zero b z q = absurd (false≢true z)
+      go (suc n) true z q = refl
+      go (suc n) false z q = q
+
+  -- a whole table
+  pub table-fault : (t : Table) (r : Says A) → numbered t ≡ true → byTable t r ≡ first (fault t) r
+  unfolding byTable
+  table-fault t r h = ap (λ (l : Table). byTable l r) (sym (append-nil t)) ∙ table-then t [] r h
+
+-- ---- the calls that begin with the setting
+
+pub setting-says : (s : Setting) → settingSays s ≡ first (settingCheck s) (gives tt)
+unfolding settingSays settingCheck all
+setting-says s = table-fault (settingOrder s) (gives tt) refl
+
+-- what comes where the setting is accepted
+abbrev pub startFor : Setting → ℕ → Says State
+startFor s room = refuses 29 if ltb room (length (imageOf (initialState s))) else gives (initialState s)
+
+pub initial-says : (s : Setting) (room : ℕ) → initialSays s room ≡ first (settingCheck s) (startFor s room)
+unfolding initialSays settingCheck byTable all
+initial-says s room = table-then (settingOrder s) ((29, ltb room (length (imageOf (initialState s)))) ∷ []) (gives (initialState s)) refl

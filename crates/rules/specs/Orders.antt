@@ -1,0 +1,91 @@
+-- Document 01's 'Order' as tables: a row is a refusal's number and when it is given. The setting's table stands in Setting. Assumes nothing.
+use Prim.Native.Nat.{ℕ, _*_, _-_, _^_}
+use mathlib.Core.Bool.{Bool, not, _&&_, _||_}
+use mathlib.Core.List.{List, [], _∷_, _++_}
+use lib.Dec.{ltb, eqb}
+use lib.ListN.{length, getD}
+use lib.IntN.{ℤ, pos}
+use lib.Signed.{ltZ}
+use Rattle.lists.specs.Below.{someBelow}
+use Rattle.lists.specs.Tables.{Table}
+use Rattle.rules.specs.Places.{sameZ}
+use Rattle.rules.specs.State.{State, count, snakeOf}
+use Rattle.rules.specs.Image.{snakesIn, sideIn, dueIn, areaIn, imageOf, stateOf, wellFormed}
+use Rattle.rules.specs.Setting.{settingOrder, initialState}
+use Rattle.rules.specs.Step.{stepped}
+use Rattle.rules.specs.Chance.{outcomes, drawn, afterDraw, canRank}
+use Rattle.rules.specs.Reward.{allFinite}
+use Rattle.rules.specs.declared.Setting.{Setting}
+use Rattle.rules.specs.declared.Weights.{Weights}
+
+-- 'Initial state: setting, 29'; room is the length of the lent buffer
+abbrev pub initialOrder : Setting → ℕ → Table
+initialOrder s room = settingOrder s ++ ((29, ltb room (length (imageOf (initialState s)))) ∷ [])
+
+-- 'n or g differs from the setting'
+abbrev pub differs : Setting → List ℕ → Bool
+differs s w = not (eqb (snakesIn w) (s .snakes)) || not (sameZ (pos (sideIn w)) (s .grid))
+
+-- 'a living snake's action above 2'; 'A dead snake's action may be any number'
+abbrev pub badAction : State → List ℕ → Bool
+badAction t acts = someBelow (count t) (λ i. snakeOf t i .alive && ltb 2 (getD acts i 0))
+
+-- 21, 22, 24, 25, asked of a well-formed image
+abbrev pub askedRows : Setting → List ℕ → List ℕ → Table
+askedRows s w acts =
+    (21, differs s w)
+    ∷ (22, ltb 0 (dueIn w))
+    ∷ (24, not (eqb (length acts) (snakesIn w)))
+    ∷ (25, badAction (stateOf w) acts)
+    ∷ []
+
+-- what is asked before anything is judged
+abbrev pub askedOrder : Setting → List ℕ → List ℕ → Table
+askedOrder s w acts = settingOrder s ++ ((20, not (wellFormed w)) ∷ askedRows s w acts)
+
+-- 'Step: setting, 20, 21, 22, 24, 25, 29'
+abbrev pub stepOrder : Setting → List ℕ → List ℕ → ℕ → Table
+stepOrder s w acts room = askedOrder s w acts ++ ((29, ltb room (length (imageOf (stepped s (stateOf w) acts .next)))) ∷ [])
+
+-- 'Observation: 20, 26, 29'
+abbrev pub observeOrder : List ℕ → ℕ → ℕ → Table
+observeOrder w a room = (20, not (wellFormed w)) ∷ (26, not (ltb a (snakesIn w))) ∷ (29, ltb room (5 * areaIn w)) ∷ []
+
+-- 'Count: 20, 23, 28'
+abbrev pub countOrder : List ℕ → Table
+countOrder w = (20, not (wellFormed w)) ∷ (23, eqb (dueIn w) 0) ∷ (28, ltb (2 ^ 64 - 1) (outcomes (stateOf w))) ∷ []
+
+-- 'Draw: 20, 23, 28, 27, 29'
+abbrev pub drawOrder : List ℕ → ℕ → ℕ → ℕ → Table
+drawOrder w i room listRoom =
+    (20, not (wellFormed w))
+    ∷ (23, eqb (dueIn w) 0)
+    ∷ (28, ltb (2 ^ 64 - 1) (outcomes (stateOf w)))
+    ∷ (27, not (ltb i (outcomes (stateOf w))))
+    ∷ (29, ltb room (length (imageOf (afterDraw (stateOf w) i))) || ltb listRoom (length (drawn (stateOf w) i)))
+    ∷ []
+
+-- 'Rank: 20, 23, 28, 30'
+abbrev pub rankOrder : List ℕ → List ℕ → Table
+rankOrder w l =
+    (20, not (wellFormed w))
+    ∷ (23, eqb (dueIn w) 0)
+    ∷ (28, ltb (2 ^ 64 - 1) (outcomes (stateOf w)))
+    ∷ (30, not (canRank (stateOf w) l))
+    ∷ []
+
+-- 'Actor, .. length cell: 20'
+abbrev pub imageOrder : List ℕ → Table
+imageOrder w = (20, not (wellFormed w)) ∷ []
+
+-- 'legal actions (then 26)'; 'Truncation: 20, 26'
+abbrev pub agentOrder : List ℕ → ℕ → Table
+agentOrder w a = (20, not (wellFormed w)) ∷ (26, not (ltb a (snakesIn w))) ∷ []
+
+-- 'Reward: 31'
+abbrev pub rewardOrder : Weights → Table
+rewardOrder w = (31, not (allFinite w)) ∷ []
+
+-- 'grid above 32 (space query: or below 1)'
+abbrev pub spaceOrder : ℤ → Table
+spaceOrder g = (5, ltZ (pos 32) g || ltZ g (pos 1)) ∷ []
