@@ -23,9 +23,9 @@ use Rattle.rules.specs.Places.{cellOf}
 use Rattle.rules.specs.State.{nobody}
 use Rattle.rules.specs.Step.{Moved, causeOf, after, ateNow, killerOf, credited, leads, isTerminal, eventOf, eatenBy, outcomeOf}
 use Rattle.judge.specs.declared.Judged.{Judged}
-use Rattle.step.specs.declared.after.After.{After}
+use Rattle.consequences.specs.declared.after.After.{After}
 use Rattle.judge.specs.World.{untouched, causesOf, judgedWorld}
-use Rattle.step.specs.After.{settled, gone, part, later, snakes, cells, living, eating, causes, leadsIn, creditedTo, eventAt, Parts, Short}
+use Rattle.consequences.specs.After.{settled, gone, part, later, snakes, cells, living, eating, causes, leadsIn, creditedTo, eventAt, Parts, Short}
 use Rattle.step.specs.Next.{outcomeIn}
 use Rattle.step.specs.Applied.{Ready}
 use Rattle.image.proofs.Heads.{part-size}

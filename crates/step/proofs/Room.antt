@@ -15,9 +15,10 @@ use Rattle.rules.specs.declared.Answer.the-variants.{Done, Refused}
 use Rattle.rules.specs.Facts.{Sound}
 use Rattle.rules.specs.Image.{foodStart, foodAt}
 use Rattle.rules.specs.Step.{eatenBy}
-use Rattle.step.specs.declared.after.After.{After}
+use Rattle.consequences.specs.declared.after.After.{After}
 use Rattle.step.specs.declared.food.Eaten.{Eaten}
-use Rattle.step.specs.After.{cells, eating, EatenAre}
+use Rattle.consequences.specs.After.{cells, eating}
+use Rattle.step.specs.Eaten.{EatenAre}
 use Rattle.image.specs.Writers.{left}
 use Rattle.step.specs.Next.{answered, written}
 use Rattle.step.proofs.Left.{left-is}

@@ -16,10 +16,10 @@ use Rattle.image.proofs.Heads.{body-size}
 use Rattle.rules.specs.Headings.{numberOf}
 use Rattle.rules.specs.State.{Snake, State, nobody, snakeOf}
 use Rattle.rules.specs.Image.{front, bodyOf, recordOf, imageOf}
-use Rattle.step.specs.declared.after.After.{After}
-use Rattle.step.specs.After.{gone, snakes, sizes, Parts, Short}
+use Rattle.consequences.specs.declared.after.After.{After}
+use Rattle.consequences.specs.After.{gone, snakes, sizes, Parts, Short}
 use Rattle.step.specs.Next.{recordIn, bodyIn, nextOf}
-use Rattle.step.proofs.Laws.{size-le}
+use Rattle.consequences.proofs.Laws.{size-le}
 
 pub records-long : (n i : ℕ) (all : List After) → length (concatBelow i (recordIn n all)) ≡ 4 * i
 unfolding concatBelow

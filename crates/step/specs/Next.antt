@@ -15,8 +15,8 @@ use Rattle.rules.specs.Headings.{numberOf}
 use Rattle.rules.specs.State.{State}
 use Rattle.rules.specs.Image.{front, foodAt}
 use Rattle.rules.specs.Step.{isTerminal, eventOf, eatenBy, Outcome}
-use Rattle.step.specs.declared.after.After.{After}
-use Rattle.step.specs.After.{gone, snakes, cells, eating, causes, sizes}
+use Rattle.consequences.specs.declared.after.After.{After}
+use Rattle.consequences.specs.After.{gone, snakes, cells, eating, causes, sizes}
 
 -- ---- words
 

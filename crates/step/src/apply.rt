@@ -1,12 +1,12 @@
-// The consequences of a judged move: the next image, the end, and the events.
-use crate::after::After;
-use crate::after::count_all;
-use crate::after::settle_all;
-use crate::events::all_events;
-use crate::events::blanks;
-use crate::killers::find_killers;
-use crate::leads::is_terminal;
+// A judged move, applied: the next image, the end, and the events.
 use crate::next::write_next;
+use consequences::After;
+use consequences::all_events;
+use consequences::blanks;
+use consequences::count_all;
+use consequences::find_killers;
+use consequences::is_terminal;
+use consequences::settle_all;
 use judge::Judged;
 use rules::Answer;
 use rules::Setting;
@@ -15,7 +15,7 @@ ghost use mathlib.Core.Path.{_≡_};
 ghost use Rattle.rules.specs.Facts.{Sound};
 ghost use Rattle.rules.specs.Image.{snakesIn, sideIn, foodAt};
 ghost use Rattle.rules.specs.Step.{outcomeOf};
-ghost use Rattle.step.specs.After.{Parts, Short};
+ghost use Rattle.consequences.specs.After.{Parts, Short};
 ghost use Rattle.step.specs.Next.{outcomeIn};
 ghost use Rattle.judge.specs.World.{judgedWorld};
 ghost use Rattle.step.specs.Applied.{Ready, Applied};

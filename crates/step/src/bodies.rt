@@ -1,6 +1,6 @@
 // The records and the bodies of the next image.
-use crate::after::After;
-use crate::after::size_of;
+use consequences::After;
+use consequences::size_of;
 ghost use mathlib.Core.Path.{_≡_};
 ghost use Prim.Native.Nat.{_+_, _*_, _<_, _≤_};
 ghost use lib.ListN.{length};
@@ -8,7 +8,7 @@ ghost use Rattle.lists.specs.Below.{concatBelow};
 ghost use Rattle.lists.specs.Lists.{writeAt};
 ghost use Rattle.lists.specs.Written.{Written};
 ghost use Rattle.rules.specs.Image.{front};
-ghost use Rattle.step.specs.After.{Parts, Short};
+ghost use Rattle.consequences.specs.After.{Parts, Short};
 ghost use Rattle.step.specs.Next.{recordIn, bodyIn};
 
 // Four words of each snake, from word 5 on.

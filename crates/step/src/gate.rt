@@ -1,6 +1,6 @@
 // The public call: the refusals in their order, then the step of a checked image.
 use crate::apply::apply;
-use crate::events::blanks;
+use consequences::blanks;
 use judge::judge;
 use rules::Answer;
 use rules::Setting;

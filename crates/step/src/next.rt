@@ -1,8 +1,8 @@
 // The next image. Its length is known before a word is written.
-use crate::after::After;
 use crate::bodies::write_bodies;
 use crate::bodies::write_records;
 use crate::food::eaten_of;
+use consequences::After;
 use rules::Answer;
 ghost use mathlib.Core.Path.{_≡_};
 ghost use Prim.Native.Nat.{_+_, _*_, _<_};
@@ -12,7 +12,7 @@ ghost use Rattle.lists.specs.Below.{sumBelow};
 ghost use Rattle.lists.specs.Lists.{writeAt};
 ghost use Rattle.rules.specs.Facts.{Sound};
 ghost use Rattle.rules.specs.Image.{snakesIn, sideIn, imageOf};
-ghost use Rattle.step.specs.After.{sizes, Parts, Short};
+ghost use Rattle.consequences.specs.After.{sizes, Parts, Short};
 ghost use Rattle.image.specs.Writers.{left};
 ghost use Rattle.step.specs.Next.{nextOf, nextIn, Fits, answered, written};
 

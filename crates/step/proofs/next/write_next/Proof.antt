@@ -8,7 +8,7 @@ use mathlib.Core.Bool.{not}
 use mathlib.Core.List.{List}
 use lib.ListN.{length, take}
 use denote.Ref.{now}
-use Rattle.step.specs.After.{cells, eating, sizes}
+use Rattle.consequences.specs.After.{cells, eating, sizes}
 use Rattle.lists.specs.Below.{countBelow, sumBelow}
 use Rattle.lists.specs.Choice.{_if_else_}
 use Rattle.lists.specs.Lists.{writeAt, keep}
