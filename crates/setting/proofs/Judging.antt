@@ -23,7 +23,8 @@ use Rattle.rules.specs.declared.Setting.{Setting}
 use Rattle.rules.proofs.SettingParts.{check-parts}
 use Rattle.rules.proofs.SettingFacts.{nine-or-ten}
 use Rattle.rules.proofs.PlaceCheck.{all-cells, body-reach, cells-under, check-cells, body-long, all-long}
-use Rattle.setting.specs.Traces.{Ready, Placed, Judged}
+use Rattle.placement.specs.Traces.{Ready, Placed}
+use Rattle.setting.specs.Judged.{Judged}
 
 -- 'food above the free cells', without a difference
 pub free-less : (a t f : ℕ) → ltb (a - t) f ≡ (ltb 0 f && ltb a (f + t))

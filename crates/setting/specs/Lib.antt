@@ -1,4 +1,3 @@
-pub mod Traces
+pub mod Judged
 pub mod Crowds
 pub mod Starts
-pub mod Apart

@@ -1,6 +1,7 @@
 // Refusals 9 to 12: the bodies are placed, and only then is any cell judged.
 use crate::limits::side_of;
-use crate::trace::place_snakes;
+use placement::place_snakes;
+use placement::span;
 use rules::Setting;
 ghost use mathlib.Core.Path.{_≡_};
 ghost use lib.Dec.{ltb};
@@ -12,8 +13,8 @@ ghost use Rattle.lists.specs.Below.{concatBelow};
 ghost use Rattle.lists.specs.Boards.{Under};
 ghost use Rattle.lists.specs.Lists.{distinct};
 ghost use Rattle.rules.specs.SettingParts.{placeCheck, cellsOf, startCells, Limited};
-ghost use Rattle.setting.specs.Apart.{spanOf};
-ghost use Rattle.setting.specs.Traces.{Ready, Judged};
+ghost use Rattle.placement.specs.Traces.{Ready};
+ghost use Rattle.setting.specs.Judged.{Judged};
 
 // No cell twice, by a board of all squares.
 fn all_new(cells: &[u16]) -> bool
@@ -78,14 +79,6 @@ pub fn place_check(setting: Setting, cells: &mut [u16]) -> u8
     let n = setting.snakes as u16;
     let food = setting.food as usize;
     judge(cells, places::plain(grid), n, size as usize, food)
-}
-
-// The length below which all bodies lie apart and inside.
-fn span(g: u64, n: u64) -> u64
-    requires { ⌜ (g ≤ 32) × (n ≤ 8) ⌝ }
-    ensures { λ r. ⌜ r ≡ spanOf g n ⌝ }
-{
-    g / 3 + 2 * g / (n + 1)
 }
 
 // The same where no cell is asked for: bodies below the span need no trace.

@@ -15,8 +15,8 @@ use Rattle.rules.specs.declared.Place.{Place}
 use Rattle.rules.proofs.Places.{row-below, col-below}
 use Rattle.rules.proofs.Placement.{traced-reach}
 use Rattle.places.specs.Near.{Near}
-use Rattle.setting.specs.Traces.{turnsOf, Walked, Wrote}
-use Rattle.setting.proofs.Walks.{four, coming, coming-all, place-in, place-is, full, stuck, goes-on, cell-written, all-written}
+use Rattle.placement.specs.Traces.{turnsOf, Walked, Wrote}
+use Rattle.placement.proofs.Walks.{four, coming, coming-all, place-in, place-is, full, stuck, goes-on, cell-written, all-written}
 
 mag-abs : (x : ℤ) → mag x ≤ natAbs x
 mag-abs (pos n) = le-refl n

@@ -17,7 +17,7 @@ use Rattle.rules.specs.Placement.{even, traced, placed}
 use Rattle.rules.specs.SettingParts.{startPlace, cellsOf}
 use Rattle.rules.specs.declared.Place.{Place}
 use Rattle.rules.proofs.PlaceCheck.{body-reach}
-use Rattle.setting.specs.Traces.{turnsOf, Wrote, Placed, Ready}
+use Rattle.placement.specs.Traces.{turnsOf, Wrote, Placed, Ready}
 
 -- a body that is traced from where snake i starts is its body
 pub body-is : (g n size i : ℕ) (start : Place) → start ≡ startPlace (pos g) n i

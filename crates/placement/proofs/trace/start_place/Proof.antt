@@ -4,8 +4,8 @@ use mir.Syntax.{w32}
 use mir.Val.{toZ, ofZ}
 use Rattle.rules.specs.declared.Place.{Place}
 use borrow.Author.Needs.{needs}
-use Rattle.setting.proofs.trace.start_place.Statement.{statement}
-use Rattle.setting.proofs.trace.start_place.Tie as tie
+use Rattle.placement.proofs.trace.start_place.Statement.{statement}
+use Rattle.placement.proofs.trace.start_place.Tie as tie
 
 start-row-requires : tie.Need-start-row-requires
 start-row-requires c κs = search needs

@@ -6,9 +6,9 @@ use lib.IntN.{pos}
 use Rattle.rules.specs.Places.{inside}
 use Rattle.rules.specs.declared.Place.{Place}
 use Rattle.rules.proofs.Starts.{start-inside}
-use Rattle.setting.proofs.Laying.{Laying, laying-start, laying-room, laying-long, laying-count, laying-short, laying-on, laying-end}
-use Rattle.setting.proofs.trace.place_snakes.Statement.{statement}
-use Rattle.setting.proofs.trace.place_snakes.Tie as tie
+use Rattle.placement.proofs.Laying.{Laying, laying-start, laying-room, laying-long, laying-count, laying-short, laying-on, laying-end}
+use Rattle.placement.proofs.trace.place_snakes.Statement.{statement}
+use Rattle.placement.proofs.trace.place_snakes.Tie as tie
 
 abbrev Inv-loop : tie.InvT-loop
 Inv-loop cells₀ g n size at₀ i₀ cells at i = Laying g n size cells₀ cells at i

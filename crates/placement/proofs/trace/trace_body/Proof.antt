@@ -7,9 +7,9 @@ use native.Mathlib.Omega.{arith}
 use mathlib.Core.Path.{_≡_}
 use denote.Ref.{now}
 use borrow.Author.Needs.{needs}
-use Rattle.setting.proofs.Going.{Going, inside-near, going-start, going-room, going-full, going-stuck, going-on}
-use Rattle.setting.proofs.trace.trace_body.Statement.{statement}
-use Rattle.setting.proofs.trace.trace_body.Tie as tie
+use Rattle.placement.proofs.Going.{Going, inside-near, going-start, going-room, going-full, going-stuck, going-on}
+use Rattle.placement.proofs.trace.trace_body.Statement.{statement}
+use Rattle.placement.proofs.trace.trace_body.Tie as tie
 
 abbrev Inv-loop : tie.InvT-loop
 Inv-loop cells₀ at g even size walk₀ k₀ cells walk k = Going g even size (walk₀ .place) cells₀ at cells (walk .place) (walk .turn) k

@@ -1,8 +1,8 @@
 use native.Mathlib.Omega.{arith}
 use mathlib.Core.Path.{_≡_}
 use borrow.Author.Needs.{needs}
-use Rattle.setting.proofs.trace.direction.Statement.{statement}
-use Rattle.setting.proofs.trace.direction.Tie as tie
+use Rattle.placement.proofs.trace.direction.Statement.{statement}
+use Rattle.placement.proofs.trace.direction.Tie as tie
 
 returns : tie.Need-returns
 returns c = search needs

@@ -12,10 +12,10 @@ use Rattle.rules.specs.Placement.{unblocked}
 use Rattle.rules.specs.declared.Heading.{Heading}
 use Rattle.rules.specs.declared.Heading.the-variants.{Up}
 use Rattle.rules.specs.declared.Place.{Place}
-use Rattle.setting.specs.Traces.{turnsOf}
-use Rattle.setting.proofs.Walks.{walk-open, walk-shut, walk-end}
-use Rattle.setting.proofs.trace.walk_on.Statement.{statement}
-use Rattle.setting.proofs.trace.walk_on.Tie as tie
+use Rattle.placement.specs.Traces.{turnsOf}
+use Rattle.placement.proofs.Walks.{walk-open, walk-shut, walk-end}
+use Rattle.placement.proofs.trace.walk_on.Statement.{statement}
+use Rattle.placement.proofs.trace.walk_on.Tie as tie
 
 abbrev Inv-loop : tie.InvT-loop
 Inv-loop g even place turn₀ turn =

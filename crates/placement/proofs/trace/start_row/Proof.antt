@@ -5,8 +5,8 @@ use native.Mathlib.Numerals.{add-one}
 use native.Mathlib.Omega.{arith}
 use borrow.Author.Tests.{eq-eqb, ne-eqb}
 use borrow.Author.Needs.{needs}
-use Rattle.setting.proofs.trace.start_row.Statement.{statement}
-use Rattle.setting.proofs.trace.start_row.Tie as tie
+use Rattle.placement.proofs.trace.start_row.Statement.{statement}
+use Rattle.placement.proofs.trace.start_row.Tie as tie
 
 returns : tie.Need-returns
 returns c = simp (eq-eqb _ _ (c .if1 .taken))

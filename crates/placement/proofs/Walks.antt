@@ -16,7 +16,7 @@ use Rattle.rules.specs.declared.Heading.{Heading}
 use Rattle.rules.specs.declared.Heading.the-variants.{Up}
 use Rattle.rules.specs.declared.Place.{Place}
 use Rattle.rules.proofs.Placement.{none-left, open-first, shut-first, trail-done, trail-shut, trail-next}
-use Rattle.setting.specs.Traces.{turnsOf}
+use Rattle.placement.specs.Traces.{turnsOf}
 
 pub four : (e : Bool) → length (turnsOf e) ≡ 4
 four true = refl

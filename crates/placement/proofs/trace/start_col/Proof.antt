@@ -1,8 +1,8 @@
 use borrow.Author.Tests.{eq-eqb, ne-eqb}
 use Rattle.rules.proofs.Starts.{col-even, col-odd}
 use borrow.Author.Needs.{needs}
-use Rattle.setting.proofs.trace.start_col.Statement.{statement}
-use Rattle.setting.proofs.trace.start_col.Tie as tie
+use Rattle.placement.proofs.trace.start_col.Statement.{statement}
+use Rattle.placement.proofs.trace.start_col.Tie as tie
 
 returns : tie.Need-returns
 returns c = col-even (c .before .args .g) (c .before .args .i) (eq-eqb _ _ (c .if1 .taken))

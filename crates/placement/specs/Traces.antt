@@ -41,11 +41,6 @@ pub record Placed (g n size : ℕ) (old new : List ℕ) (r : Bool) : Type 0 wher
   pub says : r ≡ not (someShort (pos g) n size)
   pub words : r ≡ true → new ≡ writeAt old 0 (concatBelow n (cellsOf g n size))
 
--- the number that is given, and the cells of all bodies where it is 0
-pub record Judged (number : ℕ) (cells old new : List ℕ) (r : ℕ) : Type 0 where
-  pub says : r ≡ number
-  pub words : r ≡ 0 → new ≡ writeAt old 0 cells
-
 -- a body written from `at` on, and how long it is
 pub record Wrote (old new : List ℕ) (at : ℕ) (body : List ℕ) (r : ℕ) : Type 0 where
   pub count : r ≡ length body

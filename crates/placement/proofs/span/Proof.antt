@@ -2,8 +2,8 @@ use Prim.Native.Nat.{_+_, _*_}
 use native.Mathlib.Nat.{div-le-self}
 use native.Mathlib.Omega.{arith}
 use borrow.Author.Needs.{needs}
-use Rattle.setting.proofs.place.span.Statement.{statement}
-use Rattle.setting.proofs.place.span.Tie as tie
+use Rattle.placement.proofs.span.Statement.{statement}
+use Rattle.placement.proofs.span.Tie as tie
 
 mul-result : tie.Need-mul-result
 mul-result c = search needs

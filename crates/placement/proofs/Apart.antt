@@ -26,7 +26,7 @@ use Rattle.rules.specs.declared.Setting.{Setting}
 use Rattle.rules.proofs.Placement.{trail-take}
 use Rattle.rules.proofs.Starts.{side-small}
 use Rattle.rules.proofs.PlaceCheck.{check-cells, all-long}
-use Rattle.setting.specs.Apart.{spanOf}
+use Rattle.placement.specs.Apart.{spanOf}
 
 -- ---- a shorter body is the first part of a longer one
 

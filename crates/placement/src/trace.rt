@@ -12,7 +12,7 @@ ghost use Rattle.rules.specs.Placement.{rowOf, colOf, traced};
 ghost use Rattle.rules.specs.SettingParts.{startPlace};
 ghost use Rattle.rules.specs.declared.Heading.the-variants.{Up};
 ghost use Rattle.places.specs.Near.{Near};
-ghost use Rattle.setting.specs.Traces.{turnsOf, Walked, Wrote, Start, Ready, Placed};
+ghost use Rattle.placement.specs.Traces.{turnsOf, Walked, Wrote, Start, Ready, Placed};
 
 // A trace on its way: its last place, and which of its four directions it follows.
 struct Walk {
