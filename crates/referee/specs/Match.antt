@@ -19,7 +19,7 @@ use Rattle.text.specs.Lines.{readFirst, readLater}
 use Rattle.text.specs.Split.{linesOf}
 use Rattle.standing.specs.Shown.{lineShown, markShown}
 use Rattle.standing.specs.Standing.{snakesOf, endsBy, moved, endText}
-use Rattle.text.specs.Text.{lineText, refusalText, Wrote}
+use Rattle.letters.specs.Text.{lineText, refusalText, Wrote}
 use Rattle.text.specs.declared.First.{First}
 use Rattle.text.specs.declared.First.the-variants.{NoFirst, Opens}
 use Rattle.text.specs.declared.Line.{Line}

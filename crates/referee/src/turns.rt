@@ -1,5 +1,6 @@
 // A line of the input, taken: the first one begins the match, the others make its turns. Each answer is taken apart, and a refusal stops.
 use crate::Turned;
+use letters::put_refusal;
 use rules::Answer;
 use rules::Event;
 use rules::Setting;
@@ -14,7 +15,6 @@ use standing::word_at;
 use text::Entry;
 use text::First;
 use text::Line;
-use text::put_refusal;
 use text::read_first;
 use text::read_later;
 ghost use mathlib.Core.Path.{_≡_};

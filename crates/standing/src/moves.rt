@@ -2,10 +2,10 @@
 use crate::Match;
 use crate::ranks::places;
 use crate::shown::word_at;
+use letters::put_places;
 use rules::Cause;
 use rules::Event;
 use rules::Limit;
-use text::put_places;
 ghost use mathlib.Core.Path.{_≡_};
 ghost use mathlib.Core.Bool.{_||_};
 ghost use mathlib.Core.List.{[]};
@@ -16,7 +16,7 @@ ghost use Rattle.lists.specs.Below.{filled};
 ghost use Rattle.rules.specs.Events.{blank, eight};
 ghost use Rattle.rules.specs.Turns.{truncated};
 ghost use Rattle.rules.specs.declared.Event.{Event};
-ghost use Rattle.text.specs.Text.{Wrote};
+ghost use Rattle.letters.specs.Text.{Wrote};
 ghost use Rattle.standing.specs.Shown.{markShown};
 ghost use Rattle.standing.specs.Standing.{snakesOf, counted, reached, endsBy, deathsAfter, moved, endText};
 

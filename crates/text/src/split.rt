@@ -1,6 +1,6 @@
 // The input cut into lines, as it comes in parts.
-use crate::bytes::write_at;
 use crate::fields::piece_end;
+use letters::write_at;
 ghost use mathlib.Core.Path.{_≡_};
 ghost use Prim.Native.Nat.{_+_, _≤_};
 ghost use lib.ListN.{length, drop};

@@ -14,7 +14,7 @@ use Rattle.text.specs.Fields.{upTo, pastEach}
 use Rattle.text.specs.Lines.{settingIn, readFirst, drawIn, actionsIn, moveIn, entryIn, readLater}
 use Rattle.text.specs.Split.{lessLast, linesOf}
 use Rattle.standing.specs.Places.{placeOf, placesOf}
-use Rattle.text.specs.Text.{digitsUpTo, deedsText, endsText, eventsText, bodyText, snakeText, headText, lineText, refusalText, placesText}
+use Rattle.letters.specs.Text.{digitsUpTo, deedsText, endsText, eventsText, bodyText, snakeText, headText, lineText, refusalText, placesText}
 use Rattle.referee.specs.Match.{beginSays, movedTurn, turnSays, playOn, replayOf}
 use Rattle.standing.specs.Standing.{endText}
 use Rattle.theorems.specs.Sample.{bytes, text, sampleIn, sampleOut}
