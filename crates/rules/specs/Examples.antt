@@ -35,7 +35,7 @@ abbrev pub Holds : Example → Type 0
 Holds (accepted s p) = (settingCheck s ≡ 0) × (worst (s .snakes) (sideOf (s .grid)) (s .food) ≡ p)
 Holds (refused s k) = settingCheck s ≡ k
 Holds (draw t cells p i list) = (free t ≡ cells) × (outcomes t ≡ p) × (drawn t i ≡ list) × (rankOf t list ≡ i)
-Holds (turn g r c h r′ c′) = shows g h r c ≡ r′ * g + c′
+Holds (turn g r c h r′ c′) = shows g h r c ≡ (r′, c′)
 Holds (move s t acts es) = stepped s t acts .events ≡ es
 Holds (key t k) = lengthKey t ≡ some k
 

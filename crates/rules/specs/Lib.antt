@@ -21,3 +21,5 @@ pub mod Promises
 pub mod Examples
 pub mod Sample
 pub mod Births
+pub mod Fair
+pub mod Seen

@@ -32,7 +32,8 @@ pub use Rattle.view.proofs.Theorems.{hidden-unseen}
 -- Demand 2: truncation changes the survival flag alone
 pub use Rattle.agent.proofs.Theorems.{only-survival}
 -- Demand 3, of the definitions: free cells, count, one to one, rank, k! indices a set; what a draw changes, at birth too
-pub use Rattle.rules.proofs.Fairness.{Fair, fair, settled, born, born-full}
+pub use Rattle.rules.specs.Fair.{Fair}
+pub use Rattle.rules.proofs.Fairness.{fair, settled, born, born-full}
 -- Demand 3, of the calls' answers: the count is P; an index draws k different free cells; a draw is undone by its rank and a rank by its draw
 pub use Rattle.rules.proofs.FairCalls.{count-answers, list-fair, rank-answers, rank-back, list-forth, list-one}
 -- Demand 3, of the calls' answers: each set of k free cells comes of exactly k! indices, and nothing else changes
