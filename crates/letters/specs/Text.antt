@@ -58,15 +58,15 @@ eventsText e = orDash (deedsText e ++ endsText e)
 abbrev pub firstText : ℕ → ℕ → List ℕ
 firstText size cell = 45 ∷ [] if eqb size 0 else decimalText cell
 
--- 'alive:length:first cell', after a space
+-- alive, length and first cell, after a space
 unfoldable pub bodyText : Bool → ℕ → ℕ → List ℕ
 bodyText alive size cell = (32 ∷ digitOf alive ∷ []) ++ (58 ∷ decimalText size) ++ (58 ∷ firstText size cell)
 
--- 'per snake alive:length:first cell:events'
+-- 'per snake alive:length:first cell (`-` if none):events'
 unfoldable pub snakeText : Snake → Event → List ℕ
 snakeText z e = bodyText (z .alive) (length (z .body)) (getD (z .body) 0 0) ++ (58 ∷ []) ++ eventsText e
 
--- 'letter, terminal, due, food count'
+-- 'letter (`i` first), terminal, due, food count'
 unfoldable pub headText : ℕ → Bool → ℕ → ℕ → List ℕ
 headText letter over due food = (letter ∷ []) ++ (32 ∷ digitOf over ∷ []) ++ (32 ∷ decimalText due) ++ (32 ∷ decimalText food)
 

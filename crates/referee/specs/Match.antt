@@ -56,7 +56,7 @@ openedBy (Opens s) room = seen (opened s) (initialSays s room)
 unfoldable pub beginSays : List ℕ → ℕ → Says Turn
 beginSays line room = openedBy (readFirst line) room
 
--- ---- a draw: 'Draws do not count'
+-- ---- a draw: it is no move, so that the match stands as before
 
 abbrev pub drawnTurn : Match → Draw → Turn
 drawnTurn m d = record { next = d .next; game = m; text = lineText 100 false (d .next) (eight []) }

@@ -61,7 +61,7 @@ drawBy (Reads n) = record { line = DrawLine n; acts = replicate 8 0 }
 unfoldable pub drawIn : List (List ℕ) → Entry
 drawIn fs = drawBy (decimalOf (fieldAt fs 1)) if eqb (length fs) 2 else noEntry
 
--- the i-th action is the field after it
+-- action i is field i + 1
 abbrev pub isAction : List (List ℕ) → ℕ → Bool
 isAction fs i = isDecimal (fieldAt fs (i + 1))
 
