@@ -29,5 +29,4 @@ pub mod InitialFacts
 pub mod Extremes
 pub mod TakenWords
 pub mod FairCalls
-pub mod Firsts
 pub mod Tables
