@@ -14,11 +14,10 @@ pub use Rattle.theorems.proofs.Refusals.{initial-after, step-after, obs
 pub use Rattle.rules.proofs.Extremes.{over-itself, traced-first, last-length, lowest-grid, lowest-grid-many, lowest-grid-fed, no-grid, no-grid-long, lowest-grid-longest, highest-grid, longest, most-snakes, most-food, largest-lead, no-snakes, no-length, no-lead, lead-of-three, first-large-grid}
 -- Demand 2: where no row holds, each call answers what its definition says
 pub use Rattle.theorems.proofs.Definitions.{turn-is, check-is, body-is, validate-is, initial-is, step-is, observe-is, count-is, draw-is, rank-is, actor-is, legal-is, key-is, truncation-is, reward-is, space-is, action-space-is}
--- Demand 2: document 01's twelve examples, one table; two moves more
+-- Demand 2: document 01's twelve examples, one table; a second one for the rules that they do not pin
 pub use Rattle.rules.proofs.Examples.{examples-hold, more-hold}
--- Demand 2: its sample match, as states and as text
-pub use Rattle.rules.proofs.Sample.{sample-holds as sample-played}
-pub use Rattle.theorems.proofs.Cases.{sample-holds as sample-printed}
+-- Demand 2: its sample match
+pub use Rattle.theorems.proofs.Cases.{sample-holds}
 -- Demand 2: where the replay is subtle, input and output as one table
 pub use Rattle.theorems.proofs.Cases.{cases-hold}
 -- Demand 2: what a program prints that takes the lines of its input one by one is the replay of that input
