@@ -13,12 +13,14 @@ use lib.Ieee.{Float, binary32, binary64, ofInt}
 use Rattle.lists.specs.Choice.{_if_else_}
 use Rattle.lists.specs.Below.{eachBelow}
 use Rattle.rules.specs.State.{Snake, State}
+use Rattle.rules.specs.Image.{imageOf, stateOf, wellFormed}
 use Rattle.rules.specs.Setting.{sideOf, settingCheck, worst, initialState}
 use Rattle.rules.specs.Step.{Outcome, stepped}
 use Rattle.rules.specs.Chance.{free, outcomes, drawn, afterDraw, rankOf}
 use Rattle.rules.specs.View.{shows, view}
 use Rattle.rules.specs.LengthKey.{lengthKey}
 use Rattle.rules.specs.Reward.{rewardOf}
+use Rattle.rules.specs.Turns.{chanceActs, legalFor}
 use Rattle.rules.specs.Events.{dies, blank}
 use Rattle.rules.specs.declared.Setting.{Setting}
 use Rattle.rules.specs.declared.Limit.the-variants.{Unset, Is}
@@ -43,6 +45,9 @@ pub data Example : Type 0 where
   sees : State → ℕ → List String → Example
   keyless : State → Example
   pays : Weights → Event → ℤ → Example
+  image : State → List ℕ → Example
+  malformed : List ℕ → Example
+  allows : State → ℕ → Bool → List ℕ → Example
 
 -- the free cells, the count, and what an index draws, which ranks as that index
 abbrev pub Picks : State → List ℕ → ℕ → ℕ → List ℕ → Type 0
@@ -63,7 +68,7 @@ planesOf (s ∷ ss) = numbersOf s ++ planesOf ss
 
 -- an accepted setting and its product; a refused one and its number; what an index draws; a place, a heading and the place where it shows; a step's events;
 -- the length cell. Then: the state at the start; all that comes of a step; what an index draws, and the state afterwards; the planes of an agent; no length cell;
--- the reward of an event, a whole number
+-- the reward of an event, a whole number; a state's image, which is read back; words that are no image; whether chance acts, and what an agent may do
 abbrev pub Holds : Example → Type 0
 Holds (accepted s p) = (settingCheck s ≡ 0) × (worst (s .snakes) (sideOf (s .grid)) (s .food) ≡ p)
 Holds (refused s k) = settingCheck s ≡ k
@@ -77,6 +82,9 @@ Holds (draws t cells p i list u) = Picks t cells p i list × (afterDraw t i ≡ 
 Holds (sees t a pictures) = view t a ≡ planesOf pictures
 Holds (keyless t) = lengthKey t ≡ none
 Holds (pays w e x) = rewardOf w e ≡ ofInt binary64 x
+Holds (image t w) = (imageOf t ≡ w) × (stateOf w ≡ t) × (wellFormed w ≡ true)
+Holds (malformed w) = wellFormed w ≡ false
+Holds (allows t a b l) = (chanceActs t ≡ b) × (legalFor t a ≡ l)
 
 abbrev pub EachHolds : List Example → Type 0
 EachHolds [] = Unit {0}
@@ -163,6 +171,9 @@ drewBy c = event c false false false true
 abbrev pub comes : Bool → State → List Event → Outcome
 comes over t es = record { next = t; events = es; terminal = over }
 
+abbrev pub fourWays : State
+fourWays = arena 6 0 (living Up (7 ∷ []) ∷ living Right (10 ∷ []) ∷ living Down (25 ∷ []) ∷ living Left (28 ∷ []) ∷ []) []
+
 abbrev pub lengths : List ℕ → List Snake
 lengths [] = []
 lengths (k ∷ ks) = living Up (cells k) ∷ lengths ks
@@ -179,12 +190,46 @@ flagged c = record { ate = true; died = dies c; cause = c; killed = true; won = 
 
 unfoldable pub theOthers : List Example
 theOthers =
+    -- 'contents first, then bodies', 'Bodies in snake order, head first; then food'; 'Bodies may overlap each other or food'
+    image (born 3 2 (living Right (4 ∷ 3 ∷ []) ∷ dead Left (5 ∷ []) ∷ []) (0 ∷ 8 ∷ [])) (2 ∷ 3 ∷ 2 ∷ 1 ∷ 2 ∷ 13 ∷ 2 ∷ 1 ∷ 1 ∷ 15 ∷ 1 ∷ 3 ∷ 0 ∷ 4 ∷ 3 ∷ 5 ∷ 0 ∷ 8 ∷ [])
+    ∷ image (arena 3 0 (living Up (4 ∷ []) ∷ living Down (4 ∷ []) ∷ []) (4 ∷ [])) (2 ∷ 3 ∷ 0 ∷ 0 ∷ 1 ∷ 13 ∷ 1 ∷ 0 ∷ 1 ∷ 14 ∷ 1 ∷ 2 ∷ 1 ∷ 4 ∷ 4 ∷ 4 ∷ [])
+    -- 'snakes n (2..8)'
+    ∷ malformed (1 ∷ 3 ∷ 0 ∷ 0 ∷ 0 ∷ 9 ∷ 1 ∷ 0 ∷ 1 ∷ 4 ∷ [])
+    -- 'side g (1..32)'
+    ∷ malformed (2 ∷ 33 ∷ 0 ∷ 0 ∷ 0 ∷ 13 ∷ 1 ∷ 0 ∷ 1 ∷ 14 ∷ 1 ∷ 0 ∷ 1 ∷ 4 ∷ 5 ∷ [])
+    ∷ malformed (2 ∷ 0 ∷ 0 ∷ 0 ∷ 0 ∷ 13 ∷ 0 ∷ 0 ∷ 0 ∷ 13 ∷ 0 ∷ 0 ∷ 0 ∷ [])
+    -- 'food due (0..1,024)', 'birth (0/1)'
+    ∷ malformed (2 ∷ 3 ∷ 1025 ∷ 0 ∷ 0 ∷ 13 ∷ 1 ∷ 0 ∷ 1 ∷ 14 ∷ 1 ∷ 0 ∷ 1 ∷ 4 ∷ 5 ∷ [])
+    ∷ malformed (2 ∷ 3 ∷ 0 ∷ 2 ∷ 0 ∷ 13 ∷ 1 ∷ 0 ∷ 1 ∷ 14 ∷ 1 ∷ 0 ∷ 1 ∷ 4 ∷ 5 ∷ [])
+    -- 'heading (0 Up, 1 Right, 2 Down, 3 Left), alive (0/1)'
+    ∷ malformed (2 ∷ 3 ∷ 0 ∷ 0 ∷ 0 ∷ 13 ∷ 1 ∷ 4 ∷ 1 ∷ 14 ∷ 1 ∷ 0 ∷ 1 ∷ 4 ∷ 5 ∷ [])
+    ∷ malformed (2 ∷ 3 ∷ 0 ∷ 0 ∷ 0 ∷ 13 ∷ 1 ∷ 0 ∷ 1 ∷ 14 ∷ 1 ∷ 0 ∷ 2 ∷ 4 ∷ 5 ∷ [])
+    -- 'starts exactly consecutive'
+    ∷ malformed (2 ∷ 3 ∷ 0 ∷ 0 ∷ 0 ∷ 13 ∷ 1 ∷ 0 ∷ 1 ∷ 13 ∷ 1 ∷ 0 ∷ 1 ∷ 4 ∷ 5 ∷ [])
+    -- 'no word missing or left over'
+    ∷ malformed (2 ∷ 3 ∷ 0 ∷ 0 ∷ 0 ∷ 13 ∷ 1 ∷ 0 ∷ 1 ∷ 14 ∷ 1 ∷ 0 ∷ 1 ∷ 4 ∷ [])
+    ∷ malformed (2 ∷ 3 ∷ 0 ∷ 0 ∷ 0 ∷ 13 ∷ 1 ∷ 0 ∷ 1 ∷ 14 ∷ 1 ∷ 0 ∷ 1 ∷ 4 ∷ 5 ∷ 6 ∷ [])
+    -- 'cells below g²'
+    ∷ malformed (2 ∷ 3 ∷ 0 ∷ 0 ∷ 0 ∷ 13 ∷ 1 ∷ 0 ∷ 1 ∷ 14 ∷ 1 ∷ 0 ∷ 1 ∷ 4 ∷ 9 ∷ [])
+    ∷ malformed (2 ∷ 3 ∷ 0 ∷ 0 ∷ 1 ∷ 13 ∷ 1 ∷ 0 ∷ 1 ∷ 14 ∷ 1 ∷ 0 ∷ 1 ∷ 4 ∷ 5 ∷ 9 ∷ [])
+    -- 'no cell twice in one body'
+    ∷ malformed (2 ∷ 3 ∷ 0 ∷ 0 ∷ 0 ∷ 13 ∷ 2 ∷ 0 ∷ 1 ∷ 15 ∷ 1 ∷ 0 ∷ 1 ∷ 4 ∷ 4 ∷ 5 ∷ [])
+    -- 'a living snake has a cell'
+    ∷ malformed (2 ∷ 3 ∷ 0 ∷ 0 ∷ 0 ∷ 13 ∷ 0 ∷ 0 ∷ 1 ∷ 13 ∷ 1 ∷ 0 ∷ 1 ∷ 5 ∷ [])
+    -- 'then food, strictly ascending'
+    ∷ malformed (2 ∷ 3 ∷ 0 ∷ 0 ∷ 2 ∷ 13 ∷ 1 ∷ 0 ∷ 1 ∷ 14 ∷ 1 ∷ 0 ∷ 1 ∷ 4 ∷ 5 ∷ 6 ∷ 2 ∷ [])
+    ∷ malformed (2 ∷ 3 ∷ 0 ∷ 0 ∷ 2 ∷ 13 ∷ 1 ∷ 0 ∷ 1 ∷ 14 ∷ 1 ∷ 0 ∷ 1 ∷ 4 ∷ 5 ∷ 2 ∷ 2 ∷ [])
     -- 'Two snakes: row g/2', 'column g/3', 'column g - g/3'; 'At start food due = food, birth = food > 0': the sample match
-    starts (plain 2 3 1 1) (born 3 1 (living Right (4 ∷ []) ∷ living Left (5 ∷ []) ∷ []) [])
+    ∷ starts (plain 2 3 1 1) (born 3 1 (living Right (4 ∷ []) ∷ living Left (5 ∷ []) ∷ []) [])
     -- 'More: row (i+1)·g/(n+1)'
     ∷ starts (plain 3 8 1 0) (arena 8 0 (living Right (18 ∷ []) ∷ living Left (38 ∷ []) ∷ living Right (50 ∷ []) ∷ []) [])
     -- 'traced Left, Down, Right, Up', 'traced Right, Up, Left, Down'; 'A blocked trace takes its next direction and never returns to one'
     ∷ starts (plain 2 4 5 0) (arena 4 0 (living Right (9 ∷ 8 ∷ 12 ∷ 13 ∷ 14 ∷ []) ∷ living Left (11 ∷ 7 ∷ 3 ∷ 2 ∷ 1 ∷ []) ∷ []) [])
+    -- 'Actions 0 forward, 1 left, 2 right'; 'All living snakes move'
+    ∷ steps (plain 4 6 1 0) fourWays (1 ∷ 1 ∷ 1 ∷ 1 ∷ [])
+    (comes false (arena 6 0 (living Left (6 ∷ []) ∷ living Up (4 ∷ []) ∷ living Right (26 ∷ []) ∷ living Down (34 ∷ []) ∷ []) []) (blank ∷ blank ∷ blank ∷ blank ∷ []))
+    ∷ steps (plain 4 6 1 0) fourWays (2 ∷ 2 ∷ 2 ∷ 2 ∷ [])
+    (comes false (arena 6 0 (living Right (8 ∷ []) ∷ living Down (16 ∷ []) ∷ living Left (24 ∷ []) ∷ living Up (22 ∷ []) ∷ []) []) (blank ∷ blank ∷ blank ∷ blank ∷ []))
     -- 'tails stay only if the new head is on food'; 'Surviving eaters remove their food'; 'Food due = apples eaten': the sample match, `m 1 0`
     ∷ steps (plain 2 3 1 1) (arena 3 0 (living Right (5 ∷ []) ∷ living Left (4 ∷ []) ∷ []) (2 ∷ [])) (1 ∷ 0 ∷ [])
     (comes false (arena 3 1 (living Up (2 ∷ 5 ∷ []) ∷ living Left (3 ∷ []) ∷ []) []) (fed blank ∷ blank ∷ []))
@@ -194,9 +239,9 @@ theOthers =
     -- 'HeadOn (two moved heads equal, even off the grid)'
     ∷ steps (plain 2 4 1 0) (arena 4 0 (living Up (0 ∷ []) ∷ living Up (0 ∷ []) ∷ []) []) (0 ∷ 0 ∷ [])
     (comes true (arena 4 0 (dead Up [] ∷ dead Up [] ∷ []) []) (drewBy HeadOn ∷ drewBy HeadOn ∷ []))
-    -- 'else Wall': off the grid is no cell of the next row; 'One survivor and a death: it won'
-    ∷ steps (plain 2 4 1 0) (arena 4 0 (living Right (3 ∷ []) ∷ living Down (0 ∷ []) ∷ []) []) (0 ∷ 0 ∷ [])
-    (comes true (arena 4 0 (dead Right [] ∷ living Down (4 ∷ []) ∷ []) []) (lostBy Wall ∷ won ∷ []))
+    -- 'else Wall': a place off the grid is no cell, not the next row's first, where the other is, and not cell 0; 'One survivor and a death: it won'
+    ∷ steps (plain 2 4 1 0) (arena 4 0 (living Right (3 ∷ 2 ∷ 1 ∷ 0 ∷ 5 ∷ []) ∷ living Up (8 ∷ []) ∷ []) []) (0 ∷ 0 ∷ [])
+    (comes true (arena 4 0 (dead Right (3 ∷ 2 ∷ 1 ∷ 0 ∷ []) ∷ living Up (4 ∷ []) ∷ []) []) (lostBy Wall ∷ won ∷ []))
     -- 'else SelfBody, else OppBody': the cell is its own and the other's
     ∷ steps (plain 2 5 1 0) (arena 5 0 (living Down (6 ∷ 7 ∷ 12 ∷ 11 ∷ 16 ∷ []) ∷ living Up (10 ∷ 11 ∷ 17 ∷ []) ∷ []) []) (0 ∷ 0 ∷ [])
     (comes true (arena 5 0 (dead Down (6 ∷ 7 ∷ 12 ∷ 11 ∷ []) ∷ living Up (5 ∷ 10 ∷ 11 ∷ []) ∷ []) []) (lostBy SelfBody ∷ won ∷ []))
@@ -247,4 +292,8 @@ theOthers =
     ∷ pays coarse (flagged NoCause) (pos 9)
     -- 'Died: add loss if lost, draw if drew, stop': the draw first gives 0
     ∷ pays coarse (flagged Wall) (pos 1)
+    -- 'Chance acts while food is due; else all snakes at once'; 'Actions 0, 1, 2 are legal for a living snake when none is due, otherwise none are'
+    ∷ allows (arena 3 1 (living Up (4 ∷ []) ∷ dead Up [] ∷ []) []) 0 true []
+    ∷ allows (arena 3 0 (living Up (4 ∷ []) ∷ dead Up [] ∷ []) []) 0 false (0 ∷ 1 ∷ 2 ∷ [])
+    ∷ allows (arena 3 0 (living Up (4 ∷ []) ∷ dead Up [] ∷ []) []) 1 false []
     ∷ []
