@@ -1,6 +1,6 @@
 -- Document 01's twelve examples hold of the definitions: one statement, by computation. So do the rows of the second table. Assumes nothing.
 use mathlib.Core.Path.{refl}
-use lib.Ieee.{ofBits, ofInt, round, add}
+use lib.Ieee.{ofBits, ofInt, add}
 use Rattle.lists.specs.Below.{allBelow, someBelow, countBelow, sumBelow, eachBelow, concatBelow, lowestFrom}
 use Rattle.lists.specs.Lists.{every, all, any, keep, member, distinct, ascending, insert, without, place}
 use Rattle.lists.specs.Products.{falling}
@@ -21,5 +21,5 @@ examples-hold =
     ((refl, refl), (refl, ((refl, refl), (refl, (refl, (refl, (refl, ((refl, refl, refl, refl), ((refl, refl, refl, refl), (refl, (refl, (refl, (refl, (refl, tt))))))))))))))
 
 pub more-hold : EachHolds theOthers
-unfolding allBelow someBelow countBelow sumBelow eachBelow concatBelow lowestFrom every all any keep member distinct ascending insert without place falling imageOf stateOf longEnough contentsFit rangesFit startsFit totalFits cellsFit bodiesFit foodFits wellFormed unblocked trail placed initialState causeOf outcomeOf stepped freeFrom free outcomes digits pick drawnFrom drawn withFood afterDraw rankIn rankOf plane viewOf view sorted folded lengthKey rewardOf ofBits ofInt round add numbersOf planesOf theOthers
+unfolding allBelow someBelow countBelow sumBelow eachBelow concatBelow lowestFrom every all keep member distinct ascending insert without place falling imageOf stateOf longEnough contentsFit rangesFit startsFit totalFits cellsFit bodiesFit foodFits wellFormed unblocked trail placed initialState causeOf outcomeOf stepped freeFrom free outcomes digits pick drawnFrom drawn withFood afterDraw rankIn rankOf plane viewOf view sorted folded lengthKey rewardOf ofBits ofInt add numbersOf planesOf theOthers
 more-hold = ((refl, refl, refl), ((refl, refl, refl), (refl, (refl, (refl, (refl, (refl, (refl, (refl, (refl, (refl, (refl, (refl, (refl, (refl, (refl, (refl, (refl, (refl, (refl, (refl, (refl, (refl, (refl, (refl, (refl, (refl, (refl, (refl, (refl, (refl, (refl, (refl, (refl, (refl, (((refl, refl, refl, refl), refl), (((refl, refl, refl, refl), refl), (((refl, refl, refl, refl), refl), (((refl, refl, refl, refl), refl), (refl, (refl, (refl, (refl, (refl, (refl, (refl, (refl, ((refl, refl), ((refl, refl), ((refl, refl), tt))))))))))))))))))))))))))))))))))))))))))))))))))
