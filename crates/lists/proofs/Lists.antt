@@ -57,14 +57,6 @@ module _ {A : Type 0} (p : A → Bool) (l : List A) (i : ℕ) (d : A) where
   unfolding all
   all-left h = rw (add-one, drop-cons l i d h)
 
-  pub any-end : length l ≤ i → any p (drop i l) ≡ false
-  unfolding any
-  any-end h = rw (drop-of-length-le l h)
-
-  pub any-left : i < length l → any p (drop i l) ≡ (p (getD l i d) || any p (drop (i + 1) l))
-  unfolding any
-  any-left h = rw (add-one, drop-cons l i d h)
-
 -- ---- membership
 
 module _ (x : ℕ) (l : List ℕ) (i : ℕ) where
@@ -75,9 +67,6 @@ module _ (x : ℕ) (l : List ℕ) (i : ℕ) where
   pub member-left : i < length l → member x (drop i l) ≡ (eqb x (getD l i 0) || member x (drop (i + 1) l))
   unfolding member
   member-left h = rw (add-one, drop-cons l i 0 h)
-
-  pub member-here : i < length l → x ≡ getD l i 0 → member x (drop i l) ≡ true
-  member-here h e = rw (member-left h, eq-eqb x (getD l i 0) e)
 
   pub member-next : i < length l → (x ≡ getD l i 0 → ⊥) → member x (drop i l) ≡ member x (drop (i + 1) l)
   member-next h e = rw (member-left h, ne-eqb x (getD l i 0) e)

@@ -9,7 +9,3 @@ use Rattle.lists.specs.declared.Found.the-variants.{At, Nothing}
 
 unfoldable pub foundIn : List ℕ → ℕ → Found
 foundIn l x = At (place x l) if member x l else Nothing
-
-abbrev pub isFound : Found → Bool
-isFound (At i) = true
-isFound Nothing = false

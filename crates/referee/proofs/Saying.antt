@@ -25,13 +25,6 @@ use Rattle.rules.proofs.Parts.{state-count}
 -- ---- an answer seen through f
 
 module _ {A : Type 0} where
-  pub data Gave (x : Says A) (f : A → ℕ) (n : ℕ) : Type 0 where
-    gave : (a : A) → x ≡ gives a → n ≡ f a → Gave x f n
-
-  pub gave-by : (x : Says A) (f : A → ℕ) (n : ℕ) → gives n ≡ seen f x → Gave x f n
-  gave-by (refuses k) f n e = let z : _≡_ {A = ℕ} 0 1 = cc in absurd (omega arith)
-  gave-by (gives a) f n e = let p : n ≡ f a = cc in gave a refl p
-
   pub refused-by : (x : Says A) (f : A → ℕ) (k : ℕ) → refuses k ≡ seen f x → x ≡ refuses k
   refused-by (refuses j) f k e = let p : j ≡ k = cc in ap (λ (i : ℕ). refuses i) p
   refused-by (gives a) f k e = let z : _≡_ {A = ℕ} 0 1 = cc in absurd (omega arith)

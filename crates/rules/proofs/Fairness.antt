@@ -112,11 +112,6 @@ module _ (t : State) (b : t .birth ≡ true) where
       go zero = refl
       go (suc n) = mul-one (suc n)
 
-  -- or 1 where no cell is free
-  pub birth-full : length (free t) ≡ 0 → outcomes t ≡ 1
-  unfolding outcomes falling
-  birth-full h = let e : drawSize t ≡ 0 = birth-size t b ∙ omega arith in rw e
-
   birth-cell : (i : ℕ) → i < length (free t) → drawn t i ≡ getD (free t) i 0 ∷ []
   unfolding drawn drawnFrom digits pick
   birth-cell i h =

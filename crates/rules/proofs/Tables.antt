@@ -94,6 +94,10 @@ module _ {A : Type 0} where
       go (suc n) true z q = refl
       go (suc n) false z q = q
 
+  pub first-refuses : (k : ℕ) (r : Says A) → (k ≡ 0 → ⊥) → first k r ≡ refuses k
+  first-refuses zero r h = absurd (h refl)
+  first-refuses (suc k) r h = refl
+
   -- a whole table
   pub table-fault : (t : Table) (r : Says A) → numbered t ≡ true → byTable t r ≡ first (fault t) r
   unfolding byTable

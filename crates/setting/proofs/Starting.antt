@@ -25,8 +25,7 @@ use Rattle.rules.specs.SettingParts.{cellsOf, startCells, startRecord, startCon
 use Rattle.rules.specs.declared.Answer.{Answer}
 use Rattle.rules.specs.declared.Answer.the-variants.{Done, Refused}
 use Rattle.rules.specs.declared.Setting.{Setting}
-use Rattle.rules.proofs.Firsts.{first-refuses}
-use Rattle.rules.proofs.Tables.{startFor, initial-says}
+use Rattle.rules.proofs.Tables.{startFor, initial-says, first-refuses}
 use Rattle.rules.proofs.Facts.{square-le}
 use Rattle.rules.proofs.InitialFacts.{cells-long, start-image}
 use Rattle.rules.proofs.SettingFacts.{accepts}

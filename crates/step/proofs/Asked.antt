@@ -29,8 +29,7 @@ use Rattle.rules.specs.declared.Stepped.{Stepped}
 use Rattle.rules.specs.declared.Verdict.{Verdict}
 use Rattle.rules.specs.declared.Verdict.the-variants.{Accepted, Refused}
 use Rattle.rules.proofs.Facts.{sound}
-use Rattle.rules.proofs.Firsts.{first-refuses}
-use Rattle.rules.proofs.Tables.{setting-says, table-then}
+use Rattle.rules.proofs.Tables.{setting-says, table-then, first-refuses}
 use Rattle.rules.proofs.Parts.{state-count, state-snake}
 use Rattle.judge.specs.declared.Judged.{Judged}
 use Rattle.judge.specs.World.{Judges}

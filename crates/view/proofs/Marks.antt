@@ -30,12 +30,6 @@ length-marked [] o = refl
 length-marked (c ∷ cs) o = length-marked cs (set o c bright) ∙ length-set o c bright
 
 module _ (m ch : ℕ) (o : List Float) where
-  pub length-in : (cs : List ℕ) → ch * m ≤ length o → length (markedIn m ch cs o) ≡ length o
-  unfolding markedIn
-  length-in cs h =
-      let e = length-marked cs (drop (ch * m) o) in
-      omega (arith, length-append (take (ch * m) o) (marked cs (drop (ch * m) o)), length-take-le (ch * m) o h, length-drop (ch * m) o)
-
   pub in-none : markedIn m ch [] o ≡ o
   unfolding markedIn marked
   in-none = take-append-drop (ch * m) o
