@@ -35,7 +35,8 @@ use Rattle.bindings.specs.declared.FlatWritten.{FlatWritten}
 use Rattle.bindings.specs.declared.FlatStepped.{FlatStepped}
 use Rattle.bindings.specs.declared.FlatDrawn.{FlatDrawn}
 use Rattle.bindings.specs.declared.FlatPart.{FlatPart}
-use Rattle.bindings.specs.Flat.{causeIn, causeNumber, eventIn, eventNumber, FlatBody, FlatStarts, Tells, FlatObserves, FlatDraws}
+use Rattle.events.specs.Causes.{causeIn, causeNumber}
+use Rattle.bindings.specs.Flat.{eventIn, eventNumber, FlatBody, FlatStarts, Tells, FlatObserves, FlatDraws}
 
 -- ---- the number of an event, read again, is the event: tried for all 640
 

@@ -1,6 +1,6 @@
 -- What a caller's flat numbers mean, what an answer is as flat numbers, and the promises of the exported calls that write.
 -- Assumes nothing.
-use Prim.Native.Nat.{ℕ, zero, suc, _+_, _*_, _/_, _%_}
+use Prim.Native.Nat.{ℕ, _+_, _*_, _/_, _%_}
 use mathlib.Core.Bool.{Bool, true, false}
 use mathlib.Core.List.{List}
 use mathlib.Core.Option.{Option, none, some}
@@ -17,12 +17,11 @@ use Rattle.rules.specs.View.{lit}
 use Rattle.rules.specs.Says.{Says, refuses, gives, seen, lent, Shape, box, discrete}
 use Rattle.rules.specs.Calls.{initialSays, stepSays, observeSays, Draw, drawSays, bodyAsked}
 use Rattle.image.specs.Memory.{startAsked}
+use Rattle.events.specs.Causes.{causeNumber, causeIn}
 use Rattle.rules.specs.declared.Limit.{Limit}
 use Rattle.rules.specs.declared.Limit.the-variants.{Unset, Is}
 use Rattle.rules.specs.declared.Setting.{Setting}
 use Rattle.rules.specs.declared.Weights.{Weights}
-use Rattle.rules.specs.declared.Cause.{Cause}
-use Rattle.rules.specs.declared.Cause.the-variants.{NoCause, Wall, SelfBody, OppBody, HeadOn}
 use Rattle.rules.specs.declared.Event.{Event}
 use Rattle.rules.specs.declared.Answer.{Answer}
 use Rattle.rules.specs.declared.Answer.the-variants.{Done, Refused}
@@ -68,15 +67,6 @@ weightsIn w = record {
   survival = w .survival;
 }
 
--- 1 Wall, 2 SelfBody, 3 OppBody, 4 HeadOn; any other number is no cause
-abbrev pub causeIn : ℕ → Cause
-causeIn zero = NoCause
-causeIn (suc zero) = Wall
-causeIn (suc (suc zero)) = SelfBody
-causeIn (suc (suc (suc zero))) = OppBody
-causeIn (suc (suc (suc (suc zero)))) = HeadOn
-causeIn (suc (suc (suc (suc (suc n))))) = NoCause
-
 abbrev pub isOdd : ℕ → Bool
 isOdd n = eqb (n % 2) 1
 
@@ -94,13 +84,6 @@ eventIn n = record {
 }
 
 -- ---- what an answer is as numbers: refusal 0 and what came, or the number and zeros
-
-abbrev pub causeNumber : Cause → ℕ
-causeNumber NoCause = 0
-causeNumber Wall = 1
-causeNumber SelfBody = 2
-causeNumber OppBody = 3
-causeNumber HeadOn = 4
 
 abbrev pub low : Event → ℕ
 low e = (1 if e .ate else 0) + (2 if e .died else 0) + (4 if e .killed else 0) + (8 if e .won else 0)

@@ -7,7 +7,7 @@ use crate::FlatNumber;
 use crate::FlatSpace;
 use crate::FlatSum;
 use crate::FlatWritten;
-use crate::events::event_number;
+use crate::tells::event_number;
 use rules::Actor;
 use rules::Answer;
 use rules::Legal;

@@ -2,9 +2,9 @@
 // and flat records. `clients/c/lundaspro.h` declares the same records and functions. No call has a `requires`.
 mod answers;
 mod chances;
-mod events;
 mod matches;
 mod readings;
+mod tells;
 mod views;
 
 pub use chances::lundaspro_count;

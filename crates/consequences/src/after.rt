@@ -1,13 +1,13 @@
 // The snakes after the step, and how many live, died, and how many cells they have.
+use events::is_death;
 use judge::Judged;
+use lists::more_if;
 use rules::Cause;
 use rules::Heading;
 ghost use mathlib.Core.Path.{_≡_};
-ghost use Prim.Native.Nat.{_+_, _≤_};
-ghost use Rattle.lists.specs.Choice.{bit};
+ghost use Prim.Native.Nat.{_≤_};
 ghost use lib.ListN.{getD};
 ghost use Rattle.lists.specs.Below.{filled};
-ghost use Rattle.rules.specs.Events.{dies};
 ghost use Rattle.judge.specs.World.{untouched};
 ghost use Rattle.consequences.specs.After.{settled, gone, sizeOf, Short, Counted};
 
@@ -27,18 +27,6 @@ pub struct Counts {
     pub alive: usize,
     pub deaths: usize,
     pub cells: usize,
-}
-
-pub fn is_death(c: Cause) -> bool
-    ensures { λ r. ⌜ r ≡ dies c ⌝ }
-{
-    match c {
-        Cause::NoCause => false,
-        Cause::Wall => true,
-        Cause::SelfBody => true,
-        Cause::OppBody => true,
-        Cause::HeadOn => true,
-    }
 }
 
 // 'The dying lose their head cell', and did not eat.
@@ -82,13 +70,6 @@ pub fn settle_all(judged: [Judged; 8], n: usize, g: u16) -> [After; 8]
         i += 1;
     }
     all
-}
-
-fn more_if(k: usize, b: bool) -> usize
-    requires { ⌜ k ≤ 100000 ⌝ }
-    ensures { λ r. ⌜ r ≡ k + bit b ⌝ }
-{
-    k + b as usize
 }
 
 // How many cells a snake has.

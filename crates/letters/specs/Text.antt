@@ -86,8 +86,10 @@ placeText ps i = 32 ∷ decimalText (getD ps i 0)
 unfoldable pub placesText : List ℕ → ℕ → List ℕ
 placesText ps n = (112 ∷ []) ++ concatBelow n (placeText ps) ++ (10 ∷ [])
 
--- ---- what a writer does: the bytes s, at most `most` of them, went into d at `at`, and r is the index after them
+-- ---- what a writer does
 
+-- the bytes s went into d at `at`, and r is the index after them: `Written` of lists, with what a chain of writers asks of the next: that
+-- they are at most `most`, and that the buffer is as long as before
 pub record Wrote (d e : List ℕ) (at r : ℕ) (s : List ℕ) (most : ℕ) : Type 0 where
   pub words : e ≡ writeAt d at s
   pub next : r ≡ at + length s

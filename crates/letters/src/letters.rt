@@ -4,6 +4,7 @@ use crate::bytes::put;
 use crate::bytes::put_if;
 use crate::bytes::put_item;
 use crate::bytes::put_two;
+use events::is_death;
 use rules::Cause;
 use rules::Event;
 ghost use mathlib.Core.Path.{_≡_};
@@ -11,20 +12,7 @@ ghost use mathlib.Core.List.{[], _∷_};
 ghost use Prim.Native.Nat.{_+_, _≤_};
 ghost use lib.ListN.{length};
 ghost use Rattle.lists.specs.Below.{concatBelow};
-ghost use Rattle.rules.specs.Events.{dies};
 ghost use Rattle.letters.specs.Text.{Wrote, letterOf, deedsText, endsText, eventsText, firstText, bodyText, headText, refusalText, placeText, placesText};
-
-fn has_died(c: Cause) -> bool
-    ensures { λ r. ⌜ r ≡ dies c ⌝ }
-{
-    match c {
-        Cause::NoCause => false,
-        Cause::Wall => true,
-        Cause::SelfBody => true,
-        Cause::OppBody => true,
-        Cause::HeadOn => true,
-    }
-}
 
 fn letter_of(c: Cause) -> u8
     ensures { λ r. ⌜ r ≡ letterOf c ⌝ }
@@ -44,7 +32,7 @@ fn put_deeds(out: &mut [u8], at: usize, e: Event) -> usize
 {
     let i = put_if(out, at, e.ate, b'a');
     let cause = e.cause;
-    let j = put_if(out, i, has_died(cause), letter_of(cause));
+    let j = put_if(out, i, is_death(cause), letter_of(cause));
     put_if(out, j, e.killed, b'k')
 }
 

@@ -18,9 +18,9 @@ use Rattle.lists.proofs.Distinct.{distinct-cut}
 use Rattle.lists.proofs.Shorter.{map-take}
 use Rattle.lists.proofs.Tests.{and-left, and-right, or-second, ordered, less, more}
 use Rattle.rules.specs.Places.{cellOf}
-use Rattle.rules.specs.Placement.{tracing, unblocked, trail, traced, placed}
+use Rattle.rules.specs.Placement.{startPlace, tracing, even, unblocked, trail, traced, placed}
 use Rattle.rules.specs.Setting.{sideOf, someShort}
-use Rattle.rules.specs.SettingParts.{Limited, startPlace, placeCheck, cellsOf}
+use Rattle.rules.specs.SettingParts.{Limited, placeCheck, cellsOf}
 use Rattle.rules.specs.declared.Place.{Place}
 use Rattle.rules.specs.declared.Setting.{Setting}
 use Rattle.rules.proofs.Placement.{trail-take}
@@ -35,8 +35,8 @@ unfolding placed
 placed-take g n j k i o h =
     let p = startPlace g n i in
     let e : suc (j - 1) ≡ j = omega arith in
-    ap (λ (l : List Place). p ∷ l) (trail-take g (j - 1) (k - 1) (unblocked g (tracing i) p) p (omega arith))
-    ∙ ap (λ (m : ℕ). take m (traced g (tracing i) k p)) e
+    ap (λ (l : List Place). p ∷ l) (trail-take g (j - 1) (k - 1) (unblocked g (tracing (even i)) p) p (omega arith))
+    ∙ ap (λ (m : ℕ). take m (traced g (tracing (even i)) k p)) e
 
 -- ---- bodies that lie apart
 

@@ -10,13 +10,14 @@ use lib.Signed.{mag}
 use lib.ListN.{length, drop, set, length-set, length-map}
 use lib.Seq.{paste, paste-zero}
 use Rattle.rules.specs.Places.{inside, cellOf}
-use Rattle.rules.specs.Placement.{traced}
+use Rattle.rules.specs.Placement.{tracing, traced}
 use Rattle.rules.specs.declared.Place.{Place}
 use Rattle.rules.proofs.Places.{row-below, col-below}
 use Rattle.rules.proofs.Placement.{traced-reach}
+use Rattle.rules.proofs.PlaceCheck.{four-turns}
 use Rattle.places.specs.Near.{Near}
-use Rattle.placement.specs.Traces.{turnsOf, Walked, Wrote}
-use Rattle.placement.proofs.Walks.{four, coming, coming-all, place-in, place-is, full, stuck, goes-on, cell-written, all-written}
+use Rattle.placement.specs.Traces.{Walked, Laid}
+use Rattle.placement.proofs.Walks.{coming, coming-all, place-in, place-is, full, stuck, goes-on, cell-written, all-written}
 
 mag-abs : (x : ℤ) → mag x ≤ natAbs x
 mag-abs (pos n) = le-refl n
@@ -31,7 +32,7 @@ inside-near g p s i =
     }
 
 abbrev pub bodyOf : ℕ → Bool → ℕ → Place → List Place
-bodyOf g e size start = traced (pos g) (turnsOf e) size start
+bodyOf g e size start = traced (pos g) (tracing e) size start
 
 -- `cells` where the trace has come to its k-th place, p, by the turn t
 pub record Going (g : ℕ) (e : Bool) (size : ℕ) (start : Place) (old : List ℕ) (at : ℕ) (cells : List ℕ) (p : Place) (t k : ℕ) : Type 0 where
@@ -40,7 +41,7 @@ pub record Going (g : ℕ) (e : Bool) (size : ℕ) (start : Place) (old : List �
   pub words : cells ≡ paste old at (map (cellOf g) (bodyOf g e size start)) k
   pub turns : t ≤ 4
   pub within : inside (pos g) p ≡ true
-  pub rest : coming (size - k) (pos g) (drop t (turnsOf e)) p ≡ drop k (bodyOf g e size start)
+  pub rest : coming (size - k) (pos g) (drop t (tracing e)) p ≡ drop k (bodyOf g e size start)
 
 module _ (g : ℕ) (e : Bool) (size : ℕ) (start : Place) (old : List ℕ) (at : ℕ) where
   pub going-start : 1 ≤ size → inside (pos g) start ≡ true → Going g e size start old at old start 0 0
@@ -51,7 +52,7 @@ module _ (g : ℕ) (e : Bool) (size : ℕ) (start : Place) (old : List ℕ) (at 
         words = paste-zero old at (map (cellOf g) (bodyOf g e size start));
         turns = omega arith;
         within = i;
-        rest = rw sub-zero (coming-all size (pos g) (turnsOf e) start h);
+        rest = rw sub-zero (coming-all size (pos g) (tracing e) start h);
       }
 
   module _ (small : g ≤ 32) (inn : inside (pos g) start ≡ true) (room : at + 125 ≤ length old) (cells : List ℕ) (p : Place) (t k : ℕ) (s : Going g e size start old at cells p t k) where
@@ -59,27 +60,27 @@ module _ (g : ℕ) (e : Bool) (size : ℕ) (start : Place) (old : List ℕ) (at 
     here = place-in (pos g) e (bodyOf g e size start) size k t p (s .early) (s .rest)
 
     pub going-room : at + k < length old
-    going-room = omega (arith, here, traced-reach g small (turnsOf e) size start inn, four e)
+    going-room = omega (arith, here, traced-reach g small (tracing e) size start inn, four-turns e)
 
     next-words : (x : ℕ) → x ≡ cellOf g p → set cells (at + k) x ≡ paste old at (map (cellOf g) (bodyOf g e size start)) (k + 1)
     next-words x v =
         ap (set cells (at + k)) v
         ∙ cell-written (cellOf g) old at (bodyOf g e size start) k p here (place-is (pos g) e (bodyOf g e size start) size k t p (s .early) (s .rest)) going-room cells (s .words)
 
-    ends : (x : ℕ) → x ≡ cellOf g p → length (bodyOf g e size start) ≡ k + 1 → Wrote old (set cells (at + k) x) at (map (cellOf g) (bodyOf g e size start)) (k + 1)
+    ends : (x : ℕ) → x ≡ cellOf g p → length (bodyOf g e size start) ≡ k + 1 → Laid old (set cells (at + k) x) at (map (cellOf g) (bodyOf g e size start)) (k + 1)
     ends x v n =
         record {
           count = sym n ∙ sym (length-map (bodyOf g e size start) (cellOf g));
           words = next-words x v ∙ all-written (cellOf g) old at (bodyOf g e size start) (k + 1) n;
         }
 
-    pub going-full : (x : ℕ) → x ≡ cellOf g p → k + 1 ≡ size → Wrote old (set cells (at + k) x) at (map (cellOf g) (bodyOf g e size start)) (k + 1)
+    pub going-full : (x : ℕ) → x ≡ cellOf g p → k + 1 ≡ size → Laid old (set cells (at + k) x) at (map (cellOf g) (bodyOf g e size start)) (k + 1)
     going-full x v f = ends x v (full (pos g) e (bodyOf g e size start) size k t p (s .early) (s .rest) f)
 
-    pub going-stuck : (x : ℕ) → x ≡ cellOf g p → (q : Place) (u : ℕ) → Walked (pos g) (turnsOf e) p t q u → u ≡ 4 → Wrote old (set cells (at + k) x) at (map (cellOf g) (bodyOf g e size start)) (k + 1)
+    pub going-stuck : (x : ℕ) → x ≡ cellOf g p → (q : Place) (u : ℕ) → Walked (pos g) (tracing e) p t q u → u ≡ 4 → Laid old (set cells (at + k) x) at (map (cellOf g) (bodyOf g e size start)) (k + 1)
     going-stuck x v q u w f = ends x v (stuck (pos g) e (bodyOf g e size start) size k t p (s .early) (s .rest) u (omega arith) (w .left))
 
-    pub going-on : (x : ℕ) → x ≡ cellOf g p → (q : Place) (u : ℕ) → Walked (pos g) (turnsOf e) p t q u → (u ≡ 4 → ⊥) → (k + 1 ≡ size → ⊥)
+    pub going-on : (x : ℕ) → x ≡ cellOf g p → (q : Place) (u : ℕ) → Walked (pos g) (tracing e) p t q u → (u ≡ 4 → ⊥) → (k + 1 ≡ size → ⊥)
         → Going g e size start old at (set cells (at + k) x) q u (k + 1)
     going-on x v q u w f n =
         let l : u < 4 = omega arith in

@@ -13,17 +13,17 @@ use Rattle.lists.specs.Lists.{writeAt}
 use Rattle.lists.proofs.Below.{some-none, some-next, some-found, concat-long, sum-le}
 use Rattle.lists.proofs.Writes.{turn-start, turn-start-at, turn-next, turn-next-at, length-write}
 use Rattle.rules.specs.Places.{cellOf}
-use Rattle.rules.specs.Placement.{even, traced, placed}
-use Rattle.rules.specs.SettingParts.{startPlace, cellsOf}
+use Rattle.rules.specs.Placement.{startPlace, tracing, even, traced, placed}
+use Rattle.rules.specs.SettingParts.{cellsOf}
 use Rattle.rules.specs.declared.Place.{Place}
 use Rattle.rules.proofs.PlaceCheck.{body-reach}
-use Rattle.placement.specs.Traces.{turnsOf, Wrote, Placed, Ready}
+use Rattle.placement.specs.Traces.{Laid, Placed, Ready}
 
 -- a body that is traced from where snake i starts is its body
 pub body-is : (g n size i : ℕ) (start : Place) → start ≡ startPlace (pos g) n i
-    → map (cellOf g) (traced (pos g) (turnsOf (even i)) size start) ≡ cellsOf g n size i
+    → map (cellOf g) (traced (pos g) (tracing (even i)) size start) ≡ cellsOf g n size i
 unfolding placed
-body-is g n size i start e = ap (λ (p : Place). map (cellOf g) (traced (pos g) (turnsOf (even i)) size p)) e
+body-is g n size i start e = ap (λ (p : Place). map (cellOf g) (traced (pos g) (tracing (even i)) size p)) e
 
 pub record Laying (g n size : ℕ) (old cells : List ℕ) (at i : ℕ) : Type 0 where
   pub most : i ≤ n
@@ -57,7 +57,7 @@ module _ (g n size : ℕ) (old : List ℕ) (ready : Ready g n size old) where
         omega (arith, m, e, s .place, s .long, ready .room)
 
     module _ (start : Place) (new : List ℕ) (r : ℕ) (h : i < n) (e : start ≡ startPlace (pos g) n i)
-        (w : Wrote cells new at (map (cellOf g) (traced (pos g) (turnsOf (even i)) size start)) r) where
+        (w : Laid cells new at (map (cellOf g) (traced (pos g) (tracing (even i)) size start)) r) where
       count-is : r ≡ length (placed (pos g) n size i)
       count-is = w .count ∙ ap (λ (l : List ℕ). length l) (body-is g n size i start e) ∙ length-map (placed (pos g) n size i) (cellOf g)
 

@@ -11,34 +11,30 @@ use lib.Seq.{drop-cons, paste}
 use Rattle.lists.specs.Lists.{writeAt}
 use Rattle.lists.proofs.Writes.{paste-more, paste-all}
 use Rattle.rules.specs.Places.{ahead, inside}
-use Rattle.rules.specs.Placement.{unblocked, trail, traced}
+use Rattle.rules.specs.Placement.{tracing, unblocked, trail, traced}
 use Rattle.rules.specs.declared.Heading.{Heading}
 use Rattle.rules.specs.declared.Heading.the-variants.{Up}
 use Rattle.rules.specs.declared.Place.{Place}
 use Rattle.rules.proofs.Placement.{none-left, open-first, shut-first, trail-done, trail-shut, trail-next}
-use Rattle.placement.specs.Traces.{turnsOf}
-
-pub four : (e : Bool) → length (turnsOf e) ≡ 4
-four true = refl
-four false = refl
+use Rattle.rules.proofs.PlaceCheck.{four-turns}
 
 -- ---- one direction after the other
 
 module _ (g : ℤ) (e : Bool) (p : Place) where
   module _ (t : ℕ) (h : t < 4) where
-    pub turn-first : drop t (turnsOf e) ≡ getD (turnsOf e) t Up ∷ drop (t + 1) (turnsOf e)
-    turn-first = rw (add-one, drop-cons (turnsOf e) t Up (rw (four e) h))
+    pub turn-first : drop t (tracing e) ≡ getD (tracing e) t Up ∷ drop (t + 1) (tracing e)
+    turn-first = rw (add-one, drop-cons (tracing e) t Up (rw (four-turns e) h))
 
-    pub walk-open : inside g (ahead (getD (turnsOf e) t Up) p) ≡ true → unblocked g (drop t (turnsOf e)) p ≡ drop t (turnsOf e)
-    walk-open i = ap (λ (l : List Heading). unblocked g l p) turn-first ∙ open-first g (getD (turnsOf e) t Up) (drop (t + 1) (turnsOf e)) p i ∙ sym turn-first
+    pub walk-open : inside g (ahead (getD (tracing e) t Up) p) ≡ true → unblocked g (drop t (tracing e)) p ≡ drop t (tracing e)
+    walk-open i = ap (λ (l : List Heading). unblocked g l p) turn-first ∙ open-first g (getD (tracing e) t Up) (drop (t + 1) (tracing e)) p i ∙ sym turn-first
 
-    pub walk-shut : inside g (ahead (getD (turnsOf e) t Up) p) ≡ false → unblocked g (drop t (turnsOf e)) p ≡ unblocked g (drop (t + 1) (turnsOf e)) p
-    walk-shut i = ap (λ (l : List Heading). unblocked g l p) turn-first ∙ shut-first g (getD (turnsOf e) t Up) (drop (t + 1) (turnsOf e)) p i
+    pub walk-shut : inside g (ahead (getD (tracing e) t Up) p) ≡ false → unblocked g (drop t (tracing e)) p ≡ unblocked g (drop (t + 1) (tracing e)) p
+    walk-shut i = ap (λ (l : List Heading). unblocked g l p) turn-first ∙ shut-first g (getD (tracing e) t Up) (drop (t + 1) (tracing e)) p i
 
-  none-after : (t : ℕ) → 4 ≤ t → drop t (turnsOf e) ≡ []
-  none-after t h = let q : length (turnsOf e) ≤ t = rw (four e) h in drop-of-length-le (turnsOf e) q
+  none-after : (t : ℕ) → 4 ≤ t → drop t (tracing e) ≡ []
+  none-after t h = let q : length (tracing e) ≤ t = rw (four-turns e) h in drop-of-length-le (tracing e) q
 
-  pub walk-end : (t : ℕ) → 4 ≤ t → unblocked g (drop t (turnsOf e)) p ≡ drop 4 (turnsOf e)
+  pub walk-end : (t : ℕ) → 4 ≤ t → unblocked g (drop t (tracing e)) p ≡ drop 4 (tracing e)
   walk-end t h = ap (λ (l : List Heading). unblocked g l p) (none-after t h) ∙ none-left g p ∙ sym (none-after 4 (omega arith))
 
 -- ---- what is still to come
@@ -64,42 +60,42 @@ started : {A : Type 0} (k : ℕ) (w : List A) (x : A) (r : List A) → drop k w 
 started k w x r e = omega (arith, length-drop k w, ap length e)
 
 -- a trace of `whole` that has come to its k-th place, p, by the turn t
-module _ (g : ℤ) (e : Bool) (whole : List Place) (size k t : ℕ) (p : Place) (h : k < size) (i : coming (size - k) g (drop t (turnsOf e)) p ≡ drop k whole) where
-  parted : drop k whole ≡ p ∷ trail (size - (k + 1)) g (unblocked g (drop t (turnsOf e)) p) p
+module _ (g : ℤ) (e : Bool) (whole : List Place) (size k t : ℕ) (p : Place) (h : k < size) (i : coming (size - k) g (drop t (tracing e)) p ≡ drop k whole) where
+  parted : drop k whole ≡ p ∷ trail (size - (k + 1)) g (unblocked g (drop t (tracing e)) p) p
   unfolding coming
-  parted = let n : size - k ≡ suc (size - (k + 1)) = omega arith in sym i ∙ ap (λ (j : ℕ). coming j g (drop t (turnsOf e)) p) n
+  parted = let n : size - k ≡ suc (size - (k + 1)) = omega arith in sym i ∙ ap (λ (j : ℕ). coming j g (drop t (tracing e)) p) n
 
   pub place-in : k < length whole
-  place-in = started k whole p (trail (size - (k + 1)) g (unblocked g (drop t (turnsOf e)) p) p) parted
+  place-in = started k whole p (trail (size - (k + 1)) g (unblocked g (drop t (tracing e)) p) p) parted
 
-  both-parts : getD whole k p ∷ drop (k + 1) whole ≡ p ∷ trail (size - (k + 1)) g (unblocked g (drop t (turnsOf e)) p) p
+  both-parts : getD whole k p ∷ drop (k + 1) whole ≡ p ∷ trail (size - (k + 1)) g (unblocked g (drop t (tracing e)) p) p
   both-parts = ap (λ (n : ℕ). getD whole k p ∷ drop n whole) (add-one k) ∙ sym (drop-cons whole k p place-in) ∙ parted
 
   pub place-is : getD whole k p ≡ p
   place-is = let q = both-parts in cc
 
-  rest-is : drop (k + 1) whole ≡ trail (size - (k + 1)) g (unblocked g (drop t (turnsOf e)) p) p
+  rest-is : drop (k + 1) whole ≡ trail (size - (k + 1)) g (unblocked g (drop t (tracing e)) p) p
   rest-is = let q = both-parts in cc
 
   -- the last place was asked for, or no direction is left, or the trace goes on
   pub full : k + 1 ≡ size → length whole ≡ k + 1
   full f =
       let z : size - (k + 1) ≡ 0 = omega arith in
-      let n = ended (k + 1) whole (rest-is ∙ ap (λ (j : ℕ). trail j g (unblocked g (drop t (turnsOf e)) p) p) z ∙ trail-done g (unblocked g (drop t (turnsOf e)) p) p) in
+      let n = ended (k + 1) whole (rest-is ∙ ap (λ (j : ℕ). trail j g (unblocked g (drop t (tracing e)) p) p) z ∙ trail-done g (unblocked g (drop t (tracing e)) p) p) in
       omega (arith, place-in)
 
-  pub stuck : (u : ℕ) → 4 ≤ u → unblocked g (drop t (turnsOf e)) p ≡ drop u (turnsOf e) → length whole ≡ k + 1
+  pub stuck : (u : ℕ) → 4 ≤ u → unblocked g (drop t (tracing e)) p ≡ drop u (tracing e) → length whole ≡ k + 1
   stuck u f l =
       let n = ended (k + 1) whole (rest-is ∙ ap (λ (ds : List Heading). trail (size - (k + 1)) g ds p) (l ∙ none-after g e p u f) ∙ trail-shut g (size - (k + 1)) p) in
       omega (arith, place-in)
 
-  pub goes-on : (u : ℕ) (q : Place) → u < 4 → unblocked g (drop t (turnsOf e)) p ≡ drop u (turnsOf e) → q ≡ ahead (getD (turnsOf e) u Up) p
-      → coming (size - (k + 1)) g (drop u (turnsOf e)) q ≡ drop (k + 1) whole
+  pub goes-on : (u : ℕ) (q : Place) → u < 4 → unblocked g (drop t (tracing e)) p ≡ drop u (tracing e) → q ≡ ahead (getD (tracing e) u Up) p
+      → coming (size - (k + 1)) g (drop u (tracing e)) q ≡ drop (k + 1) whole
   goes-on u q f l a =
       let j = size - (k + 1) in
-      ap (λ (x : Place). coming j g (drop u (turnsOf e)) x) a
-      ∙ ap (λ (ds : List Heading). coming j g ds (ahead (getD (turnsOf e) u Up) p)) (turn-first g e p u f)
-      ∙ sym (trail-coming j g (getD (turnsOf e) u Up) (drop (u + 1) (turnsOf e)) p)
+      ap (λ (x : Place). coming j g (drop u (tracing e)) x) a
+      ∙ ap (λ (ds : List Heading). coming j g ds (ahead (getD (tracing e) u Up) p)) (turn-first g e p u f)
+      ∙ sym (trail-coming j g (getD (tracing e) u Up) (drop (u + 1) (tracing e)) p)
       ∙ ap (λ (ds : List Heading). trail j g ds p) (sym (turn-first g e p u f) ∙ sym l)
       ∙ sym rest-is
 

@@ -16,10 +16,6 @@ use Rattle.rules.specs.declared.Heading.{Heading}
 use Rattle.rules.specs.declared.Heading.the-variants.{Up, Right, Down, Left}
 use Rattle.rules.specs.declared.Place.{Place}
 
--- the directions that a body is traced in, by whether its number is even
-abbrev pub turnsOf : Bool → List Heading
-turnsOf e = Left ∷ Down ∷ Right ∷ Up ∷ [] if e else Right ∷ Up ∷ Left ∷ Down ∷ []
-
 -- from p and turn t to the place q and turn u: the directions that are left, and the step in the first of them
 pub record Walked (g : ℤ) (ds : List Heading) (p : Place) (t : ℕ) (q : Place) (u : ℕ) : Type 0 where
   pub most : u ≤ 4
@@ -41,8 +37,8 @@ pub record Placed (g n size : ℕ) (old new : List ℕ) (r : Bool) : Type 0 wher
   pub says : r ≡ not (someShort (pos g) n size)
   pub words : r ≡ true → new ≡ writeAt old 0 (concatBelow n (cellsOf g n size))
 
--- a body written from `at` on, and how long it is
-pub record Wrote (old new : List ℕ) (at : ℕ) (body : List ℕ) (r : ℕ) : Type 0 where
+-- a body written from `at` on; r is how long it is, not the index after it, which is what `Written` of lists gives
+pub record Laid (old new : List ℕ) (at : ℕ) (body : List ℕ) (r : ℕ) : Type 0 where
   pub count : r ≡ length body
   pub words : new ≡ writeAt old at body
 

@@ -8,11 +8,10 @@ ghost use Prim.Native.Nat.{_+_, _<_, _≤_};
 ghost use lib.IntN.{pos};
 ghost use lib.ListN.{length, getD};
 ghost use Rattle.rules.specs.Places.{inside, cellOf};
-ghost use Rattle.rules.specs.Placement.{rowOf, colOf, traced};
-ghost use Rattle.rules.specs.SettingParts.{startPlace};
+ghost use Rattle.rules.specs.Placement.{startPlace, tracing, rowOf, colOf, traced};
 ghost use Rattle.rules.specs.declared.Heading.the-variants.{Up};
 ghost use Rattle.places.specs.Near.{Near};
-ghost use Rattle.placement.specs.Traces.{turnsOf, Walked, Wrote, Start, Ready, Placed};
+ghost use Rattle.placement.specs.Traces.{Walked, Laid, Start, Ready, Placed};
 
 // A trace on its way: its last place, and which of its four directions it follows.
 struct Walk {
@@ -54,7 +53,7 @@ fn start_place(g: u16, n: u16, i: u16) -> Place
 
 fn direction(even: bool, turn: usize) -> Heading
     requires { ⌜ turn < 4 ⌝ }
-    ensures { λ r. ⌜ r ≡ getD (turnsOf even) turn Up ⌝ }
+    ensures { λ r. ⌜ r ≡ getD (tracing even) turn Up ⌝ }
 {
     if even {
         match turn {
@@ -77,7 +76,7 @@ fn direction(even: bool, turn: usize) -> Heading
 fn walk_on(g: u16, even: bool, from: Walk) -> Walk
     requires { ⌜ Near (from .place) ⌝ }
     requires { ⌜ from .turn ≤ 4 ⌝ }
-    ensures { λ r. ⌜ Walked (pos g) (turnsOf even) (from .place) (from .turn) (r .place) (r .turn) ⌝ }
+    ensures { λ r. ⌜ Walked (pos g) (tracing even) (from .place) (from .turn) (r .place) (r .turn) ⌝ }
 {
     let place = from.place;
     let mut turn = from.turn;
@@ -95,7 +94,7 @@ fn walk_on(g: u16, even: bool, from: Walk) -> Walk
 fn trace_body(cells: &mut [u16], at: usize, g: u16, start: Place, even: bool, size: usize) -> usize
     requires { ⌜ (at + 125 ≤ length (now cells)) × (g ≤ 32) × (1 ≤ size) ⌝ }
     requires { ⌜ inside (pos g) start ≡ true ⌝ }
-    ensures { λ r. ⌜ Wrote (now (cells .entry)) (now (cells .exit)) at (map (cellOf g) (traced (pos g) (turnsOf even) size start)) r ⌝ }
+    ensures { λ r. ⌜ Laid (now (cells .entry)) (now (cells .exit)) at (map (cellOf g) (traced (pos g) (tracing even) size start)) r ⌝ }
 {
     let mut walk = Walk {
         place: start,

@@ -1,6 +1,8 @@
 // A line of the input, taken: the first one begins the match, the others make its turns. Each answer is taken apart, and a refusal stops.
 use crate::Turned;
+use events::no_events;
 use letters::put_refusal;
+use lists::word_at;
 use rules::Answer;
 use rules::Event;
 use rules::Setting;
@@ -8,10 +10,8 @@ use standing::Match;
 use standing::after_move;
 use standing::ends_by;
 use standing::mark_all;
-use standing::no_events;
 use standing::put_line;
 use standing::snakes_of;
-use standing::word_at;
 use text::Entry;
 use text::First;
 use text::Line;

@@ -2,11 +2,11 @@
 use crate::next::write_next;
 use consequences::After;
 use consequences::all_events;
-use consequences::blanks;
 use consequences::count_all;
 use consequences::find_killers;
 use consequences::is_terminal;
 use consequences::settle_all;
+use events::no_events;
 use judge::Judged;
 use rules::Answer;
 use rules::Setting;
@@ -46,7 +46,7 @@ fn conclude(setting: Setting, image: &[u16], all: [After; 8], n: usize, out: &mu
         return Stepped {
             answer,
             terminal: false,
-            events: blanks(),
+            events: no_events(),
         };
     };
     let to = find_killers(image, all, n);

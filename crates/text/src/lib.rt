@@ -4,7 +4,6 @@ mod lines;
 mod numbers;
 mod split;
 
-pub use fields::more_if;
 pub use fields::start_of;
 pub use lines::next_number;
 pub use lines::read_first;

@@ -9,8 +9,8 @@ use Rattle.letters.proofs.letters.put_deeds.Tie as tie
 put-if-requires : tie.Need-put-if-requires
 put-if-requires c κs = search needs
 
-has-died-requires : tie.Need-has-died-requires
-has-died-requires c κs = search needs
+is-death-requires : tie.Need-is-death-requires
+is-death-requires c κs = search needs
 
 letter-of-requires : tie.Need-letter-of-requires
 letter-of-requires c κs = search needs
@@ -27,7 +27,7 @@ same-length c = search needs
 returns : tie.Need-returns
 unfolding deedsText
 returns c =
-    let p = rw (c .before .before .before .before .before .before .before .letter-of .ensures, c .before .before .before .before .before .before .before .before .has-died .ensures) at (c .before .before .before .before .before .before .put-if2 .ensures) in
+    let p = rw (c .before .before .before .before .before .before .before .letter-of .ensures, c .before .before .before .before .before .before .before .before .is-death .ensures) at (c .before .before .before .before .before .before .put-if2 .ensures) in
     both (both (c .before .before .before .before .before .before .before .before .before .before .before .before .put-if .ensures) p (omega arith)) (c .before .before .put-if3 .ensures) (omega arith)
 
 pub put-deeds-spec : {M : Type 1} → statement M
@@ -35,7 +35,7 @@ put-deeds-spec =
     tie.close
     (tie.spec
     put-if-requires
-    has-died-requires
+    is-death-requires
     letter-of-requires
     put-if-requires-2
     put-if-requires-3

@@ -8,18 +8,17 @@ use lib.IntN.{pos}
 use lib.ListN.{drop, getD}
 use borrow.Author.Needs.{needs}
 use Rattle.rules.specs.Places.{ahead, inside}
-use Rattle.rules.specs.Placement.{unblocked}
+use Rattle.rules.specs.Placement.{tracing, unblocked}
 use Rattle.rules.specs.declared.Heading.{Heading}
 use Rattle.rules.specs.declared.Heading.the-variants.{Up}
 use Rattle.rules.specs.declared.Place.{Place}
-use Rattle.placement.specs.Traces.{turnsOf}
 use Rattle.placement.proofs.Walks.{walk-open, walk-shut, walk-end}
 use Rattle.placement.proofs.trace.walk_on.Statement.{statement}
 use Rattle.placement.proofs.trace.walk_on.Tie as tie
 
 abbrev Inv-loop : tie.InvT-loop
 Inv-loop g even place turn₀ turn =
-    (turn ≤ 4) × (unblocked (pos g) (drop turn₀ (turnsOf even)) place ≡ unblocked (pos g) (drop turn (turnsOf even)) place)
+    (turn ≤ 4) × (unblocked (pos g) (drop turn₀ (tracing even)) place ≡ unblocked (pos g) (drop turn (tracing even)) place)
 
 abbrev μ-loop : tie.MeasureT-loop
 μ-loop g even place turn₀ turn = 4 - turn
@@ -42,7 +41,7 @@ returns c =
     let a = l .before .before .args in
     let t : l .loop .turn < 4 = search needs in
     let d = c .before .before .before .direction .ensures in
-    let q : c .before .before .ahead .result ≡ ahead (getD (turnsOf (a .even)) (l .loop .turn) Up) (a .from .place) =
+    let q : c .before .before .ahead .result ≡ ahead (getD (tracing (a .even)) (l .loop .turn) Up) (a .from .place) =
     c .before .before .ahead .ensures ∙ ap (λ (h : Heading). ahead h (a .from .place)) d in
     let i : inside (pos (a .g)) (c .before .before .ahead .result) ≡ true = sym (c .before .on-grid .ensures) ∙ c .if1 .taken in
     record {
@@ -63,7 +62,7 @@ loop-again c =
     let l = c .before .before .before .before .before in
     let a = l .before .before .args in
     let t : l .loop .turn < 4 = search needs in
-    let q : c .before .before .ahead .result ≡ ahead (getD (turnsOf (a .even)) (l .loop .turn) Up) (a .from .place) =
+    let q : c .before .before .ahead .result ≡ ahead (getD (tracing (a .even)) (l .loop .turn) Up) (a .from .place) =
     c .before .before .ahead .ensures ∙ ap (λ (h : Heading). ahead h (a .from .place)) (c .before .before .before .direction .ensures) in
     let i : inside (pos (a .g)) (c .before .before .ahead .result) ≡ false = sym (c .before .on-grid .ensures) ∙ c .if1 .left in
     (omega arith, l .loop .inv .1 ∙ walk-shut (pos (a .g)) (a .even) (a .from .place) (l .loop .turn) t (ap (λ (p : Place). inside (pos (a .g)) p) (sym q) ∙ i))

@@ -31,8 +31,8 @@ enum-told c = search needs
 enum-told-2 : tie.Need-enum-told-2
 enum-told-2 c = search needs
 
-blanks-requires : tie.Need-blanks-requires
-blanks-requires c κs = search needs
+no-events-requires : tie.Need-no-events-requires
+no-events-requires c κs = search needs
 
 same-length : tie.Need-same-length
 same-length c = search needs
@@ -49,7 +49,7 @@ returns c =
     let new = c .before .before .before .before .before .write-next .last .0 in
     let pw : new ≡ written (now (a .out)) (imageOf (o .next)) = y .0 ∙ (λ k. written (now (a .out)) (imageOf (nextIn w (a .all) (a .n) (sideIn w) (t k)))) in
     let pa : c .before .before .before .before .before .write-next .result ≡ answered (length (now (a .out))) (imageOf (o .next)) = y .1 ∙ (λ k. answered (length (now (a .out))) (imageOf (nextIn w (a .all) (a .n) (sideIn w) (t k)))) in
-    follows-refused o (now (a .out)) new (c .before .before .before .before .before .write-next .result) pa pw _ (c .before .enum-told2 .given .1) (c .blanks .result) (c .blanks .ensures)
+    follows-refused o (now (a .out)) new (c .before .before .before .before .before .write-next .result) pa pw _ (c .before .enum-told2 .given .1) (c .no-events .result) (c .no-events .ensures)
 
 find-killers-requires : tie.Need-find-killers-requires
 find-killers-requires c κs = search needs
@@ -86,7 +86,7 @@ conclude-spec =
     write-next-requires
     enum-told
     enum-told-2
-    blanks-requires
+    no-events-requires
     same-length
     returns
     find-killers-requires
