@@ -27,7 +27,9 @@ fn idle() -> Reader
         desk,
         fill: 0,
         at: 0,
+        text: 0,
         on: false,
+        heard: true,
     }
 }
 
@@ -40,8 +42,8 @@ fn begin(
     list: &mut [u16],
     out: &mut [u8],
 ) -> Reader
-    requires { ⌜ Ready old (now line) (now image) (now next) (now out) ⌝ }
-    ensures { λ q. ⌜ Ready q (now (line .entry)) (now (image .exit)) (now (next .exit)) (now (out .exit)) ⌝ }
+    requires { ⌜ Ready old (now line) (now image) (now next) (now list) (now out) ⌝ }
+    ensures { λ q. ⌜ Ready q (now (line .entry)) (now (image .exit)) (now (next .exit)) (now (list .exit)) (now (out .exit)) ⌝ }
 {
     reader::finish(old, line, image, next, list, out);
     io::write_all(STDOUT_FILENO, b"= ");
@@ -58,8 +60,8 @@ fn take_front(
     list: &mut [u16],
     out: &mut [u8],
 ) -> Reader
-    requires { ⌜ Ready (f .reader) (now line) (now image) (now next) (now out) ⌝ }
-    ensures { λ q. ⌜ Ready q (now (line .entry)) (now (image .exit)) (now (next .exit)) (now (out .exit)) ⌝ }
+    requires { ⌜ Ready (f .reader) (now line) (now image) (now next) (now list) (now out) ⌝ }
+    ensures { λ q. ⌜ Ready q (now (line .entry)) (now (image .exit)) (now (next .exit)) (now (list .exit)) (now (out .exit)) ⌝ }
 {
     let r = f.reader;
     if f.column == 0 && byte == b'=' {
@@ -78,8 +80,8 @@ fn take_text(
     list: &mut [u16],
     out: &mut [u8],
 ) -> Reader
-    requires { ⌜ Ready (f .reader) (now line) (now image) (now next) (now out) ⌝ }
-    ensures { λ q. ⌜ Ready q (now (line .exit)) (now (image .exit)) (now (next .exit)) (now (out .exit)) ⌝ }
+    requires { ⌜ Ready (f .reader) (now line) (now image) (now next) (now list) (now out) ⌝ }
+    ensures { λ q. ⌜ Ready q (now (line .exit)) (now (image .exit)) (now (next .exit)) (now (list .exit)) (now (out .exit)) ⌝ }
 {
     let r = f.reader;
     if f.mark == b'=' {
@@ -114,9 +116,9 @@ fn take_some(
     list: &mut [u16],
     out: &mut [u8],
 ) -> Frame
-    requires { ⌜ Ready (f .reader) (now line) (now image) (now next) (now out) ⌝ }
+    requires { ⌜ Ready (f .reader) (now line) (now image) (now next) (now list) (now out) ⌝ }
     requires { ⌜ f .at < length (now part) ⌝ }
-    ensures { λ q. ⌜ (Ready (q .reader) (now (line .exit)) (now (image .exit)) (now (next .exit)) (now (out .exit))) × (f .at < q .at) ⌝ }
+    ensures { λ q. ⌜ (Ready (q .reader) (now (line .exit)) (now (image .exit)) (now (next .exit)) (now (list .exit)) (now (out .exit))) × (f .at < q .at) ⌝ }
 {
     let at = f.at;
     let column = f.column;
@@ -167,8 +169,8 @@ fn take_part(
     list: &mut [u16],
     out: &mut [u8],
 ) -> Frame
-    requires { ⌜ Ready (first .reader) (now line) (now image) (now next) (now out) ⌝ }
-    ensures { λ q. ⌜ Ready (q .reader) (now (line .exit)) (now (image .exit)) (now (next .exit)) (now (out .exit)) ⌝ }
+    requires { ⌜ Ready (first .reader) (now line) (now image) (now next) (now list) (now out) ⌝ }
+    ensures { λ q. ⌜ Ready (q .reader) (now (line .exit)) (now (image .exit)) (now (next .exit)) (now (list .exit)) (now (out .exit)) ⌝ }
 {
     let mut f = first;
     while f.at < part.len() {
@@ -186,8 +188,8 @@ fn read_some(
     list: &mut [u16],
     out: &mut [u8],
 ) -> Frame
-    requires { ⌜ Ready (f .reader) (now line) (now image) (now next) (now out) ⌝ }
-    ensures { λ q. ⌜ Ready (q .reader) (now (line .exit)) (now (image .exit)) (now (next .exit)) (now (out .exit)) ⌝ }
+    requires { ⌜ Ready (f .reader) (now line) (now image) (now next) (now list) (now out) ⌝ }
+    ensures { λ q. ⌜ Ready (q .reader) (now (line .exit)) (now (image .exit)) (now (next .exit)) (now (list .exit)) (now (out .exit)) ⌝ }
 {
     let mut part = io::large_buffer();
     let got = libc::read(STDIN_FILENO, &mut part);
@@ -212,7 +214,7 @@ fn replay_all(
     list: &mut [u16],
     out: &mut [u8],
 )
-    requires { ⌜ Ready (first .reader) (now line) (now image) (now next) (now out) ⌝ }
+    requires { ⌜ Ready (first .reader) (now line) (now image) (now next) (now list) (now out) ⌝ }
 {
     let mut f = first;
     let mut turns = u64::MAX;

@@ -19,16 +19,17 @@ fn read_some(
     list: &mut [u16],
     out: &mut [u8],
 ) -> Reading
-    requires { ⌜ Ready r (now line) (now image) (now next) (now out) ⌝ }
-    ensures { λ q. ⌜ Ready (q .reader) (now (line .exit)) (now (image .exit)) (now (next .exit)) (now (out .exit)) ⌝ }
+    requires { ⌜ Ready r (now line) (now image) (now next) (now list) (now out) ⌝ }
+    ensures { λ q. ⌜ Ready (q .reader) (now (line .exit)) (now (image .exit)) (now (next .exit)) (now (list .exit)) (now (out .exit)) ⌝ }
 {
     let mut part = io::large_buffer();
     let got = libc::read(STDIN_FILENO, &mut part);
     let n = io::count(got, &part);
     let reader = reader::take_all(r, &part[..n], line, image, next, list, out);
+    let heard = reader.heard;
     Reading {
         reader,
-        more: 0 < n,
+        more: 0 < n && heard,
     }
 }
 
@@ -41,7 +42,7 @@ fn replay(
     list: &mut [u16],
     out: &mut [u8],
 )
-    requires { ⌜ Ready first (now line) (now image) (now next) (now out) ⌝ }
+    requires { ⌜ Ready first (now line) (now image) (now next) (now list) (now out) ⌝ }
 {
     let mut r = first;
     let mut more = true;

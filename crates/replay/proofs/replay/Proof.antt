@@ -6,7 +6,7 @@ use Rattle.replay.proofs.replay.Statement.{statement}
 use Rattle.replay.proofs.replay.Tie as tie
 
 abbrev Inv-loop : tie.InvT-loop
-Inv-loop line₀ image₀ next₀ list₀ out₀ r₀ more₀ turns₀ line image next list out r more turns = Ready r line image next out × (length line ≡ length line₀) × (length image ≡ length image₀) × (length next ≡ length next₀) × (length list ≡ length list₀) × (length out ≡ length out₀)
+Inv-loop line₀ image₀ next₀ list₀ out₀ r₀ more₀ turns₀ line image next list out r more turns = Ready r line image next list out × (length line ≡ length line₀) × (length image ≡ length image₀) × (length next ≡ length next₀) × (length list ≡ length list₀) × (length out ≡ length out₀)
 
 abbrev μ-loop : tie.MeasureT-loop
 μ-loop line₀ image₀ next₀ list₀ out₀ r₀ more₀ turns₀ line image next list out r more turns = turns
