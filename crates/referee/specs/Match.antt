@@ -56,12 +56,12 @@ openedBy (Opens s) room = seen (opened s) (initialSays s room)
 unfoldable pub beginSays : List ℕ → ℕ → Says Turn
 beginSays line room = openedBy (readFirst line) room
 
--- ---- a draw: it is no move, so that the match stands as before
+-- ---- a draw: it is no move, so that the match stands as before; its line begins with `d`, 100
 
 abbrev pub drawnTurn : Match → Draw → Turn
 drawnTurn m d = record { next = d .next; game = m; text = lineText 100 false (d .next) (eight []) }
 
--- ---- a move
+-- ---- a move: its line begins with `m`, 109
 
 -- 'marks the living y'
 abbrev pub markedAt : State → List Event → ℕ → Event

@@ -25,7 +25,7 @@ pieces b s = upTo b s ∷ pastEach b s
 abbrev pub piecesFrom : ℕ → List ℕ → ℕ → List (List ℕ)
 piecesFrom b s at = pieces b (drop at s) if leb at (length s) else []
 
--- 'Single spaces': two side by side have an empty field between them, which no number is
+-- 'Single spaces' (32): two side by side have an empty field between them, which no number is
 abbrev pub fieldsOf : List ℕ → List (List ℕ)
 fieldsOf s = pieces 32 s
 

@@ -74,6 +74,7 @@ actionsIn n fs = record { line = MoveLine; acts = filled (action fs) n 8 0 } if 
 unfoldable pub moveIn : ℕ → List (List ℕ) → Entry
 moveIn n fs = actionsIn n fs if eqb (length fs) (n + 1) else noEntry
 
+-- `d` is 100, `m` 109
 unfoldable pub entryIn : ℕ → List (List ℕ) → Entry
 entryIn n fs =
     drawIn fs if isByte 100 (fieldAt fs 0) else
