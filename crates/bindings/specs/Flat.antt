@@ -12,7 +12,7 @@ use Rattle.lists.specs.Choice.{_if_else_}
 use Rattle.lists.specs.Below.{eachBelow}
 use Rattle.rules.specs.Events.{blank, eight}
 use Rattle.rules.specs.Image.{imageOf}
-use Rattle.rules.specs.Step.{Outcome}
+use Rattle.rules.specs.Step.{Transition}
 use Rattle.rules.specs.View.{lit}
 use Rattle.rules.specs.Says.{Says, refuses, gives, seen, lent, Shape, box, discrete}
 use Rattle.rules.specs.Calls.{initialSays, stepSays, observeSays, Draw, drawSays, bodyAsked}
@@ -129,14 +129,14 @@ flatSum (refuses k) = record { refusal = k; sum = ofBits binary64 0 }
 flatSum (gives x) = record { refusal = 0; sum = x }
 
 abbrev pub noBox : ℕ → Bool → ℕ → FlatSpace
-noBox k d n = record { refusal = k; discrete = d; count = n; planes = 0; high = 0; wide = 0; low = lit false; top = lit false }
+noBox k d n = record { refusal = k; discrete = d; count = n; planes = 0; rows = 0; cols = 0; low = lit false; high = lit false }
 
 abbrev pub flatSpace : Says Shape → FlatSpace
 flatSpace (refuses k) = noBox k false 0
-flatSpace (gives (box p h w l t)) = record { refusal = 0; discrete = false; count = 0; planes = p; high = h; wide = w; low = l; top = t }
+flatSpace (gives (box p h w l t)) = record { refusal = 0; discrete = false; count = 0; planes = p; rows = h; cols = w; low = l; high = t }
 flatSpace (gives (discrete n)) = noBox 0 true n
 
-abbrev pub flatStepped : Says Outcome → FlatStepped
+abbrev pub flatStepped : Says Transition → FlatStepped
 flatStepped (refuses k) = record { refusal = k; terminal = false; words = 0 }
 flatStepped (gives o) = record { refusal = 0; terminal = o .terminal; words = length (imageOf (o .next)) }
 
@@ -169,7 +169,7 @@ unfoldable pub tellsOf : List Event → List ℕ
 tellsOf es = eachBelow 8 (λ i. eventNumber (getD es i blank))
 
 -- what x says, in the answer, the image's words and the events
-pub record Tells (x : Says Outcome) (old new told tells : List ℕ) (r : FlatStepped) : Type 0 where
+pub record Tells (x : Says Transition) (old new told tells : List ℕ) (r : FlatStepped) : Type 0 where
   pub answer : r ≡ flatStepped x
   pub words : new ≡ lent (λ o. imageOf (o .next)) old x
   pub events : tells ≡ lent (λ o. tellsOf (eight (o .events))) told x

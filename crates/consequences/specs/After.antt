@@ -20,7 +20,7 @@ use Rattle.rules.specs.Places.{cellOf}
 use Rattle.rules.specs.State.{Snake}
 use Rattle.judge.specs.declared.Judged.{Judged}
 use Rattle.consequences.specs.declared.after.After.{After}
-use Rattle.consequences.specs.declared.after.Counts.{Counts}
+use Rattle.consequences.specs.declared.after.Tally.{Tally}
 
 -- a judged move, settled
 abbrev pub settled : ℕ → Judged → After
@@ -68,13 +68,13 @@ abbrev pub sizes : List After → ℕ → ℕ
 sizes all i = sizeOf (getD all i gone)
 
 -- each rest is a part of the image, and short
-abbrev pub Parts : List ℕ → List After → Type 0
-Parts w all = (i : ℕ) → getD all i gone .start + getD all i gone .keep ≤ length w
+abbrev pub InImage : List ℕ → List After → Type 0
+InImage w all = (i : ℕ) → getD all i gone .start + getD all i gone .keep ≤ length w
 
 abbrev pub Short : List After → Type 0
 Short all = (i : ℕ) → getD all i gone .keep ≤ 1024
 
-pub record Counted (all : List After) (n : ℕ) (r : Counts) : Type 0 where
+pub record Counted (all : List After) (n : ℕ) (r : Tally) : Type 0 where
   pub alive : r .alive ≡ countBelow n (living all)
   pub deaths : r .deaths ≡ countBelow n (λ i. dies (causes all i))
   pub cells : r .cells ≡ sumBelow n (sizes all)

@@ -23,7 +23,7 @@ pub struct After {
 }
 
 // How many live, how many died, and how many cells all bodies have.
-pub struct Counts {
+pub struct Tally {
     pub alive: usize,
     pub deaths: usize,
     pub cells: usize,
@@ -80,7 +80,7 @@ pub fn size_of(a: After) -> usize
     more_if(a.keep as usize, a.lives)
 }
 
-pub fn count_all(all: [After; 8], n: usize) -> Counts
+pub fn count_all(all: [After; 8], n: usize) -> Tally
     requires { ⌜ n ≤ 8 ⌝ }
     requires { ⌜ Short all ⌝ }
     ensures { λ r. ⌜ Counted all n r ⌝ }
@@ -97,7 +97,7 @@ pub fn count_all(all: [After; 8], n: usize) -> Counts
         cells += size_of(a);
         i += 1;
     }
-    Counts {
+    Tally {
         alive,
         deaths,
         cells,

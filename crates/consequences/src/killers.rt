@@ -7,7 +7,7 @@ ghost use lib.ListN.{length, getD};
 ghost use Rattle.lists.specs.Below.{someBelow, lowestFrom, filled};
 ghost use Rattle.rules.specs.Events.{byBody};
 ghost use Rattle.rules.specs.Step.{killerOf};
-ghost use Rattle.consequences.specs.After.{causes, cells, gone, snakes, holdsAt, creditedTo, Parts};
+ghost use Rattle.consequences.specs.After.{causes, cells, gone, snakes, holdsAt, creditedTo, InImage};
 
 fn is_by_body(c: Cause) -> bool
     ensures { λ r. ⌜ r ≡ byBody c ⌝ }
@@ -36,7 +36,7 @@ fn has_cell(image: &[u16], a: After, cell: u16) -> bool
 // The lowest-numbered survivor whose body holds a cell, or n.
 fn find_killer(image: &[u16], all: [After; 8], n: usize, cell: u16) -> usize
     requires { ⌜ n ≤ 8 ⌝ }
-    requires { ⌜ Parts (now image) all ⌝ }
+    requires { ⌜ InImage (now image) all ⌝ }
     ensures { λ r. ⌜ r ≡ lowestFrom (λ j. holdsAt (now (image .entry)) (getD all j gone) cell) 0 n ⌝ }
 {
     let mut j = 0;
@@ -53,7 +53,7 @@ fn find_killer(image: &[u16], all: [After; 8], n: usize, cell: u16) -> usize
 // Whom the death of a snake is credited to, or n.
 fn killer_of(image: &[u16], all: [After; 8], n: usize, i: usize) -> usize
     requires { ⌜ (n ≤ 8) × (i < 8) ⌝ }
-    requires { ⌜ Parts (now image) all ⌝ }
+    requires { ⌜ InImage (now image) all ⌝ }
     ensures { λ r. ⌜ r ≡ killerOf n (cells all) (causes all) (snakes (now (image .entry)) all) i ⌝ }
 {
     let a = all[i];
@@ -66,7 +66,7 @@ fn killer_of(image: &[u16], all: [After; 8], n: usize, i: usize) -> usize
 
 pub fn find_killers(image: &[u16], all: [After; 8], n: usize) -> [usize; 8]
     requires { ⌜ n ≤ 8 ⌝ }
-    requires { ⌜ Parts (now image) all ⌝ }
+    requires { ⌜ InImage (now image) all ⌝ }
     ensures { λ r. ⌜ r ≡ filled (killerOf n (cells all) (causes all) (snakes (now (image .entry)) all)) n 8 0 ⌝ }
 {
     let mut to = [0usize; 8];

@@ -1,6 +1,6 @@
 // The event of each snake.
 use crate::after::After;
-use crate::after::Counts;
+use crate::after::Tally;
 use crate::killers::is_killer;
 use crate::leads::is_ahead;
 use crate::leads::is_behind;
@@ -18,7 +18,7 @@ fn event_of(
     all: [After; 8],
     to: [usize; 8],
     n: usize,
-    counts: Counts,
+    counts: Tally,
     lead: Limit,
     i: usize,
 ) -> Event
@@ -46,7 +46,7 @@ pub fn all_events(
     all: [After; 8],
     to: [usize; 8],
     n: usize,
-    counts: Counts,
+    counts: Tally,
     lead: Limit,
 ) -> [Event; 8]
     requires { ⌜ n ≤ 8 ⌝ }

@@ -17,7 +17,7 @@ use Rattle.rules.specs.Placement.{startPlace, tracing, even, traced, placed}
 use Rattle.rules.specs.SettingParts.{cellsOf}
 use Rattle.rules.specs.declared.Place.{Place}
 use Rattle.rules.proofs.PlaceCheck.{body-reach}
-use Rattle.placement.specs.Traces.{Laid, Placed, Ready}
+use Rattle.placement.specs.Traces.{Laid, Placed, Traceable}
 
 -- a body that is traced from where snake i starts is its body
 pub body-is : (g n size i : ℕ) (start : Place) → start ≡ startPlace (pos g) n i
@@ -32,7 +32,7 @@ pub record Laying (g n size : ℕ) (old cells : List ℕ) (at i : ℕ) : Type 0 
   pub words : cells ≡ writeAt old 0 (concatBelow i (cellsOf g n size))
   pub none : someBelow i (λ i. ltb (length (placed (pos g) n size i)) size) ≡ false
 
-module _ (g n size : ℕ) (old : List ℕ) (ready : Ready g n size old) where
+module _ (g n size : ℕ) (old : List ℕ) (ready : Traceable g n size old) where
   short : ℕ → Bool
   short i = ltb (length (placed (pos g) n size i)) size
 

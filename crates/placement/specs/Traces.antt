@@ -2,10 +2,9 @@
 use Prim.Native.Nat.{ℕ, _<_, _≤_}
 use mathlib.Core.Path.{_≡_}
 use mathlib.Core.Bool.{Bool, true, not}
-use mathlib.Core.List.{List, [], _∷_}
+use mathlib.Core.List.{List}
 use lib.IntN.{ℤ, pos}
 use lib.ListN.{length, getD, drop}
-use Rattle.lists.specs.Choice.{_if_else_}
 use Rattle.lists.specs.Below.{concatBelow}
 use Rattle.lists.specs.Lists.{writeAt}
 use Rattle.rules.specs.Places.{ahead, inside}
@@ -13,7 +12,7 @@ use Rattle.rules.specs.Placement.{unblocked}
 use Rattle.rules.specs.SettingParts.{cellsOf}
 use Rattle.rules.specs.Setting.{someShort}
 use Rattle.rules.specs.declared.Heading.{Heading}
-use Rattle.rules.specs.declared.Heading.the-variants.{Up, Right, Down, Left}
+use Rattle.rules.specs.declared.Heading.the-variants.{Up}
 use Rattle.rules.specs.declared.Place.{Place}
 
 -- from p and turn t to the place q and turn u: the directions that are left, and the step in the first of them
@@ -24,7 +23,7 @@ pub record Walked (g : ℤ) (ds : List Heading) (p : Place) (t : ℕ) (q : Place
   pub within : u < 4 → inside g q ≡ true
 
 -- a grid on which every start is inside, its snakes, and a buffer that holds any bodies of theirs
-pub record Ready (g n size : ℕ) (cells : List ℕ) : Type 0 where
+pub record Traceable (g n size : ℕ) (cells : List ℕ) : Type 0 where
   pub side-min : 3 ≤ g
   pub side-max : g ≤ 32
   pub snakes-min : 2 ≤ n

@@ -11,7 +11,7 @@ ghost use Rattle.rules.specs.Places.{inside, cellOf};
 ghost use Rattle.rules.specs.Placement.{startPlace, tracing, rowOf, colOf, traced};
 ghost use Rattle.rules.specs.declared.Heading.the-variants.{Up};
 ghost use Rattle.places.specs.Near.{Near};
-ghost use Rattle.placement.specs.Traces.{Walked, Laid, Start, Ready, Placed};
+ghost use Rattle.placement.specs.Traces.{Walked, Laid, Start, Traceable, Placed};
 
 // A trace on its way: its last place, and which of its four directions it follows.
 struct Walk {
@@ -118,7 +118,7 @@ fn trace_body(cells: &mut [u16], at: usize, g: u16, start: Place, even: bool, si
 
 // Every body, one after the other; false where some body cannot be traced to its length.
 pub fn place_snakes(cells: &mut [u16], g: u16, n: u16, size: usize) -> bool
-    requires { ⌜ Ready g n size (now cells) ⌝ }
+    requires { ⌜ Traceable g n size (now cells) ⌝ }
     ensures { λ r. ⌜ Placed g n size (now (cells .entry)) (now (cells .exit)) r ⌝ }
 {
     let mut at = 0;

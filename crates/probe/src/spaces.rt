@@ -15,15 +15,15 @@ fn put_space(text: &mut [u8], at: usize, space: Space) -> usize {
     match space {
         Space::Box {
             planes,
-            high,
-            wide,
+            rows,
+            cols,
             low: _,
-            top: _,
+            high: _,
         } => {
             let a = put(text, at, b'a');
             let b = put_number(text, a, planes as u64);
-            let c = put_number(text, b, high as u64);
-            let d = put_number(text, c, wide as u64);
+            let c = put_number(text, b, rows as u64);
+            let d = put_number(text, c, cols as u64);
             put(text, d, b'\n')
         }
         Space::Discrete(n) => answer_number(text, at, n as u64),

@@ -5,15 +5,14 @@ use mathlib.Core.Path.{_≡_, refl, sym, ap, _∙_}
 use mathlib.Core.Bool.{Bool, true, false, true≢false}
 use mathlib.Core.List.{List, [], _∷_, _++_, append-assoc, append-nil}
 use lib.Dec.{eqb}
-use lib.ListN.{length, take, drop}
+use lib.ListN.{take, drop}
 use Rattle.text.specs.Fields.{upTo}
 use Rattle.text.specs.Split.{Holds}
 use Rattle.referee.specs.Match.{replayOf}
 use Rattle.referee.specs.Run.{Took, Closed, deskAfter, Run, holds, goes, stops, ends, goes-last, stops-last}
 use Rattle.referee.specs.declared.Desk.{Desk}
-use Rattle.referee.specs.declared.Turned.{Turned}
 use Rattle.referee.proofs.Whole.{run-prints}
-use Rattle.reader.specs.Steps.{Fresh, Takes, Waits, Step, waits, takes, Steps, none, more, front, TakesAll, Last, stopped, nothing, last, Ends, Finishes, Replay, reads, finishes}
+use Rattle.reader.specs.Steps.{Fresh, Takes, Waits, Step, waits, takes, Steps, none, more, front, Last, stopped, nothing, last, Ends, Replay, reads, finishes}
 use Rattle.reader.specs.declared.Reader.{Reader}
 
 -- ---- the bytes before a newline, and none

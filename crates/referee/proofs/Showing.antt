@@ -11,7 +11,7 @@ use lib.Seq.{getD-drop, getD-take}
 use Rattle.lists.specs.Below.{filled}
 use Rattle.lists.proofs.Below.{each-ext, concat-ext}
 use Rattle.rules.specs.State.{State, count, snakeOf}
-use Rattle.rules.specs.Image.{word, lengthAt, aliveAt, startAt, bodyOf, imageOf}
+use Rattle.rules.specs.Image.{lengthAt, aliveAt, startAt, bodyOf, imageOf}
 use Rattle.rules.specs.Events.{blank}
 use Rattle.rules.specs.Turns.{truncated}
 use Rattle.rules.specs.declared.Event.{Event}

@@ -1,14 +1,14 @@
 -- The match as a value, what each line does to it, and the whole replay (01, 'Replay'). Assumes nothing.
 use Prim.Native.Nat.{ℕ, _+_}
 use mathlib.Core.Path.{_≡_}
-use mathlib.Core.Bool.{Bool, true, false, not}
+use mathlib.Core.Bool.{Bool, true, false}
 use mathlib.Core.List.{List, [], _∷_, _++_}
 use lib.ListN.{length, getD, take, replicate}
 use Rattle.lists.specs.Choice.{_if_else_}
 use Rattle.lists.specs.Below.{filled}
 use Rattle.rules.specs.State.{State, count, snakeOf}
 use Rattle.rules.specs.Image.{imageOf, snakesIn}
-use Rattle.rules.specs.Step.{Outcome}
+use Rattle.rules.specs.Step.{Transition}
 use Rattle.rules.specs.Events.{blank, eight}
 use Rattle.rules.specs.Turns.{truncated}
 use Rattle.rules.specs.Says.{Says, refuses, gives, seen, beside, lent}
@@ -71,7 +71,7 @@ abbrev pub marked : State → List Event → List Event
 marked t es = filled (markedAt t es) (count t) 8 blank
 
 -- 'marks the living y and ends the match; its line still shows terminal 0'
-unfoldable pub movedTurn : Match → Outcome → Turn
+unfoldable pub movedTurn : Match → Transition → Turn
 movedTurn m o =
     let es = eight (o .events) in
     record {

@@ -7,7 +7,7 @@ use Rattle.lists.specs.Products.{falling}
 use Rattle.rules.specs.Image.{imageOf, stateOf, longEnough, contentsFit, rangesFit, startsFit, totalFits, cellsFit, bodiesFit, foodFits, wellFormed}
 use Rattle.rules.specs.Placement.{unblocked, trail, placed}
 use Rattle.rules.specs.Setting.{badCell, settingCheck, initialState}
-use Rattle.rules.specs.Step.{causeOf, outcomeOf, stepped}
+use Rattle.rules.specs.Step.{causeOf, transitionOf, stepped}
 use Rattle.rules.specs.Chance.{freeFrom, free, outcomes, digits, pick, drawnFrom, drawn, withFood, afterDraw, rankIn, rankOf}
 use Rattle.rules.specs.View.{plane, viewOf, view}
 use Rattle.rules.specs.LengthKey.{sorted, folded, lengthKey}
@@ -16,10 +16,10 @@ use Rattle.rules.specs.Examples.{EachHolds, numbersOf, planesOf, theTwel
 use Rattle.lists.specs.Tables.{fault}
 
 pub examples-hold : EachHolds theTwelve
-unfolding allBelow someBelow countBelow eachBelow concatBelow lowestFrom any keep member insert without place falling unblocked trail placed badCell settingCheck causeOf outcomeOf stepped freeFrom free outcomes digits pick drawnFrom drawn rankIn rankOf sorted folded lengthKey theTwelve fault
+unfolding allBelow someBelow countBelow eachBelow concatBelow lowestFrom any keep member insert without place falling unblocked trail placed badCell settingCheck causeOf transitionOf stepped freeFrom free outcomes digits pick drawnFrom drawn rankIn rankOf sorted folded lengthKey theTwelve fault
 examples-hold =
     ((refl, refl), (refl, ((refl, refl), (refl, (refl, (refl, (refl, ((refl, refl, refl, refl), ((refl, refl, refl, refl), (refl, (refl, (refl, (refl, (refl, tt))))))))))))))
 
 pub more-hold : EachHolds theOthers
-unfolding allBelow someBelow countBelow sumBelow eachBelow concatBelow lowestFrom every all keep member distinct ascending insert without place falling imageOf stateOf longEnough contentsFit rangesFit startsFit totalFits cellsFit bodiesFit foodFits wellFormed unblocked trail placed initialState causeOf outcomeOf stepped freeFrom free outcomes digits pick drawnFrom drawn withFood afterDraw rankIn rankOf plane viewOf view sorted folded lengthKey rewardOf ofBits ofInt add numbersOf planesOf theOthers
+unfolding allBelow someBelow countBelow sumBelow eachBelow concatBelow lowestFrom every all keep member distinct ascending insert without place falling imageOf stateOf longEnough contentsFit rangesFit startsFit totalFits cellsFit bodiesFit foodFits wellFormed unblocked trail placed initialState causeOf transitionOf stepped freeFrom free outcomes digits pick drawnFrom drawn withFood afterDraw rankIn rankOf plane viewOf view sorted folded lengthKey rewardOf ofBits ofInt add numbersOf planesOf theOthers
 more-hold = ((refl, refl, refl), ((refl, refl, refl), (refl, (refl, (refl, (refl, (refl, (refl, (refl, (refl, (refl, (refl, (refl, (refl, (refl, (refl, (refl, (refl, (refl, (refl, (refl, (refl, (refl, (refl, (refl, (refl, (refl, (refl, (refl, (refl, (refl, (refl, (refl, (refl, (refl, (((refl, refl, refl, refl), refl), (((refl, refl, refl, refl), refl), (((refl, refl, refl, refl), refl), (((refl, refl, refl, refl), refl), (refl, (refl, (refl, (refl, (refl, (refl, (refl, (refl, ((refl, refl), ((refl, refl), ((refl, refl), tt))))))))))))))))))))))))))))))))))))))))))))))))))

@@ -3,12 +3,11 @@ use Prim.Native.Nat.{ℕ, zero, suc, _+_, _-_, _^_, _<_, _≤_, min}
 use native.Mathlib.Nat.{le-refl, le-trans, not-suc-le-zero, le-of-suc-le-suc}
 use native.Mathlib.Omega.{arith}
 use mathlib.Core.Path.{_≡_, refl, sym, ap, subst, _∙_}
-use mathlib.Core.Bool.{Bool, true, false, not, _||_}
+use mathlib.Core.Bool.{true, false}
 use mathlib.Core.List.{List}
 use lib.Dec.{ltb, eqb}
 use lib.ListN.{length, take}
 use borrow.Author.Tests.{ltb-true, le-ltb, ne-eqb, not-false}
-use Rattle.lists.specs.Choice.{_if_else_}
 use Rattle.lists.specs.Below.{countBelow}
 use Rattle.lists.specs.Lists.{overFront, member, distinct}
 use Rattle.lists.specs.Equal.{sameList}
@@ -21,7 +20,7 @@ use Rattle.rules.specs.Image.{dueIn, imageOf, stateOf, wellFormed}
 use Rattle.rules.specs.Chance.{free, drawSize, outcomes, drawn, withFood, afterDraw, rankOf, canRank}
 use Rattle.rules.specs.Fair.{Fair, DrawWrote, Changed, Drawing}
 use Rattle.rules.specs.Births.{afterDraws, Ends, InRange}
-use Rattle.rules.specs.Says.{Says, refuses, gives, seen, beside, lent, says, byTable}
+use Rattle.rules.specs.Says.{gives, seen, beside, lent, says, byTable}
 use Rattle.rules.specs.Orders.{drawOrder}
 use Rattle.rules.specs.Calls.{Draw, countSays, drawSays, rankSays}
 use Rattle.rules.specs.Promises.{Counts, Draws, Ranks}

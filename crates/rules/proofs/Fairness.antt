@@ -2,7 +2,7 @@
 -- P = outcomes t, the indices below P and the ordered lists of k different free cells match one to one by `drawn` and `rankOf`, and each
 -- set of k free cells is added to the food by exactly k! of the indices. Below that, what a draw leaves as it was. Assumes nothing.
 use mathlib.Core.Path.{_≡_, refl, _∙_}
-use mathlib.Core.Bool.{true, false, not, _&&_}
+use mathlib.Core.Bool.{true, false, _&&_}
 use mathlib.Core.List.{List, [], _∷_}
 use Prim.Native.Nat.{ℕ, zero, suc, _-_, _%_, _<_, min}
 use native.Mathlib.Nat.{mul-one, sub-zero, mod-eq-of-lt, lt-irrefl}
@@ -16,9 +16,9 @@ use Rattle.lists.specs.Products.{falling, factorial}
 use Rattle.lists.specs.Equal.{sameList}
 use Rattle.lists.proofs.Tests.{and-left, and-right, both}
 use Rattle.lists.proofs.Members.{all-member, all-members}
-use Rattle.rules.specs.State.{State, area}
+use Rattle.rules.specs.State.{State}
 use Rattle.rules.specs.Fair.{Fair, Settled, Born}
-use Rattle.rules.specs.Chance.{taken, free, drawSize, outcomes, digits, pick, drawnFrom, drawn, withFood, afterDraw, rankOf, canRank}
+use Rattle.rules.specs.Chance.{free, drawSize, outcomes, digits, pick, drawnFrom, drawn, withFood, afterDraw, rankOf, canRank}
 use Rattle.rules.proofs.FreeCells.{free-distinct, free-below, free-untaken, free-member, free-off-food}
 use Rattle.rules.proofs.Draws.{Listed, listed-turn, drawn-listed, drawn-none, rank-drawn, rank-lt, drawn-rank}
 use Rattle.rules.proofs.Sets.{food-count, with-none}

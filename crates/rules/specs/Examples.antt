@@ -15,7 +15,7 @@ use Rattle.lists.specs.Below.{eachBelow}
 use Rattle.rules.specs.State.{Snake, State}
 use Rattle.rules.specs.Image.{imageOf, stateOf, wellFormed}
 use Rattle.rules.specs.Setting.{sideOf, settingCheck, worst, initialState}
-use Rattle.rules.specs.Step.{Outcome, stepped}
+use Rattle.rules.specs.Step.{Transition, stepped}
 use Rattle.rules.specs.Chance.{free, outcomes, drawn, afterDraw, rankOf}
 use Rattle.rules.specs.View.{shows, view}
 use Rattle.rules.specs.LengthKey.{lengthKey}
@@ -40,7 +40,7 @@ pub data Example : Type 0 where
   key : State → ℕ → Example
   -- of the second table alone
   starts : Setting → State → Example
-  steps : Setting → State → List ℕ → Outcome → Example
+  steps : Setting → State → List ℕ → Transition → Example
   draws : State → List ℕ → ℕ → ℕ → List ℕ → State → Example
   sees : State → ℕ → List String → Example
   keyless : State → Example
@@ -168,7 +168,7 @@ abbrev pub drewBy : Cause → Event
 drewBy c = event c false false false true
 
 -- terminal, the next state, the events
-abbrev pub comes : Bool → State → List Event → Outcome
+abbrev pub comes : Bool → State → List Event → Transition
 comes over t es = record { next = t; events = es; terminal = over }
 
 abbrev pub fourWays : State

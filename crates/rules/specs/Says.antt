@@ -103,6 +103,6 @@ pub data Shape : Type 0 where
   discrete : ℕ → Shape
 
 abbrev pub saysSpace : Space → Says Shape
-saysSpace (Box p h w low top) = gives (box p h w low top)
+saysSpace (Box p rows cols low high) = gives (box p rows cols low high)
 saysSpace (Discrete n) = gives (discrete n)
 saysSpace (RefusedSpace k) = refuses k

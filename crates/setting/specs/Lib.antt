@@ -1,3 +1,3 @@
-pub mod Judged
+pub mod Tested
 pub mod Crowds
 pub mod Starts

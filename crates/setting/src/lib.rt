@@ -17,12 +17,12 @@ ghost use Rattle.rules.specs.Setting.{settingCheck};
 ghost use Rattle.rules.specs.SettingParts.{startCells};
 ghost use Rattle.rules.specs.Says.{first, gives, saysVerdict};
 ghost use Rattle.rules.specs.Promises.{Validates, Starts};
-ghost use Rattle.setting.specs.Judged.{Judged};
+ghost use Rattle.setting.specs.Tested.{Tested};
 
 // 0 where the setting is accepted, and then the cells of all bodies stand at the front of `cells`.
 fn check(setting: Setting, cells: &mut [u16]) -> u8
     requires { ⌜ length (now cells) ≡ 1024 ⌝ }
-    ensures { λ r. ⌜ Judged (settingCheck setting) (startCells setting) (now (cells .entry)) (now (cells .exit)) r ⌝ }
+    ensures { λ r. ⌜ Tested (settingCheck setting) (startCells setting) (now (cells .entry)) (now (cells .exit)) r ⌝ }
 {
     let number = limits(setting);
     if number != 0 {

@@ -13,8 +13,8 @@ ghost use Rattle.lists.specs.Below.{concatBelow};
 ghost use Rattle.lists.specs.Boards.{Under};
 ghost use Rattle.lists.specs.Lists.{distinct};
 ghost use Rattle.rules.specs.SettingParts.{placeCheck, cellsOf, startCells, Limited};
-ghost use Rattle.placement.specs.Traces.{Ready};
-ghost use Rattle.setting.specs.Judged.{Judged};
+ghost use Rattle.placement.specs.Traces.{Traceable};
+ghost use Rattle.setting.specs.Tested.{Tested};
 
 // No cell twice, by a board of all squares.
 fn all_new(cells: &[u16]) -> bool
@@ -38,9 +38,9 @@ fn full(area: u64, total: u64, food: u64) -> u8
 
 // On a grid of 3 and more every start is inside, so that no cell is outside: 9, 11 or 12.
 fn judge(cells: &mut [u16], g: u16, n: u16, size: usize, food: usize) -> u8
-    requires { ⌜ Ready g n size (now cells) ⌝ }
+    requires { ⌜ Traceable g n size (now cells) ⌝ }
     requires { ⌜ food ≤ 1024 ⌝ }
-    ensures { λ r. ⌜ Judged (placeCheck (pos g) n size food) (concatBelow n (cellsOf g n size)) (now (cells .entry)) (now (cells .exit)) r ⌝ }
+    ensures { λ r. ⌜ Tested (placeCheck (pos g) n size food) (concatBelow n (cellsOf g n size)) (now (cells .entry)) (now (cells .exit)) r ⌝ }
 {
     if !place_snakes(cells, g, n, size) {
         return 9;
@@ -66,7 +66,7 @@ fn beyond(reach: u64, size: u64) -> u8
 pub fn place_check(setting: Setting, cells: &mut [u16]) -> u8
     requires { ⌜ Limited setting ⌝ }
     requires { ⌜ length (now cells) ≡ 1024 ⌝ }
-    ensures { λ r. ⌜ Judged (placeCheck (setting .grid) (setting .snakes) (setting .size) (setting .food)) (startCells setting) (now (cells .entry)) (now (cells .exit)) r ⌝ }
+    ensures { λ r. ⌜ Tested (placeCheck (setting .grid) (setting .snakes) (setting .size) (setting .food)) (startCells setting) (now (cells .entry)) (now (cells .exit)) r ⌝ }
 {
     let grid = setting.grid;
     let size = setting.size;

@@ -21,12 +21,12 @@ use Rattle.rules.specs.Events.{dies, blank, eight}
 use Rattle.rules.specs.Image.{snakesIn, sideIn, foodAt}
 use Rattle.rules.specs.Places.{cellOf}
 use Rattle.rules.specs.State.{nobody}
-use Rattle.rules.specs.Step.{Moved, causeOf, after, ateNow, killerOf, credited, leads, isTerminal, eventOf, eatenBy, outcomeOf}
+use Rattle.rules.specs.Step.{Moved, causeOf, after, ateNow, killerOf, credited, leads, isTerminal, eventOf, eatenBy, transitionOf}
 use Rattle.judge.specs.declared.Judged.{Judged}
 use Rattle.consequences.specs.declared.after.After.{After}
 use Rattle.judge.specs.World.{untouched, causesOf, judgedWorld}
-use Rattle.consequences.specs.After.{settled, gone, part, later, snakes, cells, living, eating, causes, leadsIn, creditedTo, eventAt, Parts, Short}
-use Rattle.step.specs.Next.{outcomeIn}
+use Rattle.consequences.specs.After.{settled, gone, part, later, snakes, cells, living, eating, causes, leadsIn, creditedTo, eventAt, InImage, Short}
+use Rattle.step.specs.Next.{transitionIn}
 use Rattle.step.specs.Applied.{Ready}
 use Rattle.image.proofs.Heads.{part-size}
 
@@ -49,7 +49,7 @@ lead-law true true k x y p q c d e f =
 lead-law true false k x y p q c d e f = refl
 lead-law false r k x y p q c d e f = refl
 
-module _ (w : List ℕ) (all : List After) (parts : Parts w all) (n : ℕ) where
+module _ (w : List ℕ) (all : List After) (parts : InImage w all) (n : ℕ) where
   leads-law : (lead : Limit) (i j : ℕ) → leadsIn all (countBelow n (living all)) lead i j ≡ leads n (causes all) (snakes w all) lead i j
   leads-law Unset i j = refl
   leads-law (Is k) i j =
@@ -146,9 +146,9 @@ module _ (w : List ℕ) (js : List Judged) (ready : Ready w js) (all : List Afte
   snakes-are : eachBelow n (snakes w all) ≡ eachBelow n (λ i. after g (m i) (c i))
   snakes-are = each-ext n (snakes w all) (λ i. after g (m i) (c i)) (λ i l. (λ k. z-is k i) ∙ each-at n (λ i. after g (m i) (c i)) nobody i l)
 
-  pub outcome-is : (s : Setting) → outcomeIn s w all n g ≡ outcomeOf s g n (foodAt w) m
-  unfolding outcomeOf
-  outcome-is s = λ k. record {
+  pub transition-is : (s : Setting) → transitionIn s w all n g ≡ transitionOf s g n (foodAt w) m
+  unfolding transitionOf
+  transition-is s = λ k. record {
     next = record {
       side = g;
       due = 0 if isTerminal n (c-is k) (z-is k) s else countBelow n (e-is k);
@@ -170,7 +170,7 @@ module _ (w : List ℕ) (js : List Judged) (ready : Ready w js) (all : List Afte
         | more l t ↦ rw (e, each-past n r gone j l) none
       ]
 
-  pub parts-kept : Parts w all
+  pub parts-kept : InImage w all
   parts-kept = kept (λ a. a .start + a .keep ≤ length w) (omega arith) (ready .parts)
 
   pub short-kept : Short all

@@ -17,7 +17,7 @@ use Rattle.rules.specs.Headings.{numberOf}
 use Rattle.rules.specs.State.{Snake, State, nobody, snakeOf}
 use Rattle.rules.specs.Image.{front, bodyOf, recordOf, imageOf}
 use Rattle.consequences.specs.declared.after.After.{After}
-use Rattle.consequences.specs.After.{gone, snakes, sizes, Parts, Short}
+use Rattle.consequences.specs.After.{gone, snakes, sizes, InImage, Short}
 use Rattle.step.specs.Next.{recordIn, bodyIn, nextOf}
 use Rattle.consequences.proofs.Laws.{size-le}
 
@@ -29,7 +29,7 @@ records-long n (suc i) all = let e = records-long n i all in omega (arith, lengt
 pub sizes-small : (all : List After) → Short all → (n : ℕ) → sumBelow n (sizes all) ≤ 1025 * n
 sizes-small all h n = sum-le (sizes all) 1025 n (λ i l. size-le all h i)
 
-module _ (w : List ℕ) (all : List After) (parts : Parts w all) where
+module _ (w : List ℕ) (all : List After) (parts : InImage w all) where
   pub bodies-long : (n : ℕ) → length (concatBelow n (bodyIn w all)) ≡ sumBelow n (sizes all)
   bodies-long n = concat-long n (bodyIn w all) ∙ sum-ext n (λ i. length (bodyIn w all i)) (sizes all) (λ i l. body-size w (getD all i gone .start) (getD all i gone .keep) (getD all i gone .cell) (getD all i gone .lives) (parts i))
 
@@ -66,7 +66,7 @@ module _ (w : List ℕ) (all : List After) (parts : Parts w all) where
         omega (arith, ap length image-is, length-append t (b ++ food), length-append b food, records-long n n all, bodies-long n)
 
 -- the contents, the records, the bodies and the food, one after the other
-module _ (w : List ℕ) (all : List After) (parts : Parts w all) (n g due : ℕ) (food : List ℕ) (foods : ℕ) (d o p q r : List ℕ) (at : ℕ)
+module _ (w : List ℕ) (all : List After) (parts : InImage w all) (n g due : ℕ) (food : List ℕ) (foods : ℕ) (d o p q r : List ℕ) (at : ℕ)
     (counted : foods ≡ length food)
     (room : front n + sumBelow n (sizes all) + foods ≤ length d)
     (one : o ≡ writeAt d 0 (n ∷ g ∷ due ∷ 0 ∷ foods ∷ []))

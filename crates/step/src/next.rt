@@ -12,7 +12,7 @@ ghost use Rattle.lists.specs.Below.{sumBelow};
 ghost use Rattle.lists.specs.Lists.{writeAt};
 ghost use Rattle.rules.specs.Facts.{Sound};
 ghost use Rattle.rules.specs.Image.{snakesIn, sideIn, imageOf};
-ghost use Rattle.consequences.specs.After.{sizes, Parts, Short};
+ghost use Rattle.consequences.specs.After.{sizes, InImage, Short};
 ghost use Rattle.image.specs.Writers.{left};
 ghost use Rattle.step.specs.Next.{nextOf, nextIn, Fits, answered, written};
 
@@ -35,7 +35,7 @@ fn write_state(
     eaten: &[u16],
     foods: usize,
 )
-    requires { ⌜ Parts (now image) all ⌝ }
+    requires { ⌜ InImage (now image) all ⌝ }
     requires { ⌜ Short all ⌝ }
     requires { ⌜ Fits all n g due (left (now eaten) (now food)) foods (length (now out)) ⌝ }
     ensures { λ _. ⌜ now (out .exit) ≡ writeAt (now (out .entry)) 0 (imageOf (nextOf (now (image .entry)) all n g due (left (now (eaten .entry)) (now (food .entry))))) ⌝ }
@@ -57,7 +57,7 @@ pub fn write_next(
     terminal: bool,
 ) -> Answer
     requires { ⌜ Sound (now image) ⌝ }
-    requires { ⌜ Parts (now image) all ⌝ }
+    requires { ⌜ InImage (now image) all ⌝ }
     requires { ⌜ Short all ⌝ }
     requires { ⌜ (n ≡ snakesIn (now image)) × (g ≡ sideIn (now image)) × (cells ≡ sumBelow n (sizes all)) ⌝ }
     ensures { λ r. ⌜ (now (out .exit) ≡ written (now (out .entry)) (imageOf (nextIn (now (image .entry)) all n g terminal))) × (r ≡ answered (length (now (out .entry))) (imageOf (nextIn (now (image .entry)) all n g terminal))) ⌝ }

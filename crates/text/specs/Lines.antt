@@ -19,7 +19,6 @@ use Rattle.text.specs.declared.Flag.{Flag}
 use Rattle.text.specs.declared.Flag.the-variants.{NoFlag, Flagged}
 use Rattle.text.specs.declared.First.{First}
 use Rattle.text.specs.declared.First.the-variants.{NoFirst, Opens}
-use Rattle.text.specs.declared.Line.{Line}
 use Rattle.text.specs.declared.Line.the-variants.{NoLine, DrawLine, MoveLine}
 use Rattle.text.specs.declared.Entry.{Entry}
 use Rattle.text.specs.declared.Got.{Got}

@@ -12,7 +12,7 @@ use Rattle.rules.specs.Events.{blank, eight}
 use Rattle.rules.specs.State.{State, snakeOf}
 use Rattle.rules.specs.Image.{imageOf, stateOf, wellFormed}
 use Rattle.rules.specs.Setting.{sideOf, settingOrder, initialState}
-use Rattle.rules.specs.Step.{Outcome, stepped}
+use Rattle.rules.specs.Step.{Transition, stepped}
 use Rattle.rules.specs.Chance.{outcomes, drawn, afterDraw, rankOf}
 use Rattle.rules.specs.View.{view, lit}
 use Rattle.rules.specs.LengthKey.{lengthKey}
@@ -91,10 +91,10 @@ step-is s w acts old new r p h =
     let e = lawful (stepOrder s w acts (length old)) o h in
     let t = imageOf (o .next) in
     record {
-      answer = answer-one (r .answer) (Done (length t)) (p .answer ∙ ap (seen (λ (o : Outcome). length (imageOf (o .next)))) e);
-      image = ap (take (length t)) (p .words ∙ ap (lent (λ (o : Outcome). imageOf (o .next)) old) e) ∙ over-take t old;
-      terminal = p .terminal ∙ ap (beside (λ (o : Outcome). o .terminal) false) e;
-      events = p .events ∙ ap (beside (λ (o : Outcome). eight (o .events)) (replicate 8 blank)) e;
+      answer = answer-one (r .answer) (Done (length t)) (p .answer ∙ ap (seen (λ (o : Transition). length (imageOf (o .next)))) e);
+      image = ap (take (length t)) (p .words ∙ ap (lent (λ (o : Transition). imageOf (o .next)) old) e) ∙ over-take t old;
+      terminal = p .terminal ∙ ap (beside (λ (o : Transition). o .terminal) false) e;
+      events = p .events ∙ ap (beside (λ (o : Transition). eight (o .events)) (replicate 8 blank)) e;
     }
 
 -- the numbers written are the agent's view

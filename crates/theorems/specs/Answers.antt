@@ -6,14 +6,14 @@ use lib.ListN.{length, take}
 use Rattle.rules.specs.Events.{eight}
 use Rattle.rules.specs.State.{State}
 use Rattle.rules.specs.Image.{imageOf}
-use Rattle.rules.specs.Step.{Outcome}
+use Rattle.rules.specs.Step.{Transition}
 use Rattle.rules.specs.Chance.{drawn, afterDraw}
 use Rattle.rules.specs.declared.Stepped.{Stepped}
 use Rattle.rules.specs.declared.Drawn.{Drawn}
 use Rattle.rules.specs.declared.Answer.the-variants.{Done}
 
 -- a step: the next image, the events, and whether it is terminal
-pub record StepIs (o : Outcome) (new : List ℕ) (r : Stepped) : Type 0 where
+pub record StepIs (o : Transition) (new : List ℕ) (r : Stepped) : Type 0 where
   pub answer : r .answer ≡ Done (length (imageOf (o .next)))
   pub image : take (length (imageOf (o .next))) new ≡ imageOf (o .next)
   pub terminal : r .terminal ≡ o .terminal

@@ -5,7 +5,6 @@ use Rattle.letters.proofs.Writing.{both, wider, nothing}
 use Rattle.lists.proofs.Below.{concat-none, concat-next}
 use Rattle.letters.specs.Text.{Wrote, placeText}
 use Rattle.lists.specs.Below.{concatBelow}
-use lib.ListN.{length}
 use native.Mathlib.Omega.{arith}
 use borrow.Author.Needs.{needs}
 use Rattle.letters.proofs.letters.put_each.Statement.{statement}

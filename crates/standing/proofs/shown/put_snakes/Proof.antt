@@ -1,7 +1,6 @@
 use Prim.Native.Nat.{_+_, _-_, _≤_, _*_}
 use mathlib.Core.Path.{_≡_}
 use denote.Ref.{now}
-use lib.ListN.{length}
 use native.Mathlib.Omega.{arith}
 use borrow.Author.Needs.{needs}
 use Rattle.lists.specs.Below.{concatBelow}
