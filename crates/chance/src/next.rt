@@ -21,7 +21,7 @@ ghost use Rattle.rules.specs.Chance.{outcomes, drawnFrom};
 ghost use Rattle.rules.specs.Says.{gives};
 ghost use Rattle.odds.specs.Marks.{unmarked};
 ghost use Rattle.odds.specs.Odds.{Stands};
-ghost use Rattle.image.specs.Writers.{Fresh};
+ghost use Rattle.writers.specs.Writers.{Fresh};
 ghost use Rattle.chance.specs.Next.{nextWords};
 ghost use Rattle.chance.specs.Answers.{drawOf, dueSays, Answers, Refuses};
 

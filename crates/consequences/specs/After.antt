@@ -8,7 +8,7 @@ use lib.ListN.{length, getD}
 use Rattle.lists.specs.Choice.{bit}
 use Rattle.lists.specs.Below.{someBelow, countBelow, sumBelow}
 use Rattle.lists.specs.Lists.{member}
-use Rattle.image.specs.Writers.{partOf, bodyWith}
+use Rattle.writers.specs.Writers.{partOf, bodyWith}
 use Rattle.rules.specs.declared.Heading.the-variants.{Up}
 use Rattle.rules.specs.declared.Cause.{Cause}
 use Rattle.rules.specs.declared.Cause.the-variants.{NoCause}

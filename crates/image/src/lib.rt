@@ -1,15 +1,8 @@
-// The state image in 16-bit words: what its parts are, and how words are written. The check of `shape` is passed on, so that callers name one crate.
-mod added;
-mod bodies;
-mod eaten;
+// The state image in 16-bit words: what its parts are, and how words are written. `shape` and `writers` are passed on, so that callers name one crate.
 mod parts;
 mod table;
 mod words;
 
-pub use added::put_all;
-pub use bodies::write_body;
-pub use eaten::count_left;
-pub use eaten::write_left;
 pub use lists::Found;
 pub use parts::body;
 pub use parts::find_in;
@@ -25,6 +18,10 @@ pub use words::heading_of;
 pub use words::number_of;
 pub use words::write_contents;
 pub use words::write_record;
+pub use writers::count_left;
+pub use writers::put_all;
+pub use writers::write_body;
+pub use writers::write_left;
 
 // A snake's four words, read.
 pub struct SnakeRecord {

@@ -3,7 +3,7 @@ ghost use mathlib.Core.Path.{_≡_};
 ghost use Prim.Native.Nat.{_+_, _≤_};
 ghost use lib.ListN.{length};
 ghost use Rattle.lists.specs.Lists.{writeAt};
-ghost use Rattle.image.specs.Writers.{left};
+ghost use Rattle.writers.specs.Writers.{left};
 
 // How many apples are left.
 pub fn count_left(food: &[u16], eaten: &[u16]) -> usize

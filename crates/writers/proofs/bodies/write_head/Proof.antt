@@ -1,9 +1,9 @@
 use borrow.Author.Needs.{needs}
-use Rattle.image.proofs.bodies.write_head.Statement.{statement}
+use Rattle.writers.proofs.bodies.write_head.Statement.{statement}
 use native.Mathlib.Omega.{arith}
 use denote.Ref.{now}
-use Rattle.image.proofs.Heads.{head-written, head-left}
-use Rattle.image.proofs.bodies.write_head.Tie as tie
+use Rattle.writers.proofs.Heads.{head-written, head-left}
+use Rattle.writers.proofs.bodies.write_head.Tie as tie
 
 mul-out : tie.Need-mul-out
 mul-out c = search needs

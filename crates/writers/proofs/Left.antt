@@ -10,7 +10,7 @@ use Rattle.lists.specs.Choice.{bit}
 use Rattle.lists.specs.Lists.{keep, member}
 use Rattle.lists.proofs.Lists.{keep-taken, keep-part, keep-small}
 use Rattle.lists.proofs.Shorter.{keep-all}
-use Rattle.image.specs.Writers.{left}
+use Rattle.writers.specs.Writers.{left}
 
 -- nothing eaten: the food is one copy
 pub left-all : (e food : List ℕ) → length e ≡ 0 → left e food ≡ food

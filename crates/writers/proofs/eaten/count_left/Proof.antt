@@ -1,17 +1,17 @@
 -- The invariant: how many of the first j apples are left.
-use Rattle.image.proofs.eaten.count_left.Statement.{statement}
+use Rattle.writers.proofs.eaten.count_left.Statement.{statement}
 use Prim.Native.Nat.{_-_, _≤_, _+_}
 use mathlib.Core.Path.{_≡_, sym, ap, _∙_}
 use lib.ListN.{length, take}
-use Rattle.image.specs.Writers.{left}
+use Rattle.writers.specs.Writers.{left}
 use borrow.Author.Needs.{needs}
 use native.Mathlib.Omega.{arith}
 use mathlib.Core.Bool.{not}
 use denote.Ref.{now}
 use Rattle.lists.proofs.Tests.{bit-le, byte-bit}
-use Rattle.image.proofs.Left.{left-all, left-none, left-end, left-small, left-more}
+use Rattle.writers.proofs.Left.{left-all, left-none, left-end, left-small, left-more}
 use lib.Seq.{length-take-le}
-use Rattle.image.proofs.eaten.count_left.Tie as tie
+use Rattle.writers.proofs.eaten.count_left.Tie as tie
 
 abbrev Inv-loop : tie.InvT-loop
 Inv-loop food eaten k₀ j₀ k j = (j ≤ length food) × (k ≡ length (left eaten (take j food)))

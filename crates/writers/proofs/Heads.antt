@@ -10,7 +10,7 @@ use Rattle.lists.specs.Choice.{_if_else_, bit}
 use Rattle.lists.specs.Lists.{writeAt}
 use Rattle.lists.specs.Written.{Written}
 use Rattle.lists.proofs.Writes.{write-none, sets-write}
-use Rattle.image.specs.Writers.{newHead, partOf, bodyWith}
+use Rattle.writers.specs.Writers.{newHead, partOf, bodyWith}
 
 head-on : (l : Bool) (c : ℕ) (p : List ℕ) → (c ∷ p if l else p) ≡ (c ∷ [] if l else []) ++ p
 head-on true c p = refl

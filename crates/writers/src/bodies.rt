@@ -2,7 +2,7 @@
 ghost use Prim.Native.Nat.{_+_, _≤_};
 ghost use lib.ListN.{length};
 ghost use Rattle.lists.specs.Written.{Written};
-ghost use Rattle.image.specs.Writers.{newHead, bodyWith};
+ghost use Rattle.writers.specs.Writers.{newHead, bodyWith};
 
 // The head, where it lives. The index after it.
 fn write_head(out: &mut [u16], at: usize, head: u16, lives: bool) -> usize

@@ -1,18 +1,18 @@
 -- The invariant: those left of the first j apples are written, and `at` is the index after them.
 use Rattle.lists.proofs.Runs.{write-one}
-use Rattle.image.proofs.eaten.write_left.Statement.{statement}
+use Rattle.writers.proofs.eaten.write_left.Statement.{statement}
 use Prim.Native.Nat.{_+_, _-_, _≤_, ℕ, _<_}
 use mathlib.Core.Path.{_≡_, refl, sym, ap, _∙_}
 use lib.ListN.{length, take, getD, length-set, length-append}
 use Rattle.lists.specs.Lists.{writeAt}
-use Rattle.image.specs.Writers.{left}
+use Rattle.writers.specs.Writers.{left}
 use borrow.Author.Needs.{needs}
 use native.Mathlib.Omega.{arith}
 use mathlib.Core.List.{List, [], _∷_}
 use denote.Ref.{now}
-use Rattle.image.proofs.Left.{left-all, left-none, left-end, left-held, left-part, left-free}
+use Rattle.writers.proofs.Left.{left-all, left-none, left-end, left-held, left-part, left-free}
 use Rattle.lists.proofs.Writes.{write-none}
-use Rattle.image.proofs.eaten.write_left.Tie as tie
+use Rattle.writers.proofs.eaten.write_left.Tie as tie
 
 abbrev Inv-loop : tie.InvT-loop
 Inv-loop out₀ from food eaten at₀ j₀ out at j = (j ≤ length food) × (length out ≡ length out₀) × (at ≡ from + length (left eaten (take j food))) × (out ≡ writeAt out₀ from (left eaten (take j food)))

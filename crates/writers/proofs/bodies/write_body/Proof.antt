@@ -1,7 +1,7 @@
 -- A body is its head, where it lives, and the part of the image: two writes, one after the other.
 use Rattle.lists.proofs.Runs.{then-write, written-long}
 use borrow.Author.Needs.{needs}
-use Rattle.image.proofs.bodies.write_body.Statement.{statement}
+use Rattle.writers.proofs.bodies.write_body.Statement.{statement}
 use native.Mathlib.Omega.{arith}
 use Prim.Native.Nat.{ℕ, _+_, _≤_}
 use mathlib.Core.Path.{sym, ap, _∙_}
@@ -10,9 +10,9 @@ use lib.ListN.{length, length-append}
 use denote.Ref.{now}
 use Rattle.lists.proofs.Lists.{part-is}
 use Rattle.lists.specs.Lists.{writeAt}
-use Rattle.image.proofs.Heads.{body-is, part-size}
-use Rattle.image.specs.Writers.{newHead, partOf}
-use Rattle.image.proofs.bodies.write_body.Tie as tie
+use Rattle.writers.proofs.Heads.{body-is, part-size}
+use Rattle.writers.specs.Writers.{newHead, partOf}
+use Rattle.writers.proofs.bodies.write_body.Tie as tie
 
 write-head-requires : tie.Need-write-head-requires
 write-head-requires c κs =
