@@ -1,7 +1,7 @@
 use borrow.Author.Needs.{needs}
 use native.Mathlib.Omega.{arith}
 use mathlib.Core.Path.{_≡_, refl}
-use Prim.Native.Nat.{_+_, _<_}
+use Prim.Native.Nat.{_+_}
 use lib.ListN.{length}
 use denote.Ref.{now}
 use Rattle.reader.proofs.Taking.{step-waits, step-takes}
