@@ -105,7 +105,7 @@ static void every_other_call(void) {
     key = lundaspro_length_cell(both, 18);
     CHECK(key.refusal == 0 && key.some && key.key == 1);
     lundaspro_space box = lundaspro_observation_space(7), three = lundaspro_action_space(), none = lundaspro_observation_space(33);
-    CHECK(box.refusal == 0 && !box.discrete && box.count == 0 && box.planes == 5 && box.high == 7 && box.wide == 7 && box.low == 0.0f && box.top == 1.0f);
+    CHECK(box.refusal == 0 && !box.discrete && box.count == 0 && box.planes == 5 && box.rows == 7 && box.cols == 7 && box.low == 0.0f && box.high == 1.0f);
     CHECK(three.refusal == 0 && three.discrete && three.count == 3 && three.planes == 0);
     CHECK(none.refusal == 5 && !none.discrete && none.count == 0);
 }

@@ -153,10 +153,10 @@ typedef struct {
     bool discrete;
     size_t count;
     size_t planes;
-    size_t high;
-    size_t wide;
+    size_t rows;
+    size_t cols;
     float low;
-    float top;
+    float high;
 } lundaspro_space;
 
 /* A part of the caller's image: `len` words from word `start` on. */

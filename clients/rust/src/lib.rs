@@ -310,10 +310,10 @@ pub fn reward(weights: &Weights, event: Event) -> Result<f64, Refusal> {
 pub enum Space {
     Box {
         planes: usize,
-        high: usize,
-        wide: usize,
+        rows: usize,
+        cols: usize,
         low: f32,
-        top: f32,
+        high: f32,
     },
     Discrete(usize),
 }
@@ -325,10 +325,10 @@ fn space(a: raw::Space) -> Result<Space, Refusal> {
     }
     Ok(Space::Box {
         planes: a.planes,
-        high: a.high,
-        wide: a.wide,
+        rows: a.rows,
+        cols: a.cols,
         low: a.low,
-        top: a.top,
+        high: a.high,
     })
 }
 

@@ -20,7 +20,7 @@ records! {
     Legal { refusal: u8, actions: u8 }
     Marked { refusal: u8, event: u16 }
     Sum { refusal: u8, sum: f64 }
-    Space { refusal: u8, discrete: bool, count: usize, planes: usize, high: usize, wide: usize, low: f32, top: f32 }
+    Space { refusal: u8, discrete: bool, count: usize, planes: usize, rows: usize, cols: usize, low: f32, high: f32 }
     Part { start: usize, len: usize }
 }
 

@@ -15,10 +15,10 @@ pub fn observation_space(grid: i32) -> Space
     let side = grid as usize;
     Space::Box {
         planes: 5,
-        high: side,
-        wide: side,
+        rows: side,
+        cols: side,
         low: 0.0,
-        top: 1.0,
+        high: 1.0,
     }
 }
 

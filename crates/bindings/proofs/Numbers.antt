@@ -1,6 +1,6 @@
--- Numbers past the last that means something, and the numbers that a step tells. Assumes nothing.
-use Prim.Native.Nat.{ℕ, zero, suc, _+_, _≤_, _<_}
-use mathlib.Core.Path.{_≡_, refl, sym, ap, _∙_}
+-- The numbers that a step tells. Assumes nothing.
+use Prim.Native.Nat.{ℕ, _+_, _<_}
+use mathlib.Core.Path.{_≡_, sym, ap, _∙_}
 use mathlib.Core.List.{List}
 use native.Mathlib.Omega.{arith}
 use lib.ListN.{length, getD, set}
@@ -9,35 +9,9 @@ use Rattle.lists.specs.Below.{eachBelow}
 use Rattle.lists.proofs.Below.{each-next, each-long}
 use Rattle.lists.proofs.Runs.{write-one}
 use Rattle.lists.proofs.Writes.{write-front, write-none}
-use Rattle.rules.specs.Headings.{actionOf, numberOf}
 use Rattle.rules.specs.Events.{blank}
-use Rattle.rules.specs.declared.Heading.{Heading}
-use Rattle.rules.specs.declared.Heading.the-variants.{Up, Right, Down, Left}
-use Rattle.rules.specs.declared.RelativeAction.the-variants.{TurnRight}
-use Rattle.rules.specs.declared.Cause.the-variants.{NoCause}
 use Rattle.rules.specs.declared.Event.{Event}
-use Rattle.bindings.specs.Flat.{causeIn, eventNumber, tellsOf}
-
-pub action-last : (n : ℕ) → 2 ≤ n → TurnRight ≡ actionOf n
-action-last zero h = absurd (omega arith)
-action-last (suc zero) h = absurd (omega arith)
-action-last (suc (suc k)) h = refl
-
-pub cause-past : (n : ℕ) → 5 ≤ n → NoCause ≡ causeIn n
-cause-past zero h = absurd (omega arith)
-cause-past (suc zero) h = absurd (omega arith)
-cause-past (suc (suc zero)) h = absurd (omega arith)
-cause-past (suc (suc (suc zero))) h = absurd (omega arith)
-cause-past (suc (suc (suc (suc zero)))) h = absurd (omega arith)
-cause-past (suc (suc (suc (suc (suc k))))) h = refl
-
-pub heading-small : (h : Heading) → numberOf h ≤ 3
-heading-small Up = omega arith
-heading-small Right = omega arith
-heading-small Down = omega arith
-heading-small Left = omega arith
-
--- ---- the loop that tells
+use Rattle.bindings.specs.Flat.{eventNumber, tellsOf}
 
 abbrev pub numberAt : List Event → ℕ → ℕ
 numberAt es i = eventNumber (getD es i blank)

@@ -12,7 +12,7 @@ use Rattle.lists.specs.Tables.{Table}
 use Rattle.rules.specs.State.{State}
 use Rattle.rules.specs.Events.{eight}
 use Rattle.rules.specs.Image.{imageOf, stateOf}
-use Rattle.rules.specs.Step.{Outcome, stepped}
+use Rattle.rules.specs.Step.{Transition, stepped}
 use Rattle.rules.specs.Says.{Says, refuses, gives, says, seen, beside, lent, byTable}
 use Rattle.rules.specs.Calls.{stepSays, Draw}
 use Rattle.rules.specs.Orders.{stepOrder}
@@ -37,15 +37,15 @@ drawn-is (gives d) (Refused j) n p q = let z : Apart = cc in absurd (omega arith
 -- ---- a step
 
 module _ (old new told : List ℕ) where
-  pub tells-refused : (x : Says Outcome) (k : ℕ) → refuses k ≡ seen (λ o. length (imageOf (o .next))) x → new ≡ lent (λ o. imageOf (o .next)) old x
+  pub tells-refused : (x : Says Transition) (k : ℕ) → refuses k ≡ seen (λ o. length (imageOf (o .next))) x → new ≡ lent (λ o. imageOf (o .next)) old x
       → Tells x old new told told (record { refusal = k; terminal = false; words = 0 })
   tells-refused (refuses j) k p q =
       let e : k ≡ j = cc in
       record { answer = ap (λ (n : ℕ). flatStepped (refuses n)) e; words = q; events = refl }
   tells-refused (gives o) k p q = let z : Apart = cc in absurd (omega arith)
 
-  pub tells-done : (x : Says Outcome) (n : ℕ) (b : Bool) (tells : List ℕ) → gives n ≡ seen (λ o. length (imageOf (o .next))) x → b ≡ beside (λ o. o .terminal) false x
-      → new ≡ lent (λ o. imageOf (o .next)) old x → ((o : Outcome) → x ≡ gives o → tells ≡ overFront (tellsOf (eight (o .events))) told)
+  pub tells-done : (x : Says Transition) (n : ℕ) (b : Bool) (tells : List ℕ) → gives n ≡ seen (λ o. length (imageOf (o .next))) x → b ≡ beside (λ o. o .terminal) false x
+      → new ≡ lent (λ o. imageOf (o .next)) old x → ((o : Transition) → x ≡ gives o → tells ≡ overFront (tellsOf (eight (o .events))) told)
       → Tells x old new told tells (record { refusal = 0; terminal = b; words = n })
   tells-done (refuses j) n b tells p t q e = let z : Apart = cc in absurd (omega arith)
   tells-done (gives o) n b tells p t q e =
@@ -78,17 +78,17 @@ no-room s w acts =
     let o = stepped s (stateOf w) acts in
     some-row (stepOrder s w acts 0) 17 (gives o) (lt-ltb 0 (length (imageOf (o .next))) (some-words (o .next)))
 
-pub untold-is : (x : Says Outcome) → Refuses x → (r : FlatWritten) → r ≡ flatWritten (seen (λ o. length (imageOf (o .next))) x)
+pub untold-is : (x : Says Transition) → Refuses x → (r : FlatWritten) → r ≡ flatWritten (seen (λ o. length (imageOf (o .next))) x)
     → record { refusal = r .refusal; terminal = false; words = 0 } ≡ flatStepped x
 untold-is (refuses k) n r e = ap (λ (v : FlatWritten). record { refusal = v .refusal; terminal = false; words = 0 }) e
 untold-is (gives o) (by k p) r e = let z : Apart = cc in absurd (omega arith)
 
-pub untouched : (x : Says Outcome) → Refuses x → (l old : List ℕ) → l ≡ lent (λ o. imageOf (o .next)) [] x → l ++ old ≡ old
+pub untouched : (x : Says Transition) → Refuses x → (l old : List ℕ) → l ≡ lent (λ o. imageOf (o .next)) [] x → l ++ old ≡ old
 untouched (refuses k) n l old e = ap (λ (v : List ℕ). v ++ old) e
 untouched (gives o) (by k p) l old e = let z : Apart = cc in absurd (omega arith)
 
 -- with no room for the events
-pub tells-untold : (x : Says Outcome) → Refuses x → (old new told : List ℕ) (r : FlatStepped) → r ≡ flatStepped x → new ≡ old → Tells x old new told told r
+pub tells-untold : (x : Says Transition) → Refuses x → (old new told : List ℕ) (r : FlatStepped) → r ≡ flatStepped x → new ≡ old → Tells x old new told told r
 tells-untold (refuses k) n old new told r e q = record { answer = e; words = q; events = refl }
 tells-untold (gives o) (by k p) old new told r e q = let z : Apart = cc in absurd (omega arith)
 

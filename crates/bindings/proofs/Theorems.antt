@@ -8,15 +8,15 @@ use lib.Dec.{eqb, ltb}
 use borrow.Author.Tests.{eqb-true}
 use lib.IntN.{ℤ}
 use lib.Ieee.{Float}
-use lib.ListN.{getD, length}
+use lib.ListN.{getD}
 use Rattle.lists.specs.Choice.{_if_else_}
 use Rattle.lists.specs.Lists.{every, all}
 use Rattle.lists.specs.Tables.{Table}
 use Rattle.lists.proofs.Tests.{and-left, and-right, every-at}
 use Rattle.lists.proofs.Tables.{numbered}
 use Rattle.rules.specs.State.{snakeOf}
-use Rattle.rules.specs.Image.{imageOf, stateOf}
-use Rattle.rules.specs.Step.{Outcome, stepped}
+use Rattle.rules.specs.Image.{stateOf}
+use Rattle.rules.specs.Step.{Transition, stepped}
 use Rattle.rules.specs.Chance.{outcomes, drawn, afterDraw, rankOf}
 use Rattle.rules.specs.View.{view, lit}
 use Rattle.rules.specs.LengthKey.{lengthKey}
@@ -35,7 +35,8 @@ use Rattle.bindings.specs.declared.FlatWritten.{FlatWritten}
 use Rattle.bindings.specs.declared.FlatStepped.{FlatStepped}
 use Rattle.bindings.specs.declared.FlatDrawn.{FlatDrawn}
 use Rattle.bindings.specs.declared.FlatPart.{FlatPart}
-use Rattle.bindings.specs.Flat.{causeIn, causeNumber, eventIn, eventNumber, FlatBody, FlatStarts, Tells, FlatObserves, FlatDraws}
+use Rattle.events.specs.Causes.{causeIn, causeNumber}
+use Rattle.bindings.specs.Flat.{eventIn, eventNumber, FlatBody, FlatStarts, Tells, FlatObserves, FlatDraws}
 
 -- ---- the number of an event, read again, is the event: tried for all 640
 
@@ -182,7 +183,7 @@ one-body w i r r′ p p′ = λ k. record { start = (p .start ∙ sym (p′ .sta
 pub one-start : (s : Setting) (old new new′ : List ℕ) (r r′ : FlatWritten) → FlatStarts s old new r → FlatStarts s old new′ r′ → (r ≡ r′) × (new ≡ new′)
 one-start s old new new′ r r′ p p′ = (p .answer ∙ sym (p′ .answer), p .words ∙ sym (p′ .words))
 
-pub one-step : (x : Says Outcome) (old new new′ told tells tells′ : List ℕ) (r r′ : FlatStepped) → Tells x old new told tells r → Tells x old new′ told tells′ r′
+pub one-step : (x : Says Transition) (old new new′ told tells tells′ : List ℕ) (r r′ : FlatStepped) → Tells x old new told tells r → Tells x old new′ told tells′ r′
     → (r ≡ r′) × (new ≡ new′) × (tells ≡ tells′)
 one-step x old new new′ told tells tells′ r r′ p p′ = (p .answer ∙ sym (p′ .answer), p .words ∙ sym (p′ .words), p .events ∙ sym (p′ .events))
 

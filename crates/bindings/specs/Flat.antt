@@ -1,6 +1,6 @@
 -- What a caller's flat numbers mean, what an answer is as flat numbers, and the promises of the exported calls that write.
 -- Assumes nothing.
-use Prim.Native.Nat.{ℕ, zero, suc, _+_, _*_, _/_, _%_}
+use Prim.Native.Nat.{ℕ, _+_, _*_, _/_, _%_}
 use mathlib.Core.Bool.{Bool, true, false}
 use mathlib.Core.List.{List}
 use mathlib.Core.Option.{Option, none, some}
@@ -12,17 +12,16 @@ use Rattle.lists.specs.Choice.{_if_else_}
 use Rattle.lists.specs.Below.{eachBelow}
 use Rattle.rules.specs.Events.{blank, eight}
 use Rattle.rules.specs.Image.{imageOf}
-use Rattle.rules.specs.Step.{Outcome}
+use Rattle.rules.specs.Step.{Transition}
 use Rattle.rules.specs.View.{lit}
 use Rattle.rules.specs.Says.{Says, refuses, gives, seen, lent, Shape, box, discrete}
 use Rattle.rules.specs.Calls.{initialSays, stepSays, observeSays, Draw, drawSays, bodyAsked}
 use Rattle.image.specs.Memory.{startAsked}
+use Rattle.events.specs.Causes.{causeNumber, causeIn}
 use Rattle.rules.specs.declared.Limit.{Limit}
 use Rattle.rules.specs.declared.Limit.the-variants.{Unset, Is}
 use Rattle.rules.specs.declared.Setting.{Setting}
 use Rattle.rules.specs.declared.Weights.{Weights}
-use Rattle.rules.specs.declared.Cause.{Cause}
-use Rattle.rules.specs.declared.Cause.the-variants.{NoCause, Wall, SelfBody, OppBody, HeadOn}
 use Rattle.rules.specs.declared.Event.{Event}
 use Rattle.rules.specs.declared.Answer.{Answer}
 use Rattle.rules.specs.declared.Answer.the-variants.{Done, Refused}
@@ -68,15 +67,6 @@ weightsIn w = record {
   survival = w .survival;
 }
 
--- 1 Wall, 2 SelfBody, 3 OppBody, 4 HeadOn; any other number is no cause
-abbrev pub causeIn : ℕ → Cause
-causeIn zero = NoCause
-causeIn (suc zero) = Wall
-causeIn (suc (suc zero)) = SelfBody
-causeIn (suc (suc (suc zero))) = OppBody
-causeIn (suc (suc (suc (suc zero)))) = HeadOn
-causeIn (suc (suc (suc (suc (suc n))))) = NoCause
-
 abbrev pub isOdd : ℕ → Bool
 isOdd n = eqb (n % 2) 1
 
@@ -94,13 +84,6 @@ eventIn n = record {
 }
 
 -- ---- what an answer is as numbers: refusal 0 and what came, or the number and zeros
-
-abbrev pub causeNumber : Cause → ℕ
-causeNumber NoCause = 0
-causeNumber Wall = 1
-causeNumber SelfBody = 2
-causeNumber OppBody = 3
-causeNumber HeadOn = 4
 
 abbrev pub low : Event → ℕ
 low e = (1 if e .ate else 0) + (2 if e .died else 0) + (4 if e .killed else 0) + (8 if e .won else 0)
@@ -146,14 +129,14 @@ flatSum (refuses k) = record { refusal = k; sum = ofBits binary64 0 }
 flatSum (gives x) = record { refusal = 0; sum = x }
 
 abbrev pub noBox : ℕ → Bool → ℕ → FlatSpace
-noBox k d n = record { refusal = k; discrete = d; count = n; planes = 0; high = 0; wide = 0; low = lit false; top = lit false }
+noBox k d n = record { refusal = k; discrete = d; count = n; planes = 0; rows = 0; cols = 0; low = lit false; high = lit false }
 
 abbrev pub flatSpace : Says Shape → FlatSpace
 flatSpace (refuses k) = noBox k false 0
-flatSpace (gives (box p h w l t)) = record { refusal = 0; discrete = false; count = 0; planes = p; high = h; wide = w; low = l; top = t }
+flatSpace (gives (box p h w l t)) = record { refusal = 0; discrete = false; count = 0; planes = p; rows = h; cols = w; low = l; high = t }
 flatSpace (gives (discrete n)) = noBox 0 true n
 
-abbrev pub flatStepped : Says Outcome → FlatStepped
+abbrev pub flatStepped : Says Transition → FlatStepped
 flatStepped (refuses k) = record { refusal = k; terminal = false; words = 0 }
 flatStepped (gives o) = record { refusal = 0; terminal = o .terminal; words = length (imageOf (o .next)) }
 
@@ -186,7 +169,7 @@ unfoldable pub tellsOf : List Event → List ℕ
 tellsOf es = eachBelow 8 (λ i. eventNumber (getD es i blank))
 
 -- what x says, in the answer, the image's words and the events
-pub record Tells (x : Says Outcome) (old new told tells : List ℕ) (r : FlatStepped) : Type 0 where
+pub record Tells (x : Says Transition) (old new told tells : List ℕ) (r : FlatStepped) : Type 0 where
   pub answer : r ≡ flatStepped x
   pub words : new ≡ lent (λ o. imageOf (o .next)) old x
   pub events : tells ≡ lent (λ o. tellsOf (eight (o .events))) told x

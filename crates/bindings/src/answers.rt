@@ -7,7 +7,7 @@ use crate::FlatNumber;
 use crate::FlatSpace;
 use crate::FlatSum;
 use crate::FlatWritten;
-use crate::events::event_number;
+use crate::tells::event_number;
 use rules::Actor;
 use rules::Answer;
 use rules::Legal;
@@ -155,10 +155,10 @@ fn no_box(refusal: u8, discrete: bool, count: usize) -> FlatSpace
         discrete,
         count,
         planes: 0,
-        high: 0,
-        wide: 0,
+        rows: 0,
+        cols: 0,
         low: 0.0,
-        top: 0.0,
+        high: 0.0,
     }
 }
 
@@ -168,19 +168,19 @@ pub fn shape(a: Space) -> FlatSpace
     match a {
         Space::Box {
             planes,
-            high,
-            wide,
+            rows,
+            cols,
             low,
-            top,
+            high,
         } => FlatSpace {
             refusal: 0,
             discrete: false,
             count: 0,
             planes,
-            high,
-            wide,
+            rows,
+            cols,
             low,
-            top,
+            high,
         },
         Space::Discrete(n) => no_box(0, true, n),
         Space::Refused(no) => no_box(no, false, 0),

@@ -2,9 +2,9 @@
 // and flat records. `clients/c/lundaspro.h` declares the same records and functions. No call has a `requires`.
 mod answers;
 mod chances;
-mod events;
 mod matches;
 mod readings;
+mod tells;
 mod views;
 
 pub use chances::lundaspro_count;
@@ -118,10 +118,10 @@ pub struct FlatSpace {
     pub discrete: bool,
     pub count: usize,
     pub planes: usize,
-    pub high: usize,
-    pub wide: usize,
+    pub rows: usize,
+    pub cols: usize,
     pub low: f32,
-    pub top: f32,
+    pub high: f32,
 }
 
 // `len` words of the caller's image, from word `start` on.

@@ -1,15 +1,13 @@
 // What a caller's numbers mean: settings, weights, events.
 use crate::FlatSetting;
 use crate::FlatWeights;
-use rules::Cause;
+use events::cause_in;
 use rules::Event;
 use rules::Limit;
-use rules::RelativeAction;
 use rules::Setting;
 use rules::Weights;
 ghost use mathlib.Core.Path.{_≡_};
-ghost use Rattle.rules.specs.Headings.{actionOf};
-ghost use Rattle.bindings.specs.Flat.{isOdd, limitIn, settingIn, weightsIn, causeIn, eventIn};
+ghost use Rattle.bindings.specs.Flat.{isOdd, limitIn, settingIn, weightsIn, eventIn};
 
 fn limit_in(set: bool, number: u64) -> Limit
     ensures { λ r. ⌜ r ≡ limitIn set number ⌝ }
@@ -47,19 +45,6 @@ pub fn weights_in(w: FlatWeights) -> Weights
     }
 }
 
-fn cause_in(number: u16) -> Cause
-    ensures { λ r. ⌜ r ≡ causeIn number ⌝ }
-{
-    match number {
-        0 => Cause::NoCause,
-        1 => Cause::Wall,
-        2 => Cause::SelfBody,
-        3 => Cause::OppBody,
-        4 => Cause::HeadOn,
-        _ => Cause::NoCause,
-    }
-}
-
 fn is_odd(number: u16) -> bool
     ensures { λ r. ⌜ r ≡ isOdd number ⌝ }
 {
@@ -80,16 +65,5 @@ pub fn event_in(number: u16) -> Event
         lost: is_odd(number / 16),
         drew: is_odd(number / 32),
         survived: is_odd(number / 64),
-    }
-}
-
-// A number above 2 is read as 2.
-pub fn action_in(number: u8) -> RelativeAction
-    ensures { λ r. ⌜ r ≡ actionOf number ⌝ }
-{
-    match number {
-        0 => RelativeAction::Forward,
-        1 => RelativeAction::TurnLeft,
-        _ => RelativeAction::TurnRight,
     }
 }

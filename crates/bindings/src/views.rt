@@ -14,7 +14,6 @@ use crate::answers::marked;
 use crate::answers::shape;
 use crate::answers::sum;
 use crate::answers::written;
-use crate::readings::action_in;
 use crate::readings::event_in;
 use crate::readings::weights_in;
 ghost use mathlib.Core.Path.{_≡_};
@@ -94,6 +93,6 @@ pub extern "C" fn lundaspro_relative_to_absolute(heading: u8, action: u8) -> u8
     ensures { λ r. ⌜ r ≡ numberOf (turned (headingOf heading) (actionOf action)) ⌝ }
 {
     let h = image::heading_of(heading as u16);
-    let a = action_in(action);
+    let a = places::action_of(action as u64);
     image::number_of(arena::relative_to_absolute(h, a)) as u8
 }

@@ -18,7 +18,7 @@ use Rattle.rules.specs.State.{nobody}
 use Rattle.rules.specs.Image.{front, snakesIn, sideIn, foodStart, foodAt, stateOf}
 use Rattle.rules.specs.Facts.{Sound}
 use Rattle.rules.proofs.Parts.{state-count}
-use Rattle.rules.specs.Step.{Moved, stays, movedOf, another, onBody, causeOf, outcomeOf, stepped}
+use Rattle.rules.specs.Step.{Moved, stays, movedOf, another, onBody, causeOf, transitionOf, stepped}
 use Rattle.rules.specs.declared.Cause.the-variants.{NoCause, Wall, SelfBody, OppBody, HeadOn}
 use Rattle.rules.specs.declared.Setting.{Setting}
 use Rattle.judge.specs.declared.Move.{Move}
@@ -132,9 +132,9 @@ pub cause-judged : (w acts : List ℕ) (r : List Judged) → Judges w acts r →
 cause-judged w acts r j i l = (λ k. j .causes k i) ∙ each-at (snakesIn w) (causeOf (sideIn w) (snakesIn w) (judgedWorld w r)) NoCause i l
 
 pub stepped-by : (w acts : List ℕ) (r : List Judged) (s : Setting) → Judges w acts r
-    → stepped s (stateOf w) acts ≡ outcomeOf s (sideIn w) (snakesIn w) (foodAt w) (judgedWorld w r)
+    → stepped s (stateOf w) acts ≡ transitionOf s (sideIn w) (snakesIn w) (foodAt w) (judgedWorld w r)
 unfolding stepped stateOf
 stepped-by w acts r s j =
     let e = state-count w in
-    (λ k. outcomeOf s (sideIn w) (e k) (foodAt w) (λ i. getD (eachBelow (e k) (movedOf (stateOf w) acts)) i (stays nobody)))
-    ∙ ap (outcomeOf s (sideIn w) (snakesIn w) (foodAt w)) (sym (j .moved))
+    (λ k. transitionOf s (sideIn w) (e k) (foodAt w) (λ i. getD (eachBelow (e k) (movedOf (stateOf w) acts)) i (stays nobody)))
+    ∙ ap (transitionOf s (sideIn w) (snakesIn w) (foodAt w)) (sym (j .moved))

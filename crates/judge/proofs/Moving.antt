@@ -1,5 +1,5 @@
 -- The move by the image's words is the definition's, and stays within the image. Assumes nothing.
-use Prim.Native.Nat.{ℕ, zero, suc, _+_, _-_, _<_, _≤_}
+use Prim.Native.Nat.{ℕ, _+_, _-_, _<_, _≤_}
 use native.Mathlib.Omega.{arith}
 use native.Mathlib.Nat.{div-le-self, mod-le}
 use mathlib.Core.Path.{_≡_, refl, sym, ap, _∙_}
@@ -18,11 +18,10 @@ use Rattle.rules.specs.Places.{ahead, inside, cellOf, placeOf}
 use Rattle.rules.specs.State.{Snake}
 use Rattle.rules.specs.Image.{word, front, snakesIn, sideIn, startAt, lengthAt, headingAt, aliveAt, foodStart, bodyAt, foodAt, snakeAt, stateOf}
 use Rattle.rules.specs.Facts.{Sound}
-use Rattle.rules.proofs.Parts.{state-snake}
+use Rattle.rules.proofs.Parts.{state-snake, body-in}
 use Rattle.rules.specs.Step.{onFood, goes, stays, move, movedOf}
 use Rattle.rules.specs.declared.Heading.{Heading}
 use Rattle.rules.specs.declared.Place.{Place}
-use Rattle.rules.specs.declared.RelativeAction.the-variants.{TurnRight}
 use Rattle.places.specs.Near.{Near}
 use Rattle.image.specs.declared.SnakeRecord.{SnakeRecord}
 use Rattle.image.specs.Records.{recordAt}
@@ -44,9 +43,6 @@ module _ (w : List ℕ) (start len : ℕ) (fit : start + len ≤ length w) where
   first-cell room = let n : start + 0 ≡ start = omega arith in rw (getD-take, getD-drop, n)
 
 module _ (w : List ℕ) (s : Sound w) (i : ℕ) (l : i < snakesIn w) where
-  fits : startAt w i + lengthAt w i ≤ length w
-  fits = omega (arith, s .bodies-in i l, s .total)
-
   move-is : (a : ℕ) (b : Bool) → eqb (aliveAt w i) 1 ≡ b
       → shown w (going w (startAt w i) (lengthAt w i) (turned (headingOf (headingAt w i)) (actionOf a)) if b else staying (startAt w i) (lengthAt w i) (headingOf (headingAt w i)))
       ≡ (let h = turned (headingOf (headingAt w i)) (actionOf a) in
@@ -54,9 +50,9 @@ module _ (w : List ℕ) (s : Sound w) (i : ℕ) (l : i < snakesIn w) where
       goes (bodyAt w i) h p (onFood (sideIn w) (foodAt w) p) if b else stays (snakeAt w i))
   move-is a true e =
       let h = turned (headingOf (headingAt w i)) (actionOf a) in
-      let q = first-cell w (startAt w i) (lengthAt w i) fits (s .living i l (eqb-true _ _ e)) in
+      let q = first-cell w (startAt w i) (lengthAt w i) (body-in w s i l) (s .living i l (eqb-true _ _ e)) in
       let p : ℕ → Place = λ c. ahead h (placeOf (sideIn w) c) in
-      shown-goes w (startAt w i) (lengthAt w i) fits h (p (word w (startAt w i))) (onFood (sideIn w) (foodAt w) (p (word w (startAt w i))))
+      shown-goes w (startAt w i) (lengthAt w i) (body-in w s i l) h (p (word w (startAt w i))) (onFood (sideIn w) (foodAt w) (p (word w (startAt w i))))
       ∙ ap (λ (c : ℕ). goes (bodyAt w i) h (p c) (onFood (sideIn w) (foodAt w) (p c))) q
   move-is a false e = refl
 
@@ -95,11 +91,6 @@ module _ (w : List ℕ) (s : Sound w) (i : ℕ) (l : i < snakesIn w) where
   move-short a = omega (arith, keep-le a .1, s .lengths i l, s .area-max)
 
 -- ---- leaves
-
-pub acts-right : (a : ℕ) → (a ≡ 0 → ⊥) → (a ≡ 1 → ⊥) → actionOf a ≡ TurnRight
-acts-right zero p q = absurd (p refl)
-acts-right (suc zero) p q = absurd (q refl)
-acts-right (suc (suc a)) p q = refl
 
 module _ (g : ℕ) (food : List ℕ) (p : Place) where
   pub food-off : inside (pos g) p ≡ false → false ≡ onFood g food p

@@ -61,7 +61,7 @@ fn stopped(image: &[u16], all: [Move; 8], n: usize, i: usize, cell: u16) -> bool
     false
 }
 
-// Most heads are on no body: one search over all bodies tells that, before any is searched by itself.
+// Most heads are on no body and no food: one search over the words of both tells that, before any body is searched by itself.
 fn body_cause(image: &[u16], all: [Move; 8], n: usize, i: usize, cell: u16) -> Cause
     requires { ⌜ Sound (now image) ⌝ }
     requires { ⌜ Rests (now image) all ⌝ }

@@ -1,14 +1,13 @@
 -- What a loop over the numbers below n needs: none yet, one number more, the end; and what its result tells. Assumes nothing.
 use mathlib.Core.Path.{_≡_, refl, sym, ap, ap₂, subst, _∙_}
-use mathlib.Core.Bool.{Bool, true, false, not, _&&_, _||_, and-false, or-true}
+use mathlib.Core.Bool.{Bool, true, false, _&&_, _||_, and-false, or-true}
 use mathlib.Core.List.{List, [], _∷_, _++_, append-assoc, append-nil}
 use mathlib.Core.Logic.{⊎-elim}
 use Prim.Native.Nat.{ℕ, zero, suc, _+_, _-_, _*_, _≤_, _<_}
 use native.Mathlib.Nat.{not-suc-le-zero, le-of-suc-le-suc, eq-or-lt-of-le, le-antisymm, le-refl, sub-zero, add-zero, add-suc, mul-suc}
 use native.Mathlib.Numerals.{add-one}
 use native.Mathlib.Omega.{arith}
-use lib.Dec.{ltb}
-use lib.ListN.{length, getD, set, replicate, length-append, length-replicate, List·getD-append, List·getD-eq-default}
+use lib.ListN.{length, getD, set, replicate, length-append, List·getD-append, List·getD-eq-default}
 use lib.Seq.{ext-getD, set-at, getD-at, append-snoc}
 use Rattle.lists.specs.Choice.{bit}
 use Rattle.lists.specs.Below.{allBelow, someBelow, countBelow, sumBelow, eachBelow, concatBelow, lowestFrom, filled}

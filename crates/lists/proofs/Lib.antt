@@ -9,6 +9,7 @@ pub mod Blocks
 pub mod Concat
 pub mod Members
 pub mod Products
+pub mod Fitted
 pub mod Order
 pub mod Equal
 pub mod Lowest

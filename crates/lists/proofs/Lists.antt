@@ -1,17 +1,16 @@
 -- What a loop over a slice needs: what is left from i on (`-end`, `-here`, `-next`), or what is passed (`-taken`). Assumes nothing.
-use mathlib.Core.Path.{_≡_, refl, sym, ap, ap₂, subst, _∙_}
-use mathlib.Core.Bool.{Bool, true, false, not, cond, _&&_, _||_, and-false}
+use mathlib.Core.Path.{_≡_, refl, sym, ap, _∙_}
+use mathlib.Core.Bool.{Bool, true, false, cond, _&&_, _||_}
 use mathlib.Core.List.{List, [], _∷_, _++_}
 use Prim.Native.Nat.{ℕ, zero, suc, _+_, _-_, _≤_, _<_}
-use native.Mathlib.Nat.{not-suc-le-zero, le-of-suc-le-suc, le-refl, add-sub-cancel-left, le-of-eq}
+use native.Mathlib.Nat.{not-suc-le-zero, le-of-suc-le-suc, add-sub-cancel-left, le-of-eq}
 use native.Mathlib.Numerals.{add-one}
 use native.Mathlib.Omega.{arith}
-use lib.Dec.{eqb, leb}
+use lib.Dec.{eqb}
 use lib.ListN.{length, getD, take, drop, drop-of-length-le, length-drop, length-append, take-append-drop}
 use lib.Seq.{drop-cons, take-suc, take-all, length-take-le}
-use borrow.Author.Tests.{eq-eqb, ne-eqb, eqb-true, leb-true, le-leb}
-use Rattle.lists.specs.Choice.{bit}
-use Rattle.lists.specs.Lists.{all, any, keep, member, distinct, ascending}
+use borrow.Author.Tests.{eq-eqb, ne-eqb}
+use Rattle.lists.specs.Lists.{all, keep, member}
 use Rattle.lists.proofs.Tests.{and-left, and-right, both}
 
 -- ---- parts of a slice
@@ -57,14 +56,6 @@ module _ {A : Type 0} (p : A → Bool) (l : List A) (i : ℕ) (d : A) where
   unfolding all
   all-left h = rw (add-one, drop-cons l i d h)
 
-  pub any-end : length l ≤ i → any p (drop i l) ≡ false
-  unfolding any
-  any-end h = rw (drop-of-length-le l h)
-
-  pub any-left : i < length l → any p (drop i l) ≡ (p (getD l i d) || any p (drop (i + 1) l))
-  unfolding any
-  any-left h = rw (add-one, drop-cons l i d h)
-
 -- ---- membership
 
 module _ (x : ℕ) (l : List ℕ) (i : ℕ) where
@@ -75,9 +66,6 @@ module _ (x : ℕ) (l : List ℕ) (i : ℕ) where
   pub member-left : i < length l → member x (drop i l) ≡ (eqb x (getD l i 0) || member x (drop (i + 1) l))
   unfolding member
   member-left h = rw (add-one, drop-cons l i 0 h)
-
-  pub member-here : i < length l → x ≡ getD l i 0 → member x (drop i l) ≡ true
-  member-here h e = rw (member-left h, eq-eqb x (getD l i 0) e)
 
   pub member-next : i < length l → (x ≡ getD l i 0 → ⊥) → member x (drop i l) ≡ member x (drop (i + 1) l)
   member-next h e = rw (member-left h, ne-eqb x (getD l i 0) e)

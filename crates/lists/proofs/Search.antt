@@ -1,18 +1,15 @@
 -- What the loops of the search need. Assumes nothing.
-use Prim.Native.Nat.{ℕ, zero, suc, _+_, _<_, _≤_}
-use mathlib.Core.Path.{_≡_, refl, sym, ap, _∙_}
-use mathlib.Core.Bool.{Bool, true, false, cond, _||_, or-assoc}
-use mathlib.Core.List.{List, [], _∷_}
+use Prim.Native.Nat.{ℕ, suc, _+_, _<_}
+use mathlib.Core.Path.{_≡_, sym, ap, _∙_}
+use mathlib.Core.Bool.{Bool, true, false, _||_, or-assoc}
+use mathlib.Core.List.{List}
 use native.Mathlib.Numerals.{add-one}
-use native.Mathlib.Omega.{arith}
 use lib.Dec.{eqb}
 use lib.ListN.{length, getD, drop}
 use lib.Seq.{drop-cons}
 use borrow.Author.Tests.{eq-eqb, ne-eqb}
-use Rattle.lists.specs.Choice.{_if_else_}
 use Rattle.lists.specs.Lists.{member, place}
-use Rattle.lists.specs.Search.{foundIn, isFound}
-use Rattle.lists.specs.declared.Found.{Found}
+use Rattle.lists.specs.Search.{foundIn}
 use Rattle.lists.specs.declared.Found.the-variants.{At, Nothing}
 use Rattle.lists.proofs.Tests.{eqb-sym}
 use Rattle.lists.proofs.Lists.{member-left}
@@ -38,12 +35,3 @@ module _ (x : ℕ) (l : List ℕ) where
   pub found-at : member x l ≡ true → foundIn l x ≡ At (place x l)
   unfolding foundIn
   found-at e = rw e
-
-  chosen : (b : Bool) → isFound (At (place x l) if b else Nothing) ≡ b
-  chosen true = refl
-  chosen false = refl
-
-  -- whether it is found is whether it stands there
-  pub found-member : isFound (foundIn l x) ≡ member x l
-  unfolding foundIn
-  found-member = chosen (member x l)

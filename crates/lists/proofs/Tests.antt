@@ -110,10 +110,6 @@ pub every-on : {a : Bool} (ts : List Bool) → a ≡ true → every (a ∷ ts) �
 unfolding every
 every-on ts e = rw e
 
-pub every-none : every [] ≡ true
-unfolding every
-every-none = refl
-
 -- ---- the first number that is not 0
 
 pub first-some : (a b : ℕ) → (a ≡ 0 → ⊥) → firstOf a b ≡ a

@@ -1,8 +1,13 @@
 // What knows no snake: the definitions and laws of lists that all crates share, and the loops that are the same everywhere.
+mod numbers;
+
+pub use numbers::more_if;
+pub use numbers::product;
+pub use numbers::smaller;
 ghost use mathlib.Core.Path.{_≡_};
 ghost use mathlib.Core.Bool.{true};
 ghost use Prim.Native.Nat.{_+_, _≤_};
-ghost use lib.ListN.{length};
+ghost use lib.ListN.{length, getD};
 ghost use Rattle.lists.specs.Lists.{writeAt, member, place};
 ghost use Rattle.lists.specs.Search.{foundIn};
 
@@ -10,6 +15,16 @@ ghost use Rattle.lists.specs.Search.{foundIn};
 pub enum Found {
     At(usize),
     Nothing,
+}
+
+// The word at an index; 0 past the end, so that nothing is asked of the list.
+pub fn word_at(list: &[u16], k: usize) -> u64
+    ensures { λ r. ⌜ r ≡ getD (now (list .entry)) k 0 ⌝ }
+{
+    if k < list.len() {
+        return list[k] as u64;
+    }
+    0
 }
 
 // The words of src, written from index `at` on.

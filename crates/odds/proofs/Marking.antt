@@ -1,42 +1,27 @@
 -- The board shows the free cells of an image's state, and the numbers that a draw starts from. Assumes nothing.
-use mathlib.Core.Path.{_≡_, sym, ap, ap₂, _∙_, subst}
+use mathlib.Core.Path.{_≡_, sym, ap, ap₂, _∙_}
 use mathlib.Core.Bool.{true, false}
 use mathlib.Core.List.{List}
 use Prim.Native.Nat.{ℕ, _-_, _<_, _^_, min}
-use native.Mathlib.Nat.{lt-irrefl}
 use native.Mathlib.Omega.{arith}
 use lib.Dec.{eqb, ltb}
 use lib.ListN.{length, take, drop}
 use Rattle.lists.specs.Choice.{_if_else_}
 use Rattle.lists.specs.Boards.{Under}
-use Rattle.lists.specs.Products.{falling}
-use Rattle.lists.proofs.Tests.{ordered, less, more}
+use Rattle.lists.specs.Products.{falling, fitted}
 use Rattle.lists.proofs.Boards.{rest-under}
 use Rattle.lists.proofs.Lists.{rest-is}
 use Rattle.rules.proofs.Parts.{area-min}
 use Rattle.lists.proofs.Products.{falling-pos}
+use Rattle.lists.proofs.Fitted.{fitted-over, fitted-in, fitted-is}
 use Rattle.rules.specs.State.{State}
 use Rattle.rules.specs.Image.{front, snakesIn, dueIn, birthIn, areaIn, stateOf}
 use Rattle.rules.specs.Facts.{Sound}
 use Rattle.rules.specs.Chance.{free, drawSize, outcomes}
 use Rattle.rules.proofs.TakenWords.{free-words}
 use Rattle.odds.specs.Marks.{unmarked, Marks}
-use Rattle.odds.specs.Odds.{fitted, Stands}
+use Rattle.odds.specs.Odds.{Stands}
 use Rattle.odds.specs.declared.odds.Odds.{Odds}
-
--- ---- a number that fits 64 bits
-
-pub fitted-over : (p : ℕ) → 0 < p → fitted p ≡ 0 → ltb (2 ^ 64 - 1) p ≡ true
-unfolding fitted
-fitted-over p h e = elim (ordered (2 ^ 64 - 1) p) [ less l t ↦ t | more l t ↦ absurd (lt-irrefl 0 (subst (λ (x : ℕ). 0 < x) (rw t at e) h)) ]
-
-pub fitted-in : (p : ℕ) → (fitted p ≡ 0 → ⊥) → ltb (2 ^ 64 - 1) p ≡ false
-unfolding fitted
-fitted-in p n = elim (ordered (2 ^ 64 - 1) p) [ less l t ↦ absurd (n (rw t)) | more l t ↦ t ]
-
-pub fitted-is : (p : ℕ) → ltb (2 ^ 64 - 1) p ≡ false → fitted p ≡ p
-unfolding fitted
-fitted-is p e = rw e
 
 pub outcomes-some : (t : State) → 0 < outcomes t
 unfolding outcomes

@@ -1,40 +1,13 @@
--- What the product's loop and the digits' loop go by. Assumes nothing.
+-- What the digits' loop goes by. Assumes nothing.
 use mathlib.Core.Path.{_≡_, refl, sym, ap₂, _∙_}
 use mathlib.Core.List.{List, _∷_, _++_, append-nil}
-use Prim.Native.Nat.{ℕ, zero, suc, _+_, _-_, _*_, _/_, _%_, _≤_, _<_, _^_}
-use native.Mathlib.Nat.{div-lt-iff-lt-mul, not-suc-le-zero, le-refl, le-trans, not-le-of-lt, lt-of-not-le}
+use Prim.Native.Nat.{ℕ, zero, suc, _+_, _-_, _/_, _%_, _≤_, _<_}
+use native.Mathlib.Nat.{not-suc-le-zero, le-refl}
 use native.Mathlib.Omega.{arith}
 use lib.ListN.{length, drop, set, drop-of-length-le}
 use lib.Seq.{drop-cons, lt-length-set, getD-set-same, drop-set-lt}
-use borrow.Author.Tests.{lt-ltb, le-ltb}
-use Rattle.lists.specs.Products.{falling}
-use Rattle.lists.proofs.Products.{falling-next, falling-mono}
 use Rattle.rules.specs.Chance.{digits}
-use Rattle.odds.specs.Odds.{fitted}
 use Rattle.rules.proofs.Digits.{digits-next}
-
--- the next factor of a product that is p so far
-module _ (n k j p : ℕ) (h : j < k) (g : k ≤ n) (e : p ≡ falling n j) where
-  product-le : p * (n - j) ≤ falling n k
-  product-le = rw (e, ← (falling-next n j)) (falling-mono n (j + 1) k (omega arith) g)
-
-  -- it passes the limit: so does the whole
-  pub product-over : (2 ^ 64 - 1) / (n - j) < p → 0 ≡ fitted (falling n k)
-  unfolding fitted
-  product-over o =
-      let f : 0 < n - j = omega arith in
-      let q : 2 ^ 64 - 1 < p * (n - j) = div-lt-iff-lt-mul f .0 o in
-      rw (lt-ltb (2 ^ 64 - 1) (falling n k) (le-trans q product-le))
-
-  -- it does not
-  pub product-fits : p ≤ (2 ^ 64 - 1) / (n - j) → p * (n - j) < 2 ^ 64
-  product-fits o =
-      let f : 0 < n - j = omega arith in
-      lt-of-not-le (λ z. not-le-of-lt (div-lt-iff-lt-mul f .1 (le-trans (omega arith) z)) o)
-
-pub product-done : (n k p : ℕ) → p ≡ falling n k → p < 2 ^ 64 → p ≡ fitted (falling n k)
-unfolding fitted
-product-done n k p e h = rw (le-ltb (2 ^ 64 - 1) (falling n k) (rw (← e) (omega arith))) e
 
 -- a digit more, from the last to the first
 pub digits-turn : (n j r : ℕ) (out : List ℕ) → zero < j → j ≤ length out

@@ -1,6 +1,7 @@
 // What every call starts from: the free cells of a checked image, how many a draw takes, and the count (`chance_node`).
 use crate::board::mark_taken;
-use crate::index::product;
+use lists::product;
+use lists::smaller;
 use rules::Number;
 ghost use mathlib.Core.Path.{_≡_};
 ghost use Prim.Native.Nat.{min, _-_, _^_};
@@ -18,12 +19,6 @@ pub struct Odds {
     pub free: usize,
     pub size: usize,
     pub count: u64,
-}
-
-fn smaller(a: usize, b: usize) -> usize
-    ensures { λ r. ⌜ r ≡ min a b ⌝ }
-{
-    if a < b { a } else { b }
 }
 
 // One cell at birth, else as many as are due; no more than are free.

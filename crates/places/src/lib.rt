@@ -1,11 +1,12 @@
-// Headings, and places: a row and a column, perhaps off the grid. Signed numbers are met here and where snakes are placed, nowhere else.
+// Headings, actions by number, and places: a row and a column, perhaps off the grid. Signed numbers are met here and where snakes are placed, nowhere else.
 use rules::Heading;
 use rules::Place;
+use rules::RelativeAction;
 ghost use mathlib.Core.Path.{_≡_};
 ghost use Prim.Native.Nat.{_<_, _≤_};
 ghost use lib.IntN.{pos, sucℤ, predℤ, natAbs};
 ghost use lib.Signed.{mag};
-ghost use Rattle.rules.specs.Headings.{clockwise, counterclockwise};
+ghost use Rattle.rules.specs.Headings.{clockwise, counterclockwise, actionOf};
 ghost use Rattle.rules.specs.Places.{ahead, inside, sameZ, same, cellOf, placeOf};
 ghost use Rattle.places.specs.Near.{Near, Plain};
 
@@ -44,6 +45,17 @@ pub fn counterclockwise(heading: Heading) -> Heading
         Heading::Left => Heading::Down,
         Heading::Down => Heading::Right,
         Heading::Right => Heading::Up,
+    }
+}
+
+// A number above 2 is read as 2.
+pub fn action_of(number: u64) -> RelativeAction
+    ensures { λ r. ⌜ r ≡ actionOf number ⌝ }
+{
+    match number {
+        0 => RelativeAction::Forward,
+        1 => RelativeAction::TurnLeft,
+        _ => RelativeAction::TurnRight,
     }
 }
 
@@ -122,7 +134,7 @@ pub fn signed(x: u16) -> i32
     x as i32
 }
 
-// The same for a side of 16 bits.
+// Whether a place is inside a grid whose side has 16 bits.
 pub fn on_grid(g: u16, p: Place) -> bool
     ensures { λ r. ⌜ r ≡ inside (pos g) p ⌝ }
 {
@@ -136,7 +148,7 @@ pub fn cell_of(g: u16, p: Place) -> u16
 {
     let row = p.row;
     let col = p.col;
-    if is_inside(signed(g), p) {
+    if on_grid(g, p) {
         return plain(row) * g + plain(col);
     }
     0

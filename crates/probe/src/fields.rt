@@ -1,5 +1,5 @@
 // The parts of calls, read from a line's fields: numbers, words and events.
-use rules::Cause;
+use events::cause_in;
 use rules::Event;
 use text::Num;
 use text::next_number;
@@ -76,22 +76,15 @@ pub fn words_in(values: &[u64], from: usize, words: &mut [u16]) -> usize {
     NOWHERE
 }
 
-fn cause_of(v: u64) -> Cause {
-    match v {
-        1 => Cause::Wall,
-        2 => Cause::SelfBody,
-        3 => Cause::OppBody,
-        4 => Cause::HeadOn,
-        _ => Cause::NoCause,
-    }
-}
-
 // E: eight numbers, the third a cause and the rest flags.
 pub fn event_in(e: &[u64]) -> Told {
     if e.len() != 8 {
         return Told::NoEvent;
     }
     let cause = e[2];
+    if 4 < cause {
+        return Told::NoEvent;
+    }
     let a = e[0];
     let d = e[1];
     let k = e[3];
@@ -99,7 +92,7 @@ pub fn event_in(e: &[u64]) -> Told {
     let l = e[5];
     let x = e[6];
     let y = e[7];
-    let early = (a <= 1) & (d <= 1) & (cause <= 4) & (k <= 1);
+    let early = (a <= 1) & (d <= 1) & (k <= 1);
     let late = (w <= 1) & (l <= 1) & (x <= 1) & (y <= 1);
     if !(early & late) {
         return Told::NoEvent;
@@ -107,7 +100,7 @@ pub fn event_in(e: &[u64]) -> Told {
     Told::Tells(Event {
         ate: a == 1,
         died: d == 1,
-        cause: cause_of(cause),
+        cause: cause_in(cause as u16),
         killed: k == 1,
         won: w == 1,
         lost: l == 1,

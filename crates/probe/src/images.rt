@@ -4,6 +4,7 @@ use crate::writing::put;
 use crate::writing::put_number;
 use crate::writing::put_words;
 use crate::writing::refuse;
+use lists::word_at;
 
 // `x W`
 pub fn well_formed_line(words: &[u16], text: &mut [u8], at: usize) -> usize {
@@ -13,25 +14,18 @@ pub fn well_formed_line(words: &[u16], text: &mut [u8], at: usize) -> usize {
     refuse(text, at, 20, true)
 }
 
-fn word(words: &[u16], k: usize) -> u64 {
-    if k < words.len() {
-        return words[k] as u64;
-    }
-    0
-}
-
 // The start word of a snake's record; 0 for a malformed image or no such snake.
 fn start_of(words: &[u16], snake: u64) -> u64 {
     if !arena::well_formed(words) {
         return 0;
     }
-    if word(words, 0) <= snake {
+    if word_at(words, 0) <= snake {
         return 0;
     }
     if 7 < snake {
         return 0;
     }
-    word(words, 5 + 4 * snake as usize)
+    word_at(words, 5 + 4 * snake as usize)
 }
 
 // `b SNAKE W`

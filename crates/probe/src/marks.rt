@@ -1,18 +1,8 @@
 // Events as text.
 use crate::writing::put_each;
+use events::cause_number;
 use image::flag;
-use rules::Cause;
 use rules::Event;
-
-fn number_of(cause: Cause) -> u16 {
-    match cause {
-        Cause::NoCause => 0,
-        Cause::Wall => 1,
-        Cause::SelfBody => 2,
-        Cause::OppBody => 3,
-        Cause::HeadOn => 4,
-    }
-}
 
 // E, an event's eight numbers.
 pub fn put_event(text: &mut [u8], at: usize, e: Event) -> usize {
@@ -20,7 +10,7 @@ pub fn put_event(text: &mut [u8], at: usize, e: Event) -> usize {
     let told = [
         flag(e.ate),
         flag(e.died),
-        number_of(cause),
+        cause_number(cause),
         flag(e.killed),
         flag(e.won),
         flag(e.lost),

@@ -6,7 +6,7 @@ use crate::writing::put_number;
 use crate::writing::refuse;
 use image::heading_of;
 use image::number_of;
-use rules::RelativeAction;
+use places::action_of;
 use rules::Space;
 use text::Grid;
 use text::grid_in;
@@ -15,15 +15,15 @@ fn put_space(text: &mut [u8], at: usize, space: Space) -> usize {
     match space {
         Space::Box {
             planes,
-            high,
-            wide,
+            rows,
+            cols,
             low: _,
-            top: _,
+            high: _,
         } => {
             let a = put(text, at, b'a');
             let b = put_number(text, a, planes as u64);
-            let c = put_number(text, b, high as u64);
-            let d = put_number(text, c, wide as u64);
+            let c = put_number(text, b, rows as u64);
+            let d = put_number(text, c, cols as u64);
             put(text, d, b'\n')
         }
         Space::Discrete(n) => answer_number(text, at, n as u64),
@@ -45,14 +45,6 @@ pub fn action_space_line(letter: u8, text: &mut [u8], at: usize) -> usize {
         return letter_line(text, at, b'e');
     }
     put_space(text, at, arena::action_space())
-}
-
-fn action_of(v: u64) -> RelativeAction {
-    match v {
-        0 => RelativeAction::Forward,
-        1 => RelativeAction::TurnLeft,
-        _ => RelativeAction::TurnRight,
-    }
 }
 
 // `h HEADING ACTION`

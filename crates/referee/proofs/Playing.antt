@@ -14,12 +14,12 @@ use Rattle.lists.proofs.Writes.{write-front}
 use Rattle.rules.specs.State.{State, count}
 use Rattle.rules.specs.Image.{imageOf, snakesIn}
 use Rattle.rules.specs.Says.{Says, refuses, gives, seen, lent}
-use Rattle.rules.specs.Step.{Outcome}
+use Rattle.rules.specs.Step.{Transition}
 use Rattle.rules.specs.Events.{blank, eight}
 use Rattle.rules.specs.declared.Event.{Event}
 use Rattle.rules.proofs.Image.{snakes-is}
 use Rattle.text.specs.Lines.{readLater}
-use Rattle.text.specs.Text.{lineText, refusalText}
+use Rattle.letters.specs.Text.{lineText, refusalText}
 use Rattle.standing.specs.Shown.{lineShown, markShown}
 use Rattle.referee.specs.Match.{Turn, marked, movedTurn, eventsShown, asked, beginSays, turnSays, lineSays, closeText, Stops, Shows, Plays}
 use Rattle.standing.specs.Standing.{snakesOf, endsBy, moved, endText}
@@ -73,7 +73,7 @@ pub few-in : (t : State) (w : List ℕ) → w ≡ imageOf t → count t ≤ 8 �
 few-in t w e h = rw (e, snakes-is t) h
 
 -- the line of a move: its events are marked where max_ticks ends the match
-pub shown-move : (m : Match) (o : Outcome) (old new out exit : List ℕ) (r : Turned) (w : List ℕ) → w ≡ imageOf (o .next) → new ≡ overFront (imageOf (o .next)) old → length (imageOf (o .next)) ≤ length old
+pub shown-move : (m : Match) (o : Transition) (old new out exit : List ℕ) (r : Turned) (w : List ℕ) → w ≡ imageOf (o .next) → new ≡ overFront (imageOf (o .next)) old → length (imageOf (o .next)) ≤ length old
     → (over : Bool) (es : List Event) → over ≡ o .terminal → es ≡ eight (o .events)
     → Shows (moved m over es) 109 over w (eventsShown m over w es) out exit r → Plays (gives (movedTurn m o)) m old new out exit r
 unfolding movedTurn

@@ -1,7 +1,7 @@
 -- What a call that is not refused tells: its image has at most eight snakes and fits. Assumes nothing.
 use Prim.Native.Nat.{ℕ, _≤_}
 use native.Mathlib.Omega.{arith}
-use mathlib.Core.Path.{_≡_, refl, ap}
+use mathlib.Core.Path.{_≡_, ap}
 use mathlib.Core.Bool.{true}
 use mathlib.Core.List.{List}
 use lib.Dec.{ltb}
@@ -12,7 +12,7 @@ use Rattle.lists.proofs.Below.{each-long}
 use Rattle.rules.specs.State.{State, count}
 use Rattle.rules.specs.Image.{imageOf, stateOf, wellFormed}
 use Rattle.rules.specs.Setting.{startSnake, initialState}
-use Rattle.rules.specs.Step.{Outcome, outcomeOf, stepped}
+use Rattle.rules.specs.Step.{Transition, transitionOf, stepped}
 use Rattle.rules.specs.Chance.{drawn, afterDraw}
 use Rattle.rules.specs.Says.{Says, refuses, gives, seen}
 use Rattle.rules.specs.Calls.{initialSays, stepSays, Draw, drawSays}
@@ -25,13 +25,6 @@ use Rattle.rules.proofs.Parts.{state-count}
 -- ---- an answer seen through f
 
 module _ {A : Type 0} where
-  pub data Gave (x : Says A) (f : A → ℕ) (n : ℕ) : Type 0 where
-    gave : (a : A) → x ≡ gives a → n ≡ f a → Gave x f n
-
-  pub gave-by : (x : Says A) (f : A → ℕ) (n : ℕ) → gives n ≡ seen f x → Gave x f n
-  gave-by (refuses k) f n e = let z : _≡_ {A = ℕ} 0 1 = cc in absurd (omega arith)
-  gave-by (gives a) f n e = let p : n ≡ f a = cc in gave a refl p
-
   pub refused-by : (x : Says A) (f : A → ℕ) (k : ℕ) → refuses k ≡ seen f x → x ≡ refuses k
   refused-by (refuses j) f k e = let p : j ≡ k = cc in ap (λ (i : ℕ). refuses i) p
   refused-by (gives a) f k e = let z : _≡_ {A = ℕ} 0 1 = cc in absurd (omega arith)
@@ -52,13 +45,13 @@ initial-fits s room t e =
 
 -- a step keeps the snakes
 snakes-kept : (s : Setting) (t : State) (acts : List ℕ) → count (stepped s t acts .next) ≡ count t
-unfolding stepped outcomeOf
+unfolding stepped transitionOf
 snakes-kept s t acts = each-long (count t) _
 
 well-few : (w : List ℕ) → wellFormed w ≡ true → count (stateOf w) ≤ 8
 well-few w e = let ok = sound w e in omega (arith, state-count w, ok .snakes-max)
 
-pub step-fits : (s : Setting) (w acts : List ℕ) (room : ℕ) (o : Outcome) → stepSays s w acts room ≡ gives o → Fits (o .next) room
+pub step-fits : (s : Setting) (w acts : List ℕ) (room : ℕ) (o : Transition) → stepSays s w acts room ≡ gives o → Fits (o .next) room
 unfolding stepSays
 step-fits s w acts room o e =
     let n = stepped s (stateOf w) acts in

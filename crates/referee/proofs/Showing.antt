@@ -11,12 +11,12 @@ use lib.Seq.{getD-drop, getD-take}
 use Rattle.lists.specs.Below.{filled}
 use Rattle.lists.proofs.Below.{each-ext, concat-ext}
 use Rattle.rules.specs.State.{State, count, snakeOf}
-use Rattle.rules.specs.Image.{word, lengthAt, aliveAt, startAt, bodyOf, imageOf}
+use Rattle.rules.specs.Image.{lengthAt, aliveAt, startAt, bodyOf, imageOf}
 use Rattle.rules.specs.Events.{blank}
 use Rattle.rules.specs.Turns.{truncated}
 use Rattle.rules.specs.declared.Event.{Event}
 use Rattle.rules.proofs.Image.{alive-is, length-is, body-is, bit-back}
-use Rattle.text.specs.Text.{firstText, bodyText, snakeText, headText, lineText}
+use Rattle.letters.specs.Text.{firstText, bodyText, snakeText, headText, lineText}
 use Rattle.standing.specs.Shown.{snakeShown, snakeShownBy, lineShown, markShown}
 use Rattle.referee.specs.Match.{markedAt, marked}
 

@@ -13,7 +13,7 @@ use Rattle.rules.specs.Says.{Says, refuses, gives}
 use Rattle.text.specs.Fields.{upTo}
 use Rattle.text.specs.Lines.{readFirst, readLater}
 use Rattle.text.specs.Split.{linesOf}
-use Rattle.text.specs.Text.{Wrote}
+use Rattle.letters.specs.Text.{Wrote}
 use Rattle.referee.specs.Match.{Turn, openedBy, beginSays, turnSays, said, lineSays, closeText, Plays, onward, playOn, played, replayOf}
 use Rattle.standing.specs.Standing.{snakesOf}
 use Rattle.referee.specs.Run.{Took, Closed, deskAfter, Run, holds, goes, stops, ends, goes-last, stops-last}

@@ -1,14 +1,14 @@
 -- The match as a value, what each line does to it, and the whole replay (01, 'Replay'). Assumes nothing.
 use Prim.Native.Nat.{ℕ, _+_}
 use mathlib.Core.Path.{_≡_}
-use mathlib.Core.Bool.{Bool, true, false, not}
+use mathlib.Core.Bool.{Bool, true, false}
 use mathlib.Core.List.{List, [], _∷_, _++_}
 use lib.ListN.{length, getD, take, replicate}
 use Rattle.lists.specs.Choice.{_if_else_}
 use Rattle.lists.specs.Below.{filled}
 use Rattle.rules.specs.State.{State, count, snakeOf}
 use Rattle.rules.specs.Image.{imageOf, snakesIn}
-use Rattle.rules.specs.Step.{Outcome}
+use Rattle.rules.specs.Step.{Transition}
 use Rattle.rules.specs.Events.{blank, eight}
 use Rattle.rules.specs.Turns.{truncated}
 use Rattle.rules.specs.Says.{Says, refuses, gives, seen, beside, lent}
@@ -19,7 +19,7 @@ use Rattle.text.specs.Lines.{readFirst, readLater}
 use Rattle.text.specs.Split.{linesOf}
 use Rattle.standing.specs.Shown.{lineShown, markShown}
 use Rattle.standing.specs.Standing.{snakesOf, endsBy, moved, endText}
-use Rattle.text.specs.Text.{lineText, refusalText, Wrote}
+use Rattle.letters.specs.Text.{lineText, refusalText, Wrote}
 use Rattle.text.specs.declared.First.{First}
 use Rattle.text.specs.declared.First.the-variants.{NoFirst, Opens}
 use Rattle.text.specs.declared.Line.{Line}
@@ -56,12 +56,12 @@ openedBy (Opens s) room = seen (opened s) (initialSays s room)
 unfoldable pub beginSays : List ℕ → ℕ → Says Turn
 beginSays line room = openedBy (readFirst line) room
 
--- ---- a draw: 'Draws do not count'
+-- ---- a draw: it is no move, so that the match stands as before; its line begins with `d`, 100
 
 abbrev pub drawnTurn : Match → Draw → Turn
 drawnTurn m d = record { next = d .next; game = m; text = lineText 100 false (d .next) (eight []) }
 
--- ---- a move
+-- ---- a move: its line begins with `m`, 109
 
 -- 'marks the living y'
 abbrev pub markedAt : State → List Event → ℕ → Event
@@ -71,7 +71,7 @@ abbrev pub marked : State → List Event → List Event
 marked t es = filled (markedAt t es) (count t) 8 blank
 
 -- 'marks the living y and ends the match; its line still shows terminal 0'
-unfoldable pub movedTurn : Match → Outcome → Turn
+unfoldable pub movedTurn : Match → Transition → Turn
 movedTurn m o =
     let es = eight (o .events) in
     record {

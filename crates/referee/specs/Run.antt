@@ -6,7 +6,7 @@ use mathlib.Core.List.{List, [], _∷_, _++_}
 use lib.ListN.{length, take}
 use Rattle.text.specs.Fields.{upTo}
 use Rattle.text.specs.Split.{Holds}
-use Rattle.text.specs.Text.{Wrote}
+use Rattle.letters.specs.Text.{Wrote}
 use Rattle.referee.specs.Match.{lineSays, closeText, Plays}
 use Rattle.referee.specs.declared.Desk.{Desk}
 use Rattle.referee.specs.declared.Turned.{Turned}

@@ -6,8 +6,6 @@ pub use play::close;
 pub use play::new_desk;
 pub use play::take_line;
 use standing::Match;
-pub use turns::begin;
-pub use turns::turn;
 
 // What a line did: whether the match goes on, the match, how many words the next image has, how many bytes were printed.
 pub struct Turned {

@@ -3,16 +3,16 @@ use crate::Desk;
 use crate::Turned;
 use crate::turns::begin;
 use crate::turns::turn;
+use letters::put_refusal;
 use rules::Limit;
 use rules::Setting;
 use standing::Match;
 use standing::put_end;
-use text::put_refusal;
 ghost use mathlib.Core.Path.{_≡_};
 ghost use mathlib.Core.Bool.{false};
 ghost use Prim.Native.Nat.{_≤_};
 ghost use lib.ListN.{length, take};
-ghost use Rattle.text.specs.Text.{Wrote};
+ghost use Rattle.letters.specs.Text.{Wrote};
 ghost use Rattle.referee.specs.Match.{lineSays, closeText, Plays};
 
 // Before the first line.

@@ -1,7 +1,6 @@
 // The replay: lines from standard input, of any number, to standard output. `reader` takes what is read here.
 use libc::STDIN_FILENO;
 use reader::Reader;
-ghost use lib.ListN.{length};
 ghost use Rattle.reader.specs.Room.{Ready};
 
 // The reader, and whether more may come.

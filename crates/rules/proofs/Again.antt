@@ -1,8 +1,8 @@
 -- What calls answer is well-formed again, so that calls chain. Assumes nothing.
 use mathlib.Core.Path.{_≡_}
-use mathlib.Core.Bool.{Bool, true}
+use mathlib.Core.Bool.{true}
 use mathlib.Core.List.{List}
-use Prim.Native.Nat.{ℕ, _<_, _≤_}
+use Prim.Native.Nat.{ℕ, _<_}
 use native.Mathlib.Nat.{le-trans}
 use lib.Dec.{ltb}
 use borrow.Author.Tests.{ltb-true}
@@ -10,7 +10,7 @@ use Rattle.lists.specs.Lists.{member}
 use Rattle.lists.proofs.Members.{all-member}
 use Rattle.rules.specs.State.{State, area}
 use Rattle.rules.specs.Image.{imageOf, stateOf, wellFormed}
-use Rattle.rules.specs.Facts.{Sound, Holdable}
+use Rattle.rules.specs.Facts.{Holdable}
 use Rattle.rules.specs.Chance.{outcomes, afterDraw}
 use Rattle.rules.proofs.Facts.{sound}
 use Rattle.rules.proofs.Holdable.{image-well-formed, holds-state}

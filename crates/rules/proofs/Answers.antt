@@ -1,12 +1,12 @@
 -- Two answers that meet one promise are equal, and so are the lent buffers: for each public call. Assumes nothing.
 use mathlib.Core.Path.{_≡_, refl, sym, ap, _∙_}
-use mathlib.Core.Bool.{Bool, true, false}
+use mathlib.Core.Bool.{Bool}
 use mathlib.Core.List.{List}
 use Prim.Native.Nat.{ℕ}
 use native.Mathlib.Omega.{arith}
 use lib.IntN.{ℤ}
 use lib.Ieee.{Float}
-use Rattle.rules.specs.Says.{Says, refuses, gives, says, saysVerdict, saysNumber, saysKey, saysActor, saysLegal, saysMark, saysSum, saysSpace}
+use Rattle.rules.specs.Says.{says, saysVerdict, saysNumber, saysKey, saysActor, saysLegal, saysMark, saysSum, saysSpace}
 use Rattle.rules.specs.Promises.{Turns, Checks, Validates, Starts, Steps, Observes, Counts, Draws, Ranks, ActsNext, Allows, Keys, Truncates, Rewards, ObservationSpace, ActionSpace, Parts}
 use Rattle.rules.specs.declared.Heading.{Heading}
 use Rattle.rules.specs.declared.RelativeAction.{RelativeAction}

@@ -16,18 +16,9 @@ use Rattle.lists.proofs.Order.{member-insert}
 use Rattle.lists.proofs.Lowest.{lowest-is}
 use Rattle.rules.specs.State.{State, area}
 use Rattle.rules.specs.Chance.{taken, free, outcomes, drawn, withFood, afterDraw}
-use Rattle.rules.specs.Births.{afterDraws, chainDraws}
+use Rattle.rules.specs.Births.{afterDraws, chainDraws, Ends, InRange}
 use Rattle.rules.proofs.FreeCells.{free-ext, from-without}
 use Rattle.rules.proofs.Fairness.{born, born-full, birth-count}
-
--- k draws leave no food due, and fewer do not
-pub record Ends (index : ℕ → ℕ) (t : State) (k : ℕ) : Type 0 where
-  pub last : afterDraws index k t .due ≡ 0
-  pub before : (j : ℕ) → j < k → 0 < afterDraws index j t .due
-
--- each index is below the count of the state that it is drawn in
-abbrev pub InRange : (ℕ → ℕ) → State → Type 0
-InRange index t = (j : ℕ) → 0 < afterDraws index j t .due → index j < outcomes (afterDraws index j t)
 
 -- after a birth draw the free cells are those before it less the cell drawn
 pub free-born : (t : State) (i : ℕ) → t .birth ≡ true → i < length (free t) → free (afterDraw t i) ≡ without (getD (free t) i 0) (free t)

@@ -20,7 +20,7 @@ asked n g k lead f = record { snakes = n; grid = g; size = k; last = false; lead
 abbrev largest : ℕ
 largest = 18446744073709551615
 
--- ---- 'A trace is blocked by the edge alone', 'All bodies are traced before any cell is judged'
+-- ---- a trace is blocked by the edge alone, and all bodies are traced before any cell is judged
 
 pub over-itself : settingCheck (asked 3 (pos 4) 3 Unset 0) ≡ 11
 unfolding settingCheck someBelow concatBelow any falling unblocked trail placed badCell fault

@@ -3,23 +3,25 @@ use Prim.Native.Nat.{ℕ, zero, suc, _+_, _-_, _^_, _<_, _≤_, min}
 use native.Mathlib.Nat.{le-refl, le-trans, not-suc-le-zero, le-of-suc-le-suc}
 use native.Mathlib.Omega.{arith}
 use mathlib.Core.Path.{_≡_, refl, sym, ap, subst, _∙_}
-use mathlib.Core.Bool.{Bool, true, false, not, _||_}
+use mathlib.Core.Bool.{true, false}
 use mathlib.Core.List.{List}
 use lib.Dec.{ltb, eqb}
 use lib.ListN.{length, take}
 use borrow.Author.Tests.{ltb-true, le-ltb, ne-eqb, not-false}
-use Rattle.lists.specs.Choice.{_if_else_}
 use Rattle.lists.specs.Below.{countBelow}
 use Rattle.lists.specs.Lists.{overFront, member, distinct}
 use Rattle.lists.specs.Equal.{sameList}
 use Rattle.lists.specs.Products.{falling, factorial}
 use Rattle.lists.proofs.Below.{count-ext}
 use Rattle.lists.proofs.Insert.{over-take}
+use Rattle.lists.proofs.Tables.{row-out}
 use Rattle.rules.specs.State.{State}
 use Rattle.rules.specs.Image.{dueIn, imageOf, stateOf, wellFormed}
 use Rattle.rules.specs.Chance.{free, drawSize, outcomes, drawn, withFood, afterDraw, rankOf, canRank}
-use Rattle.rules.specs.Births.{afterDraws}
-use Rattle.rules.specs.Says.{Says, refuses, gives, seen, beside, lent, says, byTable}
+use Rattle.rules.specs.Fair.{Fair, DrawWrote, Changed, Drawing}
+use Rattle.rules.specs.Births.{afterDraws, Ends, InRange}
+use Rattle.rules.specs.Says.{gives, seen, beside, lent, says, byTable}
+use Rattle.rules.specs.Orders.{drawOrder}
 use Rattle.rules.specs.Calls.{Draw, countSays, drawSays, rankSays}
 use Rattle.rules.specs.Promises.{Counts, Draws, Ranks}
 use Rattle.rules.specs.declared.Number.{Number}
@@ -28,11 +30,12 @@ use Rattle.rules.specs.declared.Drawn.{Drawn}
 use Rattle.rules.specs.declared.Answer.the-variants.{Done}
 use Rattle.rules.proofs.Answers.{number-one}
 use Rattle.rules.proofs.Facts.{sound}
+use Rattle.rules.proofs.Tables.{table-gives, seen-none}
 use Rattle.rules.proofs.Image.{state-back}
 use Rattle.rules.proofs.Parts.{state-food}
 use Rattle.rules.proofs.DrawFacts.{after-due}
-use Rattle.rules.proofs.Fairness.{Fair, fair, settled}
-use Rattle.rules.proofs.Births.{Ends, InRange, chain-ends}
+use Rattle.rules.proofs.Fairness.{fair, settled}
+use Rattle.rules.proofs.Births.{chain-ends}
 
 pub fair-image : (w : List ℕ) → wellFormed w ≡ true → Fair (stateOf w)
 fair-image w ok = fair (stateOf w) (state-food w (sound w ok))
@@ -63,10 +66,6 @@ module _ (w : List ℕ) (ok : wellFormed w ≡ true) (due : 0 < dueIn w) (fits :
 
 -- ---- a draw that is answered
 
-not-refused : {A B : Type 0} (f : A → B) (b : Bool) (k : ℕ) (x : Says A) (n : B) → seen f (refuses k if b else x) ≡ gives n → (b ≡ false) × (seen f x ≡ gives n)
-not-refused f true k x n e = let z : _≡_ {A = ℕ} 0 1 = cc in absurd (omega arith)
-not-refused f false k x n e = (refl, e)
-
 pub record Answered (w : List ℕ) (i : ℕ) (old new list cells : List ℕ) (n k : ℕ) : Type 0 where
   pub formed : wellFormed w ≡ true
   pub below : i < outcomes (stateOf w)
@@ -81,43 +80,27 @@ module _ (w : List ℕ) (i : ℕ) (old new list cells : List ℕ) (r : Drawn) (p
 
   -- it was lawful, and the buffers hold the next image and the ordered list
   pub draw-answers : Answered w i old new list cells n (r .cells)
-  unfolding drawSays drawing byTable
+  unfolding drawSays drawing
   draw-answers =
       let f : Draw → ℕ = λ d. length (imageOf (d .next)) in
       let t = stateOf w in
+      let rows = drawOrder w i (length old) (length list) in
       let e : seen f (drawSays w i (length old) (length list)) ≡ gives n = sym (p .answer) ∙ ap says done in
-      let a = not-refused f (not (wellFormed w)) 20 _ n e in
-      let b = not-refused f (eqb (dueIn w) 0) 23 _ n (a .1) in
-      let c = not-refused f (ltb (2 ^ 64 - 1) (outcomes t)) 28 _ n (b .1) in
-      let d = not-refused f (not (ltb i (outcomes t))) 27 _ n (c .1) in
-      let g = not-refused f (ltb (length old) (length (imageOf (afterDraw t i))) || ltb (length list) (length (drawn t i))) 29 (gives drawing) n (d .1) in
-      let q : drawSays w i (length old) (length list) ≡ gives drawing = rw (a .0, b .0, c .0, d .0, g .0) in
+      let none = seen-none f rows drawing n e in
+      let q : drawSays w i (length old) (length list) ≡ gives drawing = table-gives rows (gives drawing) none in
       record {
-        formed = not-false (wellFormed w) (a .0);
-        below = ltb-true i (outcomes t) (not-false (ltb i (outcomes t)) (d .0));
+        formed = not-false (wellFormed w) (row-out rows 0 none);
+        below = ltb-true i (outcomes t) (not-false (ltb i (outcomes t)) (row-out rows 3 none));
         words = p .words ∙ ap (lent (λ (d : Draw). imageOf (d .next)) old) q;
         drawn-list = p .list ∙ ap (lent (λ (d : Draw). d .cells) list) q;
         long = let z : seen f (gives drawing) ≡ gives n = sym (ap (seen f) q) ∙ e in cc;
         many = p .cells ∙ ap (beside (λ (d : Draw). length (d .cells)) 0) q;
       }
 
--- a draw that is answered: the image and the list are the words that it says it wrote
-pub record Written (w : List ℕ) (i : ℕ) (image list : List ℕ) : Type 0 where
-  pub old : List ℕ
-  pub new : List ℕ
-  pub lent-list : List ℕ
-  pub cells : List ℕ
-  pub answer : Drawn
-  pub count : ℕ
-  pub meets : Draws w i old new lent-list cells answer
-  pub done : answer .answer ≡ Done count
-  pub image-is : image ≡ take count new
-  pub list-is : list ≡ take (answer .cells) cells
-
 front-is : (s old new : List ℕ) (n : ℕ) → new ≡ overFront s old → n ≡ length s → take n new ≡ s
 front-is s old new n e q = rw (q, e) (over-take s old)
 
-module _ (w : List ℕ) (i : ℕ) (image list : List ℕ) (d : Written w i image list) where
+module _ (w : List ℕ) (i : ℕ) (image list : List ℕ) (d : DrawWrote w i image list) where
   answered : Answered w i (d .old) (d .new) (d .lent-list) (d .cells) (d .count) (d .answer .cells)
   answered = draw-answers w i (d .old) (d .new) (d .lent-list) (d .cells) (d .answer) (d .meets) (d .count) (d .done)
 
@@ -138,40 +121,32 @@ module _ (w : List ℕ) (i : ℕ) (image list : List ℕ) (d : Written w i image
 
 module _ (w : List ℕ) (ok : wellFormed w ≡ true) where
   -- an index draws k different free cells, and its list can be ranked
-  pub list-fair : (i : ℕ) (image list : List ℕ) → Written w i image list
+  pub list-fair : (i : ℕ) (image list : List ℕ) → DrawWrote w i image list
       → (length list ≡ drawSize (stateOf w)) × (distinct list ≡ true) × ((c : ℕ) → member c list ≡ true → member c (free (stateOf w)) ≡ true) × (canRank (stateOf w) list ≡ true)
   list-fair i image list d =
       let h = written-below w i image list d in
       rw (written-list w i image list d) (fair-image w ok .long i h, fair-image w ok .once i h, fair-image w ok .among i h, fair-image w ok .rankable i h)
 
   -- each list of k different free cells is what the draw of its rank lists
-  pub list-forth : (l image list : List ℕ) → canRank (stateOf w) l ≡ true → Written w (rankOf (stateOf w) l) image list → list ≡ l
+  pub list-forth : (l image list : List ℕ) → canRank (stateOf w) l ≡ true → DrawWrote w (rankOf (stateOf w) l) image list → list ≡ l
   list-forth l image list h d = written-list w (rankOf (stateOf w) l) image list d ∙ fair-image w ok .forth l h
 
   -- two indices that list the same cells in the same order are one
-  pub list-one : (i j : ℕ) (image other list : List ℕ) → Written w i image list → Written w j other list → i ≡ j
+  pub list-one : (i j : ℕ) (image other list : List ℕ) → DrawWrote w i image list → DrawWrote w j other list → i ≡ j
   list-one i j image other list d e =
       sym (fair-image w ok .back i (written-below w i image list d))
       ∙ ap (rankOf (stateOf w)) (sym (written-list w i image list d) ∙ written-list w j other list e)
       ∙ fair-image w ok .back j (written-below w j other list e)
 
   -- each set of k free cells is added by exactly k! of the indices below P
-  pub sets-fair : (image list : ℕ → List ℕ) → ((i : ℕ) → i < outcomes (stateOf w) → Written w i (image i) (list i)) → (s : List ℕ) → canRank (stateOf w) s ≡ true
+  pub sets-fair : (image list : ℕ → List ℕ) → ((i : ℕ) → i < outcomes (stateOf w) → DrawWrote w i (image i) (list i)) → (s : List ℕ) → canRank (stateOf w) s ≡ true
       → countBelow (outcomes (stateOf w)) (λ i. sameList (stateOf (image i) .food) (withFood (stateOf w .food) s)) ≡ factorial (drawSize (stateOf w))
   sets-fair image list d s h =
       count-ext (outcomes (stateOf w)) (λ i. sameList (stateOf (image i) .food) (withFood (stateOf w .food) s)) (λ i. sameList (afterDraw (stateOf w) i .food) (withFood (stateOf w .food) s))
       (λ i l. ap (λ (t : State). sameList (t .food) (withFood (stateOf w .food) s)) (written-state w i (image i) (list i) (d i l)))
       ∙ fair-image w ok .sets s h
 
--- nothing changes but the food and what is due, which becomes 0; the food is the old food and the cells drawn
-pub record Changed (w image list : List ℕ) : Type 0 where
-  pub side : stateOf image .side ≡ stateOf w .side
-  pub snakes : stateOf image .snakes ≡ stateOf w .snakes
-  pub birth : stateOf image .birth ≡ stateOf w .birth
-  pub due : stateOf image .due ≡ 0
-  pub food : stateOf image .food ≡ withFood (stateOf w .food) list
-
-pub draw-changes : (w : List ℕ) (i : ℕ) (image list : List ℕ) → stateOf w .birth ≡ false → Written w i image list → Changed w image list
+pub draw-changes : (w : List ℕ) (i : ℕ) (image list : List ℕ) → stateOf w .birth ≡ false → DrawWrote w i image list → Changed w image list
 draw-changes w i image list b d =
     let e = written-state w i image list d in
     let s = settled (stateOf w) i b in
@@ -184,10 +159,6 @@ draw-changes w i image list b d =
     }
 
 -- ---- a chain of draws at birth: image j + 1 is what draw j wrote, and each draw with food due is answered
-
-pub record Drawing (image : ℕ → List ℕ) (index : ℕ → ℕ) (j : ℕ) : Type 0 where
-  pub list : List ℕ
-  pub writes : Written (image j) (index j) (image (suc j)) list
 
 module _ (image : ℕ → List ℕ) (index : ℕ → ℕ) (draws : (j : ℕ) → 0 < stateOf (image j) .due → Drawing image index j) where
   drawn-next : (j : ℕ) → 0 < stateOf (image j) .due → stateOf (image (suc j)) ≡ afterDraw (stateOf (image j)) (index j)

@@ -2,7 +2,7 @@
 -- P = outcomes t, the indices below P and the ordered lists of k different free cells match one to one by `drawn` and `rankOf`, and each
 -- set of k free cells is added to the food by exactly k! of the indices. Below that, what a draw leaves as it was. Assumes nothing.
 use mathlib.Core.Path.{_≡_, refl, _∙_}
-use mathlib.Core.Bool.{true, false, not, _&&_}
+use mathlib.Core.Bool.{true, false, _&&_}
 use mathlib.Core.List.{List, [], _∷_}
 use Prim.Native.Nat.{ℕ, zero, suc, _-_, _%_, _<_, min}
 use native.Mathlib.Nat.{mul-one, sub-zero, mod-eq-of-lt, lt-irrefl}
@@ -16,33 +16,12 @@ use Rattle.lists.specs.Products.{falling, factorial}
 use Rattle.lists.specs.Equal.{sameList}
 use Rattle.lists.proofs.Tests.{and-left, and-right, both}
 use Rattle.lists.proofs.Members.{all-member, all-members}
-use Rattle.rules.specs.State.{State, area}
-use Rattle.rules.specs.Chance.{taken, free, drawSize, outcomes, digits, pick, drawnFrom, drawn, withFood, afterDraw, rankOf, canRank}
+use Rattle.rules.specs.State.{State}
+use Rattle.rules.specs.Fair.{Fair, Settled, Born}
+use Rattle.rules.specs.Chance.{free, drawSize, outcomes, digits, pick, drawnFrom, drawn, withFood, afterDraw, rankOf, canRank}
 use Rattle.rules.proofs.FreeCells.{free-distinct, free-below, free-untaken, free-member, free-off-food}
 use Rattle.rules.proofs.Draws.{Listed, listed-turn, drawn-listed, drawn-none, rank-drawn, rank-lt, drawn-rank}
 use Rattle.rules.proofs.Sets.{food-count, with-none}
-
-pub record Fair (t : State) : Type 0 where
-  -- a cell is free if and only if it is on the board and neither food nor any body holds it
-  pub every-free : (c : ℕ) → c < area t → taken t c ≡ false → member c (free t) ≡ true
-  pub on-board : (c : ℕ) → member c (free t) ≡ true → c < area t
-  pub untaken : (c : ℕ) → member c (free t) ≡ true → taken t c ≡ false
-  pub free-once : distinct (free t) ≡ true
-  -- the count: k factors from n downward
-  pub count : outcomes t ≡ falling (length (free t)) (drawSize t)
-  -- each index draws k different free cells
-  pub long : (i : ℕ) → i < outcomes t → length (drawn t i) ≡ drawSize t
-  pub among : (i : ℕ) → i < outcomes t → (c : ℕ) → member c (drawn t i) ≡ true → member c (free t) ≡ true
-  pub once : (i : ℕ) → i < outcomes t → distinct (drawn t i) ≡ true
-  -- its list can be ranked, and ranks as the index
-  pub rankable : (i : ℕ) → i < outcomes t → canRank t (drawn t i) ≡ true
-  pub back : (i : ℕ) → i < outcomes t → rankOf t (drawn t i) ≡ i
-  -- each list of k different free cells is drawn by one index, its rank
-  pub ranks : (l : List ℕ) → canRank t l ≡ true → rankOf t l < outcomes t
-  pub forth : (l : List ℕ) → canRank t l ≡ true → drawn t (rankOf t l) ≡ l
-  -- each set of k free cells is the food that comes for exactly k! indices
-  pub sets : (s : List ℕ) → canRank t s ≡ true
-      → countBelow (outcomes t) (λ i. sameList (afterDraw t i .food) (withFood (t .food) s)) ≡ factorial (drawSize t)
 
 module _ (t : State) where
   -- a list that can be ranked is an ordered list of k different free cells
@@ -107,13 +86,6 @@ module _ (t : State) where
 
 -- ---- what a draw leaves as it was, and what it changes
 
-pub record Settled (t : State) (i : ℕ) : Type 0 where
-  pub side : afterDraw t i .side ≡ t .side
-  pub snakes : afterDraw t i .snakes ≡ t .snakes
-  pub birth : afterDraw t i .birth ≡ false
-  pub due : afterDraw t i .due ≡ 0
-  pub food : afterDraw t i .food ≡ withFood (t .food) (drawn t i)
-
 -- a draw that is not at birth sets all apples that are due, or as many as there are free cells
 pub settled : (t : State) (i : ℕ) → t .birth ≡ false → Settled t i
 unfolding afterDraw
@@ -127,15 +99,6 @@ later-size t b = rw b
 pub birth-size : (t : State) → t .birth ≡ true → drawSize t ≡ min 1 (length (free t))
 birth-size t b = rw b
 
-pub record Born (t : State) (i : ℕ) : Type 0 where
-  pub side : afterDraw t i .side ≡ t .side
-  pub snakes : afterDraw t i .snakes ≡ t .snakes
-  pub birth : afterDraw t i .birth ≡ not (eqb (t .due) 1)
-  pub due : afterDraw t i .due ≡ t .due - 1
-  pub food : afterDraw t i .food ≡ withFood (t .food) (getD (free t) i 0 ∷ [])
-  pub cell : drawn t i ≡ getD (free t) i 0 ∷ []
-  pub rank : rankOf t (getD (free t) i 0 ∷ []) ≡ i
-
 module _ (t : State) (b : t .birth ≡ true) where
   one : 0 < length (free t) → drawSize t ≡ 1
   one h = birth-size t b ∙ omega arith
@@ -148,11 +111,6 @@ module _ (t : State) (b : t .birth ≡ true) where
       go : (n : ℕ) → falling n 1 ≡ n
       go zero = refl
       go (suc n) = mul-one (suc n)
-
-  -- or 1 where no cell is free
-  pub birth-full : length (free t) ≡ 0 → outcomes t ≡ 1
-  unfolding outcomes falling
-  birth-full h = let e : drawSize t ≡ 0 = birth-size t b ∙ omega arith in rw e
 
   birth-cell : (i : ℕ) → i < length (free t) → drawn t i ≡ getD (free t) i 0 ∷ []
   unfolding drawn drawnFrom digits pick

@@ -25,7 +25,7 @@ use Rattle.rules.proofs.Parts.{state-count, state-snake, state-body, bo
 
 -- ---- from a state
 
-number-le : (h : Heading) → numberOf h ≤ 3
+pub number-le : (h : Heading) → numberOf h ≤ 3
 number-le Up = omega arith
 number-le Right = omega arith
 number-le Down = omega arith

@@ -1,19 +1,19 @@
 -- One state has one image: the state of a state's image is that state. Assumes nothing.
-use Prim.Native.Nat.{ℕ, zero, suc, _+_, _-_, _*_, _<_, _≤_}
+use Prim.Native.Nat.{ℕ, _+_, _-_, _*_, _<_, _≤_}
 use native.Mathlib.Omega.{arith}
-use mathlib.Core.Path.{_≡_, refl, sym, ap, ap₂, _∙_}
+use mathlib.Core.Path.{_≡_, refl, sym, ap, _∙_}
 use mathlib.Core.Bool.{Bool, true, false}
-use mathlib.Core.List.{List, [], _∷_, _++_, append-assoc}
+use mathlib.Core.List.{List, _++_}
 use lib.Dec.{eqb}
 use lib.ListN.{length, getD, take, drop, length-append}
 use lib.Seq.{getD-drop, drop-drop, drop-at}
 use Rattle.lists.specs.Choice.{bit}
-use Rattle.lists.specs.Below.{concatBelow, sumBelow, eachBelow}
+use Rattle.lists.specs.Below.{concatBelow, eachBelow}
 use Rattle.lists.proofs.Below.{each-back, each-ext, sum-ext, concat-long}
 use Rattle.lists.proofs.Concat.{behind, block-drop, block-take, blocks-long}
 use Rattle.rules.specs.Headings.{numberOf, headingOf}
-use Rattle.rules.specs.State.{Snake, State, nobody, count, snakeOf}
-use Rattle.rules.specs.Image.{front, bodyOf, startOf, recordOf, contentsOf, imageOf, word, snakesIn, startAt, lengthAt, headingAt, aliveAt, startDue, foodStart, bodyAt, foodAt, snakeAt, stateOf}
+use Rattle.rules.specs.State.{State, nobody, count, snakeOf}
+use Rattle.rules.specs.Image.{front, bodyOf, startOf, recordOf, imageOf, word, snakesIn, startAt, lengthAt, headingAt, aliveAt, startDue, bodyAt, foodAt, snakeAt, stateOf}
 use Rattle.rules.specs.declared.Heading.{Heading}
 use Rattle.rules.specs.declared.Heading.the-variants.{Up, Right, Down, Left}
 

@@ -7,7 +7,6 @@ pub mod Step
 pub mod Parts
 pub mod Examples
 pub mod Places
-pub mod Sample
 pub mod FreeCells
 pub mod Digits
 pub mod Draws
@@ -29,5 +28,4 @@ pub mod InitialFacts
 pub mod Extremes
 pub mod TakenWords
 pub mod FairCalls
-pub mod Firsts
 pub mod Tables

@@ -6,15 +6,14 @@ use mathlib.Core.Path.{_≡_, sym, ap, _∙_}
 use mathlib.Core.Bool.{true}
 use mathlib.Core.List.{List}
 use lib.Dec.{ltb}
-use lib.ListN.{length, getD, drop, length-drop}
-use lib.Seq.{getD-take, getD-drop}
+use lib.ListN.{length, length-drop}
 use borrow.Author.Tests.{lt-ltb}
 use Rattle.lists.specs.Lists.{all, ascending}
 use Rattle.lists.specs.Boards.{Under}
 use Rattle.lists.proofs.Below.{each-at, each-long}
 use Rattle.lists.proofs.Lists.{part-long, all-each}
 use Rattle.lists.proofs.Boards.{part-under, rest-under}
-use Rattle.rules.specs.Image.{word, front, snakesIn, foodCountIn, areaIn, startAt, lengthAt, aliveAt, startDue, foodStart, bodyAt, foodAt, snakeAt, stateOf}
+use Rattle.rules.specs.Image.{front, snakesIn, foodCountIn, areaIn, startAt, lengthAt, startDue, foodStart, bodyAt, foodAt, snakeAt, stateOf}
 use Rattle.rules.specs.Facts.{Sound}
 use Rattle.rules.specs.State.{Snake, count, snakeOf, nobody}
 use Rattle.rules.proofs.Facts.{start-next}
@@ -47,21 +46,12 @@ module _ (w : List ℕ) (s : Sound w) where
     pub body-long : length (bodyAt w i) ≡ lengthAt w i
     body-long = part-long w (startAt w i) (lengthAt w i) body-in
 
-    pub body-word : (k : ℕ) → k < lengthAt w i → getD (bodyAt w i) k 0 ≡ word w (startAt w i + k)
-    body-word k l = getD-take (lengthAt w i) (drop (startAt w i) w) k 0 l ∙ getD-drop (startAt w i) w k 0
-
     -- every cell is on the board; past the last stands 0, which is
     pub body-under : Under (areaIn w) (bodyAt w i)
     body-under = part-under w (areaIn w) (startAt w i) (lengthAt w i) area-min (λ k a b. s .cells k (omega (arith, body-from)) (omega (arith, body-in)))
 
-    pub body-small : Under 1024 (bodyAt w i)
-    body-small k = omega (arith, body-under k, s .area-max)
-
     pub body-all : all (λ c. ltb c (areaIn w)) (bodyAt w i) ≡ true
     body-all = all-each (λ c. ltb c (areaIn w)) (bodyAt w i) 0 (λ k l. lt-ltb _ _ (body-under k))
-
-    pub body-living : aliveAt w i ≡ 1 → 1 ≤ length (bodyAt w i)
-    body-living e = rw body-long (s .living i h e)
 
   -- ---- food
 
@@ -75,14 +65,8 @@ module _ (w : List ℕ) (s : Sound w) where
   pub food-long : length (foodAt w) ≡ foodCountIn w
   food-long = omega (arith, length-drop (foodStart w) w, s .total)
 
-  pub food-word : (k : ℕ) → getD (foodAt w) k 0 ≡ word w (foodStart w + k)
-  food-word k = getD-drop (foodStart w) w k 0
-
   pub food-under : Under (areaIn w) (foodAt w)
   food-under = rest-under w (areaIn w) (foodStart w) area-min (λ k a b. s .cells k (omega arith) b)
-
-  pub food-small : Under 1024 (foodAt w)
-  food-small k = omega (arith, food-under k, s .area-max)
 
   pub food-all : all (λ c. ltb c (areaIn w)) (foodAt w) ≡ true
   food-all = all-each (λ c. ltb c (areaIn w)) (foodAt w) 0 (λ k l. lt-ltb _ _ (food-under k))

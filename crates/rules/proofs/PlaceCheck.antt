@@ -4,7 +4,6 @@ use native.Mathlib.Nat.{le-antisymm, mul-pos}
 use native.Mathlib.Omega.{arith}
 use mathlib.Core.Path.{_≡_, refl, ap, _∙_}
 use mathlib.Core.Bool.{Bool, true, false, not}
-use mathlib.Core.Logic.{inl, inr}
 use mathlib.Core.List.{List, [], _∷_, map}
 use lib.Dec.{ltb, eqb}
 use lib.IntN.{pos}
@@ -14,13 +13,13 @@ use Rattle.lists.specs.Choice.{_if_else_}
 use Rattle.lists.specs.Below.{concatBelow}
 use Rattle.lists.specs.Boards.{Under}
 use Rattle.lists.specs.Lists.{all, distinct}
-use Rattle.lists.proofs.Tests.{tell, and-left, and-right}
+use Rattle.lists.proofs.Tests.{and-left, and-right}
 use Rattle.lists.proofs.Repeats.{map-concat, all-concat, sum-same}
 use Rattle.lists.proofs.Below.{some-never, concat-long, sum-ext}
 use Rattle.rules.specs.Places.{inside, cellOf}
-use Rattle.rules.specs.Placement.{tracing, even, placed}
+use Rattle.rules.specs.Placement.{startPlace, tracing, even, placed}
 use Rattle.rules.specs.Setting.{badCell, allPlaced, someShort}
-use Rattle.rules.specs.SettingParts.{startPlace, placeCheck, cellsOf}
+use Rattle.rules.specs.SettingParts.{placeCheck, cellsOf}
 use Rattle.rules.specs.declared.Place.{Place}
 use Rattle.rules.proofs.Facts.{square-le}
 use Rattle.rules.proofs.Places.{cell-below}
@@ -42,27 +41,28 @@ chosen true b v r e = refl
 chosen false true v r e = rw e
 chosen false false v r e = rw e
 
-four-turns : (i : ℕ) → length (tracing i) ≡ 4
-four-turns i = elim (tell (even i)) [ inl t ↦ rw t | inr f ↦ rw f ]
+pub four-turns : (e : Bool) → length (tracing e) ≡ 4
+four-turns true = refl
+four-turns false = refl
 
 module _ (g n k : ℕ) (side : 3 ≤ g) (small : g ≤ 32) (some : 1 ≤ k) where
   pub body-inside : (i : ℕ) → i < n → all (inside (pos g)) (placed (pos g) n k i) ≡ true
   unfolding placed
-  body-inside i h = traced-inside (pos g) (tracing i) k (startPlace (pos g) n i) (start-inside g n i side h)
+  body-inside i h = traced-inside (pos g) (tracing (even i)) k (startPlace (pos g) n i) (start-inside g n i side h)
 
   pub all-inside : all (inside (pos g)) (allPlaced (pos g) n k) ≡ true
   all-inside = all-concat (inside (pos g)) n (placed (pos g) n k) body-inside
 
   pub body-most : (i : ℕ) → length (placed (pos g) n k i) ≤ k
   unfolding placed
-  body-most i = traced-short (pos g) (tracing i) k (startPlace (pos g) n i) some
+  body-most i = traced-short (pos g) (tracing (even i)) k (startPlace (pos g) n i) some
 
   pub all-cells : map (cellOf g) (allPlaced (pos g) n k) ≡ concatBelow n (cellsOf g n k)
   all-cells = map-concat (cellOf g) n (placed (pos g) n k)
 
   pub body-reach : (i : ℕ) → i < n → length (placed (pos g) n k i) ≤ 125
   unfolding placed
-  body-reach i h = let r = traced-reach g small (tracing i) k (startPlace (pos g) n i) (start-inside g n i side h) in omega (arith, four-turns i)
+  body-reach i h = let r = traced-reach g small (tracing (even i)) k (startPlace (pos g) n i) (start-inside g n i side h) in omega (arith, four-turns (even i))
 
   pub cells-under : Under 1024 (concatBelow n (cellsOf g n k))
   cells-under j = rw (← all-cells) (omega (arith, cells-below g (allPlaced (pos g) n k) (omega arith) all-inside j, square-le g small))

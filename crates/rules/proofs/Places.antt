@@ -1,7 +1,7 @@
 -- Places inside the grid and cells: one for one. Assumes nothing.
 use Prim.Native.Nat.{ℕ, suc, _+_, _*_, _/_, _%_, _<_, _≤_, zero-le}
 use native.Mathlib.Omega.{arith}
-use native.Mathlib.Nat.{mul-le-mul-right, add-comm, add-mul-div-right, add-mul-mod-self-right, div-eq-of-lt, mod-eq-of-lt}
+use native.Mathlib.Nat.{mul-le-mul-right}
 use mathlib.Core.Path.{_≡_, sym, ap, ap₂, _∙_}
 use mathlib.Core.Bool.{true, false, false≢true}
 use lib.Dec.{T, leb, ltb, eqb}
@@ -10,6 +10,7 @@ use lib.Signed.{nonNeg}
 use borrow.Author.Tests.{le-leb, ltb-true, lt-ltb, eqb-true, eq-eqb}
 use Rattle.lists.proofs.Tests.{and-left, and-right, both}
 use Rattle.lists.proofs.Members.{agree}
+use Rattle.lists.proofs.Squares.{row-of, col-of}
 use Rattle.rules.specs.Places.{within, inside, sameZ, same, cellOf}
 use Rattle.rules.specs.declared.Place.{Place}
 
@@ -69,13 +70,6 @@ eq-same (pos a) (negsuc b) s t e = absurd t
 eq-same (negsuc a) (pos b) s t e = absurd s
 eq-same (negsuc a) (negsuc b) s t e = absurd s
 
-module _ (g r c : ℕ) (h : c < g) where
-  pub row-back : (r * g + c) / g ≡ r
-  row-back = ap (λ (k : ℕ). k / g) (add-comm (r * g) c) ∙ add-mul-div-right c r (omega arith) ∙ rw (div-eq-of-lt h) (omega arith)
-
-  pub col-back : (r * g + c) % g ≡ c
-  col-back = ap (λ (k : ℕ). k % g) (add-comm (r * g) c) ∙ add-mul-mod-self-right c r g ∙ mod-eq-of-lt h
-
 module _ (g : ℕ) (p q : Place) (i : inside (pos g) p ≡ true) (j : inside (pos g) q ≡ true) where
   alike : same p q ≡ true → eqb (cellOf g p) (cellOf g q) ≡ true
   alike t =
@@ -86,8 +80,8 @@ module _ (g : ℕ) (p q : Place) (i : inside (pos g) p ≡ true) (j : inside (po
   back : eqb (cellOf g p) (cellOf g q) ≡ true → same p q ≡ true
   back t =
       let e = sym (cell-is g p i) ∙ eqb-true (cellOf g p) (cellOf g q) t ∙ cell-is g q j in
-      let r = sym (row-back g (natAbs (p .row)) (natAbs (p .col)) (col-below g p i)) ∙ ap (λ (k : ℕ). k / g) e ∙ row-back g (natAbs (q .row)) (natAbs (q .col)) (col-below g q j) in
-      let k = sym (col-back g (natAbs (p .row)) (natAbs (p .col)) (col-below g p i)) ∙ ap (λ (k : ℕ). k % g) e ∙ col-back g (natAbs (q .row)) (natAbs (q .col)) (col-below g q j) in
+      let r = sym (row-of g (natAbs (p .row)) (natAbs (p .col)) (col-below g p i)) ∙ ap (λ (k : ℕ). k / g) e ∙ row-of g (natAbs (q .row)) (natAbs (q .col)) (col-below g q j) in
+      let k = sym (col-of g (natAbs (p .row)) (natAbs (p .col)) (col-below g p i)) ∙ ap (λ (k : ℕ). k % g) e ∙ col-of g (natAbs (q .row)) (natAbs (q .col)) (col-below g q j) in
       both (eq-same (p .row) (q .row) (row-plain g p i) (row-plain g q j) r) (eq-same (p .col) (q .col) (col-plain g p i) (col-plain g q j) k)
 
   -- two places inside are the same where their cells are

@@ -93,10 +93,6 @@ pub with-none : (food : List ℕ) → withFood food [] ≡ food
 unfolding withFood
 with-none food = refl
 
-pub with-next : (food l : List ℕ) (c : ℕ) → withFood food (c ∷ l) ≡ withFood (insert c food) l
-unfolding withFood
-with-next food l c = refl
-
 -- its members are those of the food and those of the list
 pub of-with : (l food : List ℕ) (x : ℕ) → member x (withFood food l) ≡ true → (member x food ≡ true) ⊎ (member x l ≡ true)
 unfolding withFood

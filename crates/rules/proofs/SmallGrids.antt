@@ -14,9 +14,9 @@ use Rattle.lists.specs.Below.{someBelow, concatBelow}
 use Rattle.lists.specs.Lists.{any}
 use Rattle.lists.proofs.Below.{some-found, some-false, concat-split, concat-next, concat-none}
 use Rattle.rules.specs.Places.{within, inside, ahead}
-use Rattle.rules.specs.Placement.{unblocked, trail, tracing, placed}
+use Rattle.rules.specs.Placement.{startPlace, even, unblocked, trail, tracing, placed}
 use Rattle.rules.specs.Setting.{badCell, allPlaced, someShort}
-use Rattle.rules.specs.SettingParts.{startPlace, placeCheck}
+use Rattle.rules.specs.SettingParts.{placeCheck}
 use Rattle.rules.specs.declared.Place.{Place}
 use Rattle.rules.specs.declared.Heading.{Heading}
 use Rattle.rules.proofs.Placement.{none-left, shut-first, trail-shut}
@@ -39,7 +39,7 @@ module _ (g : ℤ) (n : ℕ) (none : (x : ℤ) → within g x ≡ false) where
 
   alone : (k i : ℕ) → placed g n k i ≡ startPlace g n i ∷ []
   unfolding placed
-  alone k i = rw (all-shut (tracing i) (startPlace g n i), trail-shut g (k - 1) (startPlace g n i))
+  alone k i = rw (all-shut (tracing (even i)) (startPlace g n i), trail-shut g (k - 1) (startPlace g n i))
 
   first-off : (ps : List Place) (i : ℕ) → badCell g [] ((startPlace g n i ∷ []) ++ ps) ≡ 10
   unfolding badCell
@@ -91,7 +91,7 @@ one-ten f = few (λ n. placeCheck (pos 1) n 1 f ≡ 10) refl refl refl refl refl
 
 -- a body of suc k places
 abbrev bodyTo : ℤ → ℕ → ℕ → ℕ → List Place
-bodyTo g n k i = startPlace g n i ∷ trail k g (unblocked g (tracing i) (startPlace g n i)) (startPlace g n i)
+bodyTo g n k i = startPlace g n i ∷ trail k g (unblocked g (tracing (even i)) (startPlace g n i)) (startPlace g n i)
 
 body-to : (g : ℤ) (n k i : ℕ) → placed g n (suc k) i ≡ bodyTo g n k i
 unfolding placed

@@ -11,9 +11,8 @@ use lib.Signed.{ltZ, nonNeg}
 use borrow.Author.Tests.{le-ltb, ltb-false, ltb-true}
 use Rattle.lists.proofs.Tests.{both, tell}
 use Rattle.rules.specs.Places.{within, inside}
-use Rattle.rules.specs.Placement.{rowOf, even, colOf}
+use Rattle.rules.specs.Placement.{rowOf, even, colOf, startPlace}
 use Rattle.rules.specs.Setting.{sideOf}
-use Rattle.rules.specs.SettingParts.{startPlace}
 use Rattle.rules.proofs.Places.{within-pos}
 
 -- ---- the side

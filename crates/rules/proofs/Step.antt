@@ -1,29 +1,27 @@
 -- What a step never does: let a corpse decide a fate, or let a casualty lose to nobody. Assumes nothing.
-use Prim.Native.Nat.{ℕ, _<_, _≤_}
+use Prim.Native.Nat.{ℕ, _<_}
 use native.Mathlib.Omega.{arith}
 use mathlib.Core.Path.{_≡_, refl, sym, ap, ap₂, _∙_}
 use mathlib.Core.Logic.{⊎-elim}
-use mathlib.Core.Bool.{Bool, true, false, not, _&&_, _||_, true≢false, false≢true}
+use mathlib.Core.Bool.{Bool, true, false, not, _&&_, _||_, false≢true}
 use mathlib.Core.List.{List}
-use lib.Dec.{eqb, ltb}
+use lib.Dec.{eqb}
 use lib.IntN.{pos}
-use lib.ListN.{length, getD}
-use borrow.Author.Tests.{ltb-true, ltb-false}
+use lib.ListN.{getD}
 use Rattle.lists.specs.Choice.{_if_else_}
-use Rattle.lists.specs.Below.{someBelow, countBelow, eachBelow}
+use Rattle.lists.specs.Below.{countBelow, eachBelow}
 use Rattle.lists.specs.Lists.{member}
 use Rattle.lists.proofs.Tests.{tell, ordered, less, more}
 use Rattle.lists.proofs.Below.{some-ext, some-false, each-at}
 use Rattle.rules.specs.Places.{inside, same, cellOf}
 use Rattle.rules.specs.State.{Snake, State, nobody, count, snakeOf}
 use Rattle.rules.specs.Events.{dies, blank}
-use Rattle.rules.specs.Step.{Moved, another, onBody, causeOf, after, alive, leads, lostBy, outcomeOf, stepped}
+use Rattle.rules.specs.Step.{Moved, another, onBody, causeOf, after, alive, leads, lostBy, transitionOf, stepped}
 use Rattle.rules.specs.declared.Cause.{Cause}
 use Rattle.rules.specs.declared.Cause.the-variants.{NoCause, Wall, SelfBody, OppBody, HeadOn}
 use Rattle.rules.specs.declared.Event.{Event}
 use Rattle.rules.specs.declared.Limit.{Limit}
 use Rattle.rules.specs.declared.Limit.the-variants.{Unset, Is}
-use Rattle.rules.specs.declared.Place.{Place}
 use Rattle.rules.specs.declared.Setting.{Setting}
 
 -- ---- two worlds with the same living snakes: a corpse's body changes no one's fate
@@ -81,8 +79,8 @@ lost-by-someone n c z s i t = elim (ordered 0 (alive n c z)) [
 
 -- snake i of a step
 module _ (s : Setting) (g n : ℕ) (food : List ℕ) (m : ℕ → Moved) (i : ℕ) (h : i < n) where
-  lost-in : getD (outcomeOf s g n food m .events) i blank .lost ≡ true → 0 < countBelow n (λ j. snakeOf (outcomeOf s g n food m .next) j .alive)
-  unfolding outcomeOf
+  lost-in : getD (transitionOf s g n food m .events) i blank .lost ≡ true → 0 < countBelow n (λ j. snakeOf (transitionOf s g n food m .next) j .alive)
+  unfolding transitionOf
   lost-in e =
       let c : ℕ → Cause = λ j. getD (eachBelow n (causeOf g n m)) j NoCause in
       let z : ℕ → Snake = λ j. getD (eachBelow n (λ j. after g (m j) (c j))) j nobody in

@@ -12,7 +12,7 @@ use lib.ListN.{length, getD, take}
 use borrow.Author.Tests.{lt-ltb, not-true}
 use Rattle.lists.specs.Choice.{_if_else_}
 use Rattle.lists.specs.Below.{countBelow, eachBelow}
-use Rattle.lists.specs.Lists.{all, keep, member, distinct, ascending}
+use Rattle.lists.specs.Lists.{all, member, distinct, ascending}
 use Rattle.lists.proofs.Tests.{and-left, and-right, both}
 use Rattle.lists.proofs.Below.{count-le, each-long, each-at}
 use Rattle.lists.proofs.Lists.{keep-small}
@@ -25,7 +25,7 @@ use Rattle.rules.specs.State.{Snake, State, nobody, count, snakeOf, area
 use Rattle.rules.specs.Image.{bodyOf, imageOf, stateOf, wellFormed}
 use Rattle.rules.specs.Facts.{Holdable}
 use Rattle.rules.specs.Events.{dies}
-use Rattle.rules.specs.Step.{Moved, stays, onFood, goes, move, movedOf, another, onBody, causeOf, after, ateNow, isTerminal, outcomeOf, stepped}
+use Rattle.rules.specs.Step.{Moved, stays, onFood, goes, move, movedOf, another, onBody, causeOf, after, ateNow, isTerminal, transitionOf, stepped}
 use Rattle.rules.specs.declared.Cause.{Cause}
 use Rattle.rules.specs.declared.Cause.the-variants.{NoCause, Wall, SelfBody, OppBody, HeadOn}
 use Rattle.rules.specs.declared.Setting.{Setting}
@@ -105,14 +105,14 @@ module _ (g n : ℕ) (m : ℕ → Moved) (rests : (i : ℕ) → i < n → Cells 
 
   module _ (s : Setting) (food : List ℕ) where
     abbrev next : State
-    next = outcomeOf s g n food m .next
+    next = transitionOf s g n food m .next
 
     next-count : count next ≡ n
-    unfolding outcomeOf
+    unfolding transitionOf
     next-count = each-long n (λ i. after g (m i) (c i))
 
     next-snake : (i : ℕ) → i < n → snakeOf next i ≡ after g (m i) (c i)
-    unfolding outcomeOf
+    unfolding transitionOf
     next-snake i h = each-at n (λ i. after g (m i) (c i)) nobody i h
 
     due-le : (b : Bool) (e : ℕ → Bool) → (0 if b else countBelow n e) ≤ n
@@ -120,7 +120,7 @@ module _ (g n : ℕ) (m : ℕ → Moved) (rests : (i : ℕ) → i < n → Cells 
     due-le false e = count-le e n
 
     next-due : next .due ≤ n
-    unfolding outcomeOf
+    unfolding transitionOf
     next-due =
         let z : ℕ → Snake = λ i. getD (eachBelow n (λ i. after g (m i) (c i))) i nobody in
         due-le (isTerminal n c z s) (λ i. getD (eachBelow n (λ i. ateNow (m i) (c i))) i false)
@@ -135,7 +135,7 @@ module _ (g n : ℕ) (m : ℕ → Moved) (rests : (i : ℕ) → i < n → Cells 
         (body-some (cellOf g (m i .head)) (m i .rest) (m i .moves && not (dies (c i))) (ap (λ (z : Snake). z .alive) (sym e) ∙ t))
 
     pub next-holdable : 2 ≤ n → n ≤ 8 → 1 ≤ g → g ≤ 32 → length food ≤ g * g → all (λ c. ltb c (g * g)) food ≡ true → ascending 0 food ≡ true → Holdable next
-    unfolding outcomeOf
+    unfolding transitionOf
     next-holdable n-min n-max g-min g-max f-max f-cells f-rising =
         let e = next-count in
         record {

@@ -15,7 +15,7 @@ use Rattle.rules.specs.State.{State}
 use Rattle.rules.specs.Image.{imageOf}
 use Rattle.rules.specs.Setting.{settingOrder, settingCheck, initialState}
 use Rattle.rules.specs.Calls.{settingSays, initialSays}
-use Rattle.rules.specs.Says.{Says, refuses, gives, first, byTable}
+use Rattle.rules.specs.Says.{Says, refuses, gives, first, byTable, seen}
 use Rattle.rules.specs.declared.Setting.{Setting}
 
 module _ {A : Type 0} where
@@ -72,6 +72,16 @@ module _ {A : Type 0} where
     pub given-is : a ≡ b
     given-is = table-given t a b e .1
 
+  -- the same, where what is given is seen through f
+  pub seen-none : {B : Type 0} (f : A → B) (t : Table) (a : A) (n : B) → seen f (byTable t (gives a)) ≡ gives n → noneHold t ≡ true
+  unfolding byTable all
+  seen-none f [] a n h = refl
+  seen-none f (e ∷ es) a n h = go (e .0) (e .1) (λ q. seen-none f es a n q) h
+    where
+      go : (k : ℕ) (c : Bool) → (seen f (byTable es (gives a)) ≡ gives n → noneHold es ≡ true) → seen f (refuses k if c else byTable es (gives a)) ≡ gives n → (not c && noneHold es) ≡ true
+      go k true later q = let z : _≡_ {A = ℕ} 0 1 = cc in absurd (omega arith)
+      go k false later q = later q
+
   -- of two tables in a row, the second is asked where the first finds nothing
   pub table-then : (t u : Table) (r : Says A) → numbered t ≡ true → byTable (t ++ u) r ≡ first (fault t) (byTable u r)
   unfolding fault byTable all
@@ -83,6 +93,10 @@ module _ {A : Type 0} where
       go zero b z q = absurd (false≢true z)
       go (suc n) true z q = refl
       go (suc n) false z q = q
+
+  pub first-refuses : (k : ℕ) (r : Says A) → (k ≡ 0 → ⊥) → first k r ≡ refuses k
+  first-refuses zero r h = absurd (h refl)
+  first-refuses (suc k) r h = refl
 
   -- a whole table
   pub table-fault : (t : Table) (r : Says A) → numbered t ≡ true → byTable t r ≡ first (fault t) r

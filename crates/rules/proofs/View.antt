@@ -18,9 +18,10 @@ use Rattle.lists.proofs.Squares.{row-lt, col-lt, cell-is, cell-lt, row-of, col-
 use Rattle.rules.specs.Headings.{headingOf}
 use Rattle.rules.specs.State.{Snake}
 use Rattle.rules.specs.Places.{ahead, inside, within, cellOf, placeOf}
-use Rattle.rules.specs.Image.{front, snakesIn, sideIn, foodCountIn, startAt, lengthAt, headingAt, foodStart, bodyOf, bodyAt, foodAt, stateOf}
+use Rattle.rules.specs.Image.{front, snakesIn, sideIn, startAt, lengthAt, headingAt, foodStart, bodyOf, bodyAt, foodAt, stateOf}
 use Rattle.rules.specs.Facts.{Sound}
 use Rattle.rules.specs.View.{shows, turnedCell, plane, channels, viewOf, view}
+use Rattle.rules.specs.Seen.{Above, Alike, DifferOnly}
 use Rattle.rules.specs.declared.Heading.{Heading}
 use Rattle.rules.specs.declared.Heading.the-variants.{Up, Right, Down, Left}
 use Rattle.rules.proofs.Parts.{state-count, state-snake, state-body, body-from}
@@ -60,28 +61,18 @@ shows-all g d (c ∷ l) t =
 
 -- ---- rows and columns as they show
 
-rowShown : ℕ → Heading → ℕ → ℕ → ℕ
-rowShown g Up r c = r
-rowShown g Right r c = g - 1 - c
-rowShown g Down r c = g - 1 - r
-rowShown g Left r c = c
-
-colShown : ℕ → Heading → ℕ → ℕ → ℕ
-colShown g Up r c = c
-colShown g Right r c = r
-colShown g Down r c = g - 1 - c
-colShown g Left r c = g - 1 - r
+-- the cell at a row and a column
+abbrev cellAt : ℕ → ℕ × ℕ → ℕ
+cellAt g p = p .0 * g + p .1
 
 module _ (g r c : ℕ) (hr : r < g) (hc : c < g) where
-  row-shown : (d : Heading) → shows g d r c / g ≡ rowShown g d r c
-  unfolding rowShown
+  row-shown : (d : Heading) → cellAt g (shows g d r c) / g ≡ shows g d r c .0
   row-shown Up = row-of g r c hc
   row-shown Right = row-of g (g - 1 - c) r hr
   row-shown Down = row-of g (g - 1 - r) (g - 1 - c) (omega arith)
   row-shown Left = row-of g c (g - 1 - r) (omega arith)
 
-  col-shown : (d : Heading) → shows g d r c % g ≡ colShown g d r c
-  unfolding colShown
+  col-shown : (d : Heading) → cellAt g (shows g d r c) % g ≡ shows g d r c .1
   col-shown Up = col-of g r c hc
   col-shown Right = col-of g (g - 1 - c) r hr
   col-shown Down = col-of g (g - 1 - r) (g - 1 - c) (omega arith)
@@ -96,13 +87,13 @@ backOf Left = Right
 
 -- a turn and the turn back: so each turn is a bijection of the cells of the grid
 pub turned-back : (g c : ℕ) → c < g * g → (d : Heading) → turnedCell g (backOf d) (turnedCell g d c) ≡ c
-unfolding backOf rowShown colShown
+unfolding backOf
 turned-back g c h d =
     let r = row-lt g c h in
     let k = col-lt g c h in
-    ap₂ (shows g (backOf d)) (row-shown g (c / g) (c % g) r k d) (col-shown g (c / g) (c % g) r k d) ∙ back d
+    ap₂ (λ (x y : ℕ). cellAt g (shows g (backOf d) x y)) (row-shown g (c / g) (c % g) r k d) (col-shown g (c / g) (c % g) r k d) ∙ back d
   where
-    back : (d : Heading) → shows g (backOf d) (rowShown g d (c / g) (c % g)) (colShown g d (c / g) (c % g)) ≡ c
+    back : (d : Heading) → cellAt g (shows g (backOf d) (shows g d (c / g) (c % g) .0) (shows g d (c / g) (c % g) .1)) ≡ c
     back Up = cell-is g c
     back Right =
         let k = col-lt g c h in
@@ -121,24 +112,19 @@ turned-back g c h d =
 
 -- ---- the cell ahead shows directly above the head
 
-pub record Above (g high low : ℕ) : Type 0 where
-  pub row : high / g + 1 ≡ low / g
-  pub col : high % g ≡ low % g
-
 module _ (g r c : ℕ) (hr : r < g) (hc : c < g) where
   -- a cell at another row and column
-  at-cell : (d : Heading) (r' c' : ℕ) → r' < g → c' < g → rowShown g d r' c' + 1 ≡ rowShown g d r c → colShown g d r' c' ≡ colShown g d r c
-      → Above g (turnedCell g d (r' * g + c')) (shows g d r c)
+  at-cell : (d : Heading) (r' c' : ℕ) → r' < g → c' < g → shows g d r' c' .0 + 1 ≡ shows g d r c .0 → shows g d r' c' .1 ≡ shows g d r c .1
+      → Above g (turnedCell g d (r' * g + c')) (cellAt g (shows g d r c))
   at-cell d r' c' a b e f =
-      let p = ap₂ (shows g d) (row-of g r' c' b) (col-of g r' c' b) in
+      let p = ap₂ (λ (x y : ℕ). cellAt g (shows g d x y)) (row-of g r' c' b) (col-of g r' c' b) in
       record {
         row = ap (λ (x : ℕ). x / g + 1) p ∙ ap (λ (x : ℕ). x + 1) (row-shown g r' c' a b d) ∙ e ∙ sym (row-shown g r c hr hc d);
         col = ap (λ (x : ℕ). x % g) p ∙ col-shown g r' c' a b d ∙ f ∙ sym (col-shown g r c hr hc d);
       }
 
 above-at : (g r c : ℕ) → r < g → c < g → (d : Heading) → inside (pos g) (ahead d (record { row = pos r; col = pos c })) ≡ true
-    → Above g (turnedCell g d (cellOf g (ahead d (record { row = pos r; col = pos c })))) (shows g d r c)
-unfolding rowShown colShown
+    → Above g (turnedCell g d (cellOf g (ahead d (record { row = pos r; col = pos c })))) (cellAt g (shows g d r c))
 above-at g zero c hr hc Up t = absurd (false≢true t)
 above-at g (suc r) c hr hc Up t = rw t (at-cell g (suc r) c hr hc Up r c (omega arith) hc (omega arith) refl)
 above-at g r c hr hc Right t =
@@ -186,14 +172,6 @@ module _ (w : List ℕ) (a : ℕ) where
       ∙ view-ext (snakesIn w) (bodyOf (stateOf w)) (bodyAt w) a h (λ i l. state-body w i l) (stateOf w .side) (headingOf (headingAt w a)) (stateOf w .food)
       ∙ parts-are (headingOf (headingAt w a))
 
--- all that an agent sees of an image
-pub record Alike (w v : List ℕ) (a : ℕ) : Type 0 where
-  pub side : sideIn w ≡ sideIn v
-  pub snakes : snakesIn w ≡ snakesIn v
-  pub heading : headingAt w a ≡ headingAt v a
-  pub bodies : (i : ℕ) → i < snakesIn w → bodyAt w i ≡ bodyAt v i
-  pub food : foodAt w ≡ foodAt v
-
 pub same-view : (w v : List ℕ) (a : ℕ) → a < snakesIn w → Alike w v a → view (stateOf w) a ≡ view (stateOf v) a
 same-view w v a h k =
     let d = headingOf (headingAt v a) in
@@ -203,16 +181,6 @@ same-view w v a h k =
     ∙ view-ext (snakesIn w) (bodyAt w) (bodyAt v) a h (k .bodies) (sideIn v) d (foodAt v)
     ∙ ap (λ (n : ℕ). viewOf (sideIn v) d n (bodyAt v) (foodAt v) a) (k .snakes)
     ∙ sym (view-is v a (rw (sym (k .snakes)) h))
-
--- images that differ at most in the words of 'other snakes' headings, alive flags, food due or birth'
-pub record DifferOnly (w v : List ℕ) (a : ℕ) : Type 0 where
-  pub snakes : snakesIn w ≡ snakesIn v
-  pub side : sideIn w ≡ sideIn v
-  pub foods : foodCountIn w ≡ foodCountIn v
-  pub starts : (i : ℕ) → i < snakesIn w → startAt w i ≡ startAt v i
-  pub lengths : (i : ℕ) → i < snakesIn w → lengthAt w i ≡ lengthAt v i
-  pub heading : headingAt w a ≡ headingAt v a
-  pub cells : drop (front (snakesIn w)) w ≡ drop (front (snakesIn w)) v
 
 module _ (w v : List ℕ) (a : ℕ) (s : Sound w) (k : DifferOnly w v a) where
   -- whatever starts past the contents

@@ -3,17 +3,17 @@ use Prim.Native.Nat.{ℕ, zero, suc, _+_, _-_, _*_, _<_, _≤_}
 use native.Mathlib.Nat.{le-refl}
 use native.Mathlib.Omega.{arith}
 use mathlib.Core.Path.{_≡_, refl, sym, ap, ap₂, _∙_}
-use mathlib.Core.Bool.{Bool, true, false}
-use mathlib.Core.List.{List, [], _∷_, _++_, append-assoc}
+use mathlib.Core.Bool.{true}
+use mathlib.Core.List.{List, [], _∷_, _++_}
 use lib.Dec.{eqb}
-use lib.ListN.{length, getD, take, drop, take-append-drop, length-drop}
+use lib.ListN.{length, take, drop, take-append-drop}
 use lib.Seq.{take-add, drop-drop, drop-cons}
 use Rattle.lists.specs.Choice.{bit}
-use Rattle.lists.specs.Below.{concatBelow, sumBelow, eachBelow}
+use Rattle.lists.specs.Below.{concatBelow, sumBelow}
 use Rattle.lists.proofs.Below.{concat-long, sum-ext}
 use Rattle.rules.specs.Headings.{numberOf, headingOf}
-use Rattle.rules.specs.State.{Snake, State, nobody, count, snakeOf}
-use Rattle.rules.specs.Image.{front, bodyOf, startOf, recordOf, contentsOf, imageOf, word, snakesIn, sideIn, dueIn, birthIn, foodCountIn, startAt, lengthAt, headingAt, aliveAt, startDue, foodStart, bodyAt, foodAt, snakeAt, stateOf, wellFormed}
+use Rattle.rules.specs.State.{Snake}
+use Rattle.rules.specs.Image.{front, bodyOf, startOf, recordOf, contentsOf, imageOf, word, snakesIn, sideIn, dueIn, birthIn, startAt, lengthAt, headingAt, aliveAt, stateOf, wellFormed}
 use Rattle.rules.specs.Facts.{Sound}
 use Rattle.rules.proofs.Facts.{sound}
 use Rattle.rules.proofs.Parts.{state-count, state-snake, state-body, body-long, food-long}

@@ -10,7 +10,7 @@ use Rattle.lists.specs.Choice.{_if_else_}
 use Rattle.rules.specs.State.{State, snakeOf}
 use Rattle.rules.specs.Image.{snakesIn, bodyAt, stateOf, wellFormed}
 use Rattle.rules.specs.Setting.{settingOrder, sideOf, initialState}
-use Rattle.rules.specs.Step.{Outcome, stepped}
+use Rattle.rules.specs.Step.{Transition, stepped}
 use Rattle.rules.specs.Chance.{outcomes, drawn, afterDraw, rankOf}
 use Rattle.rules.specs.View.{view, lit}
 use Rattle.rules.specs.LengthKey.{lengthKey}
@@ -29,7 +29,7 @@ settingSays s = byTable (settingOrder s) (gives tt)
 unfoldable pub initialSays : Setting → ℕ → Says State
 initialSays s room = byTable (initialOrder s room) (gives (initialState s))
 
-unfoldable pub stepSays : Setting → List ℕ → List ℕ → ℕ → Says Outcome
+unfoldable pub stepSays : Setting → List ℕ → List ℕ → ℕ → Says Transition
 stepSays s w acts room = byTable (stepOrder s w acts room) (gives (stepped s (stateOf w) acts))
 
 -- room counts numbers

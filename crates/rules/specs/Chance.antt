@@ -1,6 +1,6 @@
 -- Chance (01, 'Chance'): the free cells, how many outcomes a draw has, what an index draws, and the index of a list. Assumes nothing.
 use Prim.Native.Nat.{ℕ, zero, suc, _+_, _*_, _-_, _/_, _%_, min}
-use mathlib.Core.Bool.{Bool, true, false, not, cond, _&&_, _||_}
+use mathlib.Core.Bool.{Bool, not, cond, _&&_, _||_}
 use mathlib.Core.List.{List, [], _∷_, _++_}
 use lib.Dec.{eqb}
 use lib.ListN.{length, getD}
@@ -58,7 +58,7 @@ unfoldable pub withFood : List ℕ → List ℕ → List ℕ
 withFood food [] = food
 withFood food (c ∷ cs) = withFood (insert c food) cs
 
--- 'A birth draw takes 1 from due, or sets it to 0 when n = 0; birth stays unless due was 1 or n was 0'
+-- 'A birth draw takes 1 from due, or sets it to 0 when n = 0; birth stays unless due was 1 or n was 0'; another draw leaves nothing due (`apply_chance_node`)
 unfoldable pub afterDraw : State → ℕ → State
 afterDraw s i =
     let none = eqb (length (free s)) 0 in

@@ -1,6 +1,6 @@
 -- The image of a state, in words; the state of an image; which images are well-formed (01, 'The state image'). Assumes nothing.
-use Prim.Native.Nat.{ℕ, zero, suc, _+_, _*_}
-use mathlib.Core.Bool.{Bool, true, false, not, _&&_, _||_}
+use Prim.Native.Nat.{ℕ, _+_, _*_}
+use mathlib.Core.Bool.{Bool, not, _&&_, _||_}
 use mathlib.Core.List.{List, [], _∷_, _++_}
 use lib.Dec.{leb, ltb, eqb}
 use lib.ListN.{length, getD, take, drop}
@@ -23,11 +23,11 @@ bodyOf s i = snakeOf s i .body
 abbrev pub startOf : State → ℕ → ℕ
 startOf s i = front (count s) + length (concatBelow i (bodyOf s))
 
--- 'Four words per snake: start word of its body, length, heading, alive'
+-- 'Four words per snake: start word of its body, length, heading (0 Up, 1 Right, 2 Down, 3 Left), alive (0/1)'
 abbrev pub recordOf : State → ℕ → List ℕ
 recordOf s i = startOf s i ∷ length (bodyOf s i) ∷ numberOf (snakeOf s i .heading) ∷ bit (snakeOf s i .alive) ∷ []
 
--- 'Words 0 to 4: snakes n, side g, food due, birth, food count'
+-- 'Words 0 to 4: snakes n (2..8), side g (1..32), food due (0..1,024), birth (0/1), food count'
 abbrev pub contentsOf : State → List ℕ
 contentsOf s = count s ∷ s .side ∷ s .due ∷ bit (s .birth) ∷ length (s .food) ∷ []
 
@@ -116,7 +116,7 @@ contentsFit w =
     ∷ leb (foodCountIn w) (areaIn w)
     ∷ [])
 
--- 'each length at most g²', 'heading (0 to 3), alive (0/1)', 'a living snake has a cell'
+-- 'each length and the food count at most g²'; 'heading (0 Up, 1 Right, 2 Down, 3 Left), alive (0/1)'; 'a living snake has a cell'
 abbrev pub recordFits : List ℕ → ℕ → Bool
 recordFits w i =
     every

@@ -19,5 +19,6 @@ pub mod Orders
 pub mod Calls
 pub mod Promises
 pub mod Examples
-pub mod Sample
 pub mod Births
+pub mod Fair
+pub mod Seen

@@ -1,4 +1,4 @@
--- Document 01's 'Order' as tables: a row is a refusal's number and when it is given. The setting's table stands in Setting. Assumes nothing.
+-- Document 01's 'Order' as tables: a row is a refusal's number and when it is given. Assumes nothing.
 use Prim.Native.Nat.{ℕ, _*_, _-_, _^_}
 use mathlib.Core.Bool.{Bool, not, _&&_, _||_}
 use mathlib.Core.List.{List, [], _∷_, _++_}
@@ -17,6 +17,10 @@ use Rattle.rules.specs.Chance.{outcomes, drawn, afterDraw, canRank}
 use Rattle.rules.specs.Reward.{allFinite}
 use Rattle.rules.specs.declared.Setting.{Setting}
 use Rattle.rules.specs.declared.Weights.{Weights}
+
+-- 20 'image not well-formed', 21 'n or g differs from the setting', 22 / 23 'food is due at a step / none is due at a draw', 24 'action count is not n',
+-- 25 'a living snake's action above 2', 26 'agent not below n', 27 'outcome not below the count', 28 'count above 2^64 - 1', 29 'an output buffer shorter
+-- than its answer', 30 'list to rank: wrong length, a cell not free, or repeated', 31 'a reward weight not finite'; 1 to 12 stand in Setting
 
 -- 'Initial state: setting, 29'; room is the length of the lent buffer
 abbrev pub initialOrder : Setting → ℕ → Table

@@ -1,6 +1,6 @@
 -- Where the snakes start (01, 'Modules' 2). Assumes nothing.
-use Prim.Native.Nat.{ℕ, zero, suc, _+_, _-_, _%_}
-use mathlib.Core.Bool.{Bool, true, false, cond}
+use Prim.Native.Nat.{ℕ, zero, suc, _-_, _%_}
+use mathlib.Core.Bool.{Bool, cond}
 use mathlib.Core.List.{List, [], _∷_}
 use lib.Dec.{eqb}
 use lib.IntN.{ℤ, pos, _-ℤ_, _*ℤ_}
@@ -25,8 +25,12 @@ colOf g i = quotZ g (pos 3) if even i else (g -ℤ quotZ g (pos 3))
 abbrev pub startHeading : ℕ → Heading
 startHeading i = Right if even i else Left
 
-abbrev pub tracing : ℕ → List Heading
-tracing i = Left ∷ Down ∷ Right ∷ Up ∷ [] if even i else Right ∷ Up ∷ Left ∷ Down ∷ []
+abbrev pub startPlace : ℤ → ℕ → ℕ → Place
+startPlace g n i = record { row = rowOf g n i; col = colOf g i }
+
+-- the directions, by whether the snake's number is even
+abbrev pub tracing : Bool → List Heading
+tracing e = Left ∷ Down ∷ Right ∷ Up ∷ [] if e else Right ∷ Up ∷ Left ∷ Down ∷ []
 
 -- 'A blocked trace takes its next direction and never returns to one': the directions that are left at p
 unfoldable pub unblocked : ℤ → List Heading → Place → List Heading
@@ -45,4 +49,4 @@ traced g ds k p = p ∷ trail (k - 1) g (unblocked g ds p) p
 
 -- snake i of n, of length k
 unfoldable pub placed : ℤ → ℕ → ℕ → ℕ → List Place
-placed g n k i = traced g (tracing i) k (record { row = rowOf g n i; col = colOf g i })
+placed g n k i = traced g (tracing (even i)) k (startPlace g n i)

@@ -1,6 +1,6 @@
 -- Places: a row and a column as integers, since a head may leave the grid ('Off-grid heads: signed pairs, until judged'). Assumes nothing.
 use Prim.Native.Nat.{ℕ, _+_, _*_, _/_, _%_}
-use mathlib.Core.Bool.{Bool, true, false, _&&_}
+use mathlib.Core.Bool.{Bool, false, _&&_}
 use lib.Dec.{eqb}
 use lib.IntN.{ℤ, pos, negsuc, sucℤ, predℤ, natAbs}
 use lib.Signed.{leZ, ltZ}

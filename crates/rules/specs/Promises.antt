@@ -11,7 +11,7 @@ use Rattle.rules.specs.Headings.{turned}
 use Rattle.rules.specs.Events.{blank, eight}
 use Rattle.rules.specs.Image.{imageOf, wellFormed}
 use Rattle.rules.specs.Says.{seen, beside, lent, says, saysVerdict, saysNumber, saysKey, saysActor, saysLegal, saysMark, saysSum, saysSpace}
-use Rattle.rules.specs.Calls.{settingSays, initialSays, stepSays, observeSays, countSays, Draw, drawSays, rankSays, actorSays, legalSays, keySays, truncationSays, rewardSays, spaceSays, actionSays, bodyAsked}
+use Rattle.rules.specs.Calls.{settingSays, initialSays, stepSays, observeSays, countSays, drawSays, rankSays, actorSays, legalSays, keySays, truncationSays, rewardSays, spaceSays, actionSays, bodyAsked}
 use Rattle.rules.specs.declared.Heading.{Heading}
 use Rattle.rules.specs.declared.RelativeAction.{RelativeAction}
 use Rattle.rules.specs.declared.Setting.{Setting}

@@ -53,7 +53,7 @@ module _ {A B : Type 0} where
   beside f b (refuses k) = b
   beside f b (gives a) = f a
 
-  -- a lent buffer afterwards: 'A refusal leaves all lent words untouched'; 'words after them keep their values'
+  -- a lent buffer afterwards: 'A refusal returns only its number and leaves all lent words untouched'; 'words after them keep their values'
   abbrev pub lent : (A → List B) → List B → Says A → List B
   lent f old (refuses k) = old
   lent f old (gives a) = overFront (f a) old
@@ -97,12 +97,12 @@ abbrev pub saysSum : Reward → Says Float
 saysSum (Sum x) = gives x
 saysSum (RefusedSum k) = refuses k
 
--- 'a box with three sizes and bounds', or 'discrete'
+-- 'a box with three sizes and bounds 0.0 and 1.0, or (added, for actions) discrete 3'
 pub data Shape : Type 0 where
   box : ℕ → ℕ → ℕ → Float → Float → Shape
   discrete : ℕ → Shape
 
 abbrev pub saysSpace : Space → Says Shape
-saysSpace (Box p h w low top) = gives (box p h w low top)
+saysSpace (Box p rows cols low high) = gives (box p rows cols low high)
 saysSpace (Discrete n) = gives (discrete n)
 saysSpace (RefusedSpace k) = refuses k

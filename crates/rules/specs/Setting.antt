@@ -1,12 +1,11 @@
 -- The check of a setting, refusals 1 to 12, and the initial state (01, 'Numbers a refusal gives' and 'Modules' 2). Assumes nothing.
-use Prim.Native.Nat.{ℕ, zero, suc, _+_, _*_, _-_, _^_, min}
+use Prim.Native.Nat.{ℕ, _+_, _*_, _-_, _^_, min}
 use mathlib.Core.Bool.{Bool, true, false, not, cond, _&&_, _||_}
 use mathlib.Core.List.{List, [], _∷_, _++_, map}
-use lib.Dec.{leb, ltb, eqb}
+use lib.Dec.{ltb, eqb}
 use lib.ListN.{length}
 use lib.IntN.{ℤ, pos, negsuc}
 use lib.Signed.{ltZ}
-use Rattle.lists.specs.Choice.{_if_else_}
 use Rattle.lists.specs.Below.{someBelow, eachBelow, concatBelow}
 use Rattle.lists.specs.Lists.{any}
 use Rattle.lists.specs.Products.{falling}
@@ -53,11 +52,11 @@ unfoldable pub badCell : ℤ → List Place → List Place → ℕ
 badCell g before [] = 0
 badCell g before (p ∷ ps) = let r = badCell g (p ∷ before) ps in cond (inside g p) (cond (any (same p) before) 11 r) 10
 
--- 6 to 8: f food for n snakes on side g
+-- 6 'food above g² (0 when g < 0)', 7 'food above 10,000', 8 'product .. above 2^53': f food for n snakes on side g
 abbrev pub crowdOrder : ℕ → ℕ → ℕ → Table
 crowdOrder n g f = (6, ltb (g * g) f) ∷ (7, ltb 10000 f) ∷ (8, ltb (2 ^ 53) (worst n g f)) ∷ []
 
--- 1 to 8: the numbers of a setting
+-- 1 'snakes not 2..8', 2 'initial length 0', 3 'food lead 0', 4 'food lead set, snakes not 2', 5 'grid above 32', and 6 to 8: the numbers of a setting
 abbrev pub limitsOrder : Setting → Table
 limitsOrder s =
     (1, ltb (s .snakes) 2 || ltb 8 (s .snakes))
@@ -67,7 +66,7 @@ limitsOrder s =
     ∷ (5, ltZ (pos 32) (s .grid))
     ∷ crowdOrder (s .snakes) (sideOf (s .grid)) (s .food)
 
--- 9 to 12: its places, for f food
+-- 9 'some body cannot be traced to its length', 10 / 11 'first bad cell', 12 'food above the free cells': the places of n bodies of k, for f food
 abbrev pub placesOrder : ℤ → ℕ → ℕ → ℕ → Table
 placesOrder g n k f =
     (9, someShort g n k)

@@ -1,22 +1,20 @@
 -- The check of a setting in two halves, numbers and places, as code goes about it; each over just what it depends on. Assumes nothing.
-use Prim.Native.Nat.{ℕ, _+_, _*_, _-_, _^_, _≤_}
+use Prim.Native.Nat.{ℕ, _+_, _*_, _-_, _≤_}
 use mathlib.Core.Path.{_≡_}
-use mathlib.Core.Bool.{Bool, false, not, _&&_, _||_}
+use mathlib.Core.Bool.{false}
 use mathlib.Core.List.{List, [], _∷_, map}
-use lib.Dec.{ltb, eqb}
-use lib.ListN.{length}
+use lib.Dec.{ltb}
 use lib.IntN.{ℤ, pos}
 use lib.Signed.{ltZ}
-use Rattle.lists.specs.Choice.{_if_else_, bit}
+use Rattle.lists.specs.Choice.{bit}
 use Rattle.lists.specs.Below.{concatBelow}
 use Rattle.lists.specs.Tables.{fault}
 use Rattle.rules.specs.Places.{cellOf}
 use Rattle.rules.specs.Headings.{numberOf}
 use Rattle.rules.specs.Image.{front}
-use Rattle.rules.specs.Placement.{rowOf, colOf, startHeading, placed}
+use Rattle.rules.specs.Placement.{startHeading, placed}
 use Rattle.rules.specs.Setting.{sideOf, areaOf, limitsOrder, placesOrder}
 use Rattle.rules.specs.declared.Setting.{Setting}
-use Rattle.rules.specs.declared.Place.{Place}
 
 -- 1 to 8
 unfoldable pub limitsCheck : Setting → ℕ
@@ -33,9 +31,6 @@ pub record Limited (s : Setting) : Type 0 where
   pub size-min : 1 ≤ s .size
   pub grid-max : ltZ (pos 32) (s .grid) ≡ false
   pub food-max : s .food ≤ areaOf s
-
-abbrev pub startPlace : ℤ → ℕ → ℕ → Place
-startPlace g n i = record { row = rowOf g n i; col = colOf g i }
 
 -- a body's cells
 abbrev pub cellsOf : ℕ → ℕ → ℕ → ℕ → List ℕ

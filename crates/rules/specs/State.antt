@@ -1,6 +1,6 @@
 -- A state of the arena: what an image stands for. Snakes are asked for by number. Assumes nothing.
 use Prim.Native.Nat.{ℕ, _*_}
-use mathlib.Core.Bool.{Bool, true, false}
+use mathlib.Core.Bool.{Bool, false}
 use mathlib.Core.List.{List, []}
 use lib.ListN.{length, getD}
 use Rattle.rules.specs.declared.Heading.{Heading}

@@ -1,8 +1,8 @@
 -- One step (01, 'Step'): all living snakes move, all causes are judged on that one world, then the consequences.
 -- A world is a function of the snake's number, so that 'another snake' is a test of numbers. Assumes nothing.
-use Prim.Native.Nat.{ℕ, _+_, _-_}
+use Prim.Native.Nat.{ℕ, _-_}
 use mathlib.Core.Bool.{Bool, true, false, not, _&&_, _||_}
-use mathlib.Core.List.{List, [], _∷_}
+use mathlib.Core.List.{List, _∷_}
 use lib.Dec.{leb, ltb, eqb}
 use lib.ListN.{length, getD, take}
 use lib.IntN.{pos}
@@ -142,15 +142,15 @@ eventOf n x c z e s i = record {
 abbrev pub eatenBy : ℕ → (ℕ → ℕ) → (ℕ → Bool) → ℕ → Bool
 eatenBy n x e a = someBelow n (λ i. e i && eqb a (x i))
 
-pub record Outcome : Type 0 where
+pub record Transition : Type 0 where
   pub next : State
   pub events : List Event
   pub terminal : Bool
 
 -- setting s, side g, n snakes, the food, the moved world m. Each list is made once and asked by number.
 -- 'Food due = apples eaten, 0 if terminal; birth = 0'
-unfoldable pub outcomeOf : Setting → ℕ → ℕ → List ℕ → (ℕ → Moved) → Outcome
-outcomeOf s g n food m =
+unfoldable pub transitionOf : Setting → ℕ → ℕ → List ℕ → (ℕ → Moved) → Transition
+transitionOf s g n food m =
     let cs = eachBelow n (causeOf g n m) in
     let c : ℕ → Cause = λ i. getD cs i NoCause in
     let zs = eachBelow n (λ i. after g (m i) (c i)) in
@@ -172,9 +172,9 @@ outcomeOf s g n food m =
     }
 
 -- state t, actions acts
-unfoldable pub stepped : Setting → State → List ℕ → Outcome
+unfoldable pub stepped : Setting → State → List ℕ → Transition
 stepped s t acts =
     let n = count t in
     let ms = eachBelow n (movedOf t acts) in
     let m : ℕ → Moved = λ i. getD ms i (stays nobody) in
-    outcomeOf s (t .side) n (t .food) m
+    transitionOf s (t .side) n (t .food) m

@@ -1,6 +1,7 @@
 -- Who acts, which actions are legal, and the mark of a truncation (01, 'Turns'). Assumes nothing.
 use Prim.Native.Nat.{ℕ}
-use mathlib.Core.Bool.{Bool, true, false, not, _&&_}
+use mathlib.Core.Path.{_≡_}
+use mathlib.Core.Bool.{Bool, not, _&&_}
 use mathlib.Core.List.{List, [], _∷_}
 use lib.Dec.{ltb}
 use Rattle.lists.specs.Choice.{_if_else_}
@@ -27,3 +28,14 @@ truncated e b = record {
   drew = e .drew;
   survived = b;
 }
+
+-- f is e but for its survival flag, which is b
+pub record OnlySurvival (e f : Event) (b : Bool) : Type 0 where
+  pub ate : f .ate ≡ e .ate
+  pub died : f .died ≡ e .died
+  pub cause : f .cause ≡ e .cause
+  pub killed : f .killed ≡ e .killed
+  pub won : f .won ≡ e .won
+  pub lost : f .lost ≡ e .lost
+  pub drew : f .drew ≡ e .drew
+  pub survived : f .survived ≡ b

@@ -1,6 +1,6 @@
 -- What an agent sees (01, 'Observation'). Assumes nothing.
 use Prim.Native.Nat.{ℕ, _+_, _*_, _-_, _/_, _%_}
-use mathlib.Core.Bool.{Bool, true, false}
+use mathlib.Core.Bool.{Bool}
 use mathlib.Core.List.{List, [], _∷_, map}
 use lib.Dec.{eqb}
 use lib.ListN.{getD, take, drop}
@@ -13,16 +13,16 @@ use Rattle.rules.specs.Image.{bodyOf}
 use Rattle.rules.specs.declared.Heading.{Heading}
 use Rattle.rules.specs.declared.Heading.the-variants.{Up, Right, Down, Left}
 
--- 'Turn by heading: Up (r,c); Right (g-1-c, r); Down (g-1-r, g-1-c); Left (c, g-1-r)', as a cell
-abbrev pub shows : ℕ → Heading → ℕ → ℕ → ℕ
-shows g Up r c = r * g + c
-shows g Right r c = (g - 1 - c) * g + r
-shows g Down r c = (g - 1 - r) * g + (g - 1 - c)
-shows g Left r c = c * g + (g - 1 - r)
+-- 'Turn by heading: Up (r,c); Right (g-1-c, r); Down (g-1-r, g-1-c); Left (c, g-1-r)'
+abbrev pub shows : ℕ → Heading → ℕ → ℕ → ℕ × ℕ
+shows g Up r c = (r, c)
+shows g Right r c = (g - 1 - c, r)
+shows g Down r c = (g - 1 - r, g - 1 - c)
+shows g Left r c = (c, g - 1 - r)
 
 -- the cell at which a cell shows
 abbrev pub turnedCell : ℕ → Heading → ℕ → ℕ
-turnedCell g h c = shows g h (c / g) (c % g)
+turnedCell g h c = shows g h (c / g) (c % g) .0 * g + shows g h (c / g) (c % g) .1
 
 -- '0.0 or 1.0'
 abbrev pub lit : Bool → Float

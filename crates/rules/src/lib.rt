@@ -133,10 +133,10 @@ pub enum Reward {
 pub enum Space {
     Box {
         planes: usize,
-        high: usize,
-        wide: usize,
+        rows: usize,
+        cols: usize,
         low: f32,
-        top: f32,
+        high: f32,
     },
     Discrete(usize),
     Refused(u8),

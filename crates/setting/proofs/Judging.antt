@@ -1,5 +1,5 @@
 -- From placed bodies to the number that is given: 9, 11, 12 or none. Assumes nothing.
-use Prim.Native.Nat.{ℕ, zero, _+_, _-_, _*_, _≤_}
+use Prim.Native.Nat.{ℕ, _+_, _-_, _*_, _≤_}
 use native.Mathlib.Nat.{mul-le-mul, sub-zero}
 use native.Mathlib.Omega.{arith}
 use mathlib.Core.Path.{_≡_, sym, ap, _∙_}
@@ -23,7 +23,8 @@ use Rattle.rules.specs.declared.Setting.{Setting}
 use Rattle.rules.proofs.SettingParts.{check-parts}
 use Rattle.rules.proofs.SettingFacts.{nine-or-ten}
 use Rattle.rules.proofs.PlaceCheck.{all-cells, body-reach, cells-under, check-cells, body-long, all-long}
-use Rattle.setting.specs.Traces.{Ready, Placed, Judged}
+use Rattle.placement.specs.Traces.{Traceable, Placed}
+use Rattle.setting.specs.Tested.{Tested}
 
 -- 'food above the free cells', without a difference
 pub free-less : (a t f : ℕ) → ltb (a - t) f ≡ (ltb 0 f && ltb a (f + t))
@@ -35,8 +36,8 @@ free-less a t f = elim (ordered (a - t) f) [
   ]
 ]
 
-module _ (g n size f : ℕ) (old : List ℕ) (ready : Ready g n size old) (new : List ℕ) (b : Bool) (p : Placed g n size old new b) where
-  pub judge-short : not b ≡ true → Judged (placeCheck (pos g) n size f) (concatBelow n (cellsOf g n size)) old new 9
+module _ (g n size f : ℕ) (old : List ℕ) (ready : Traceable g n size old) (new : List ℕ) (b : Bool) (p : Placed g n size old new b) where
+  pub judge-short : not b ≡ true → Tested (placeCheck (pos g) n size f) (concatBelow n (cellsOf g n size)) old new 9
   judge-short t =
       let s : someShort (pos g) n size ≡ true = not-false (someShort (pos g) n size) (sym (p .says) ∙ not-true b t) in
       record {
@@ -78,14 +79,14 @@ module _ (g n size f : ℕ) (old : List ℕ) (ready : Ready g n size old) (new :
       told : distinct (concatBelow n (cellsOf g n size)) ≡ d
       told = ap distinct (sym part-cells) ∙ sym e
 
-      pub judge-twice : not d ≡ true → Judged (placeCheck (pos g) n size f) (concatBelow n (cellsOf g n size)) old new 11
+      pub judge-twice : not d ≡ true → Tested (placeCheck (pos g) n size f) (concatBelow n (cellsOf g n size)) old new 11
       judge-twice h =
           record {
             says = sym (check-cells g n size (ready .side-min) (ready .side-max) (ready .size-min) f ∙ rw (none, told, h));
             words = λ z. let y : _≡_ {A = ℕ} 11 0 = z in absurd (omega arith);
           }
 
-      pub judge-last : not d ≡ false → (r : ℕ) → r ≡ (12 if ltb (g * g - n * size) f else 0) → Judged (placeCheck (pos g) n size f) (concatBelow n (cellsOf g n size)) old new r
+      pub judge-last : not d ≡ false → (r : ℕ) → r ≡ (12 if ltb (g * g - n * size) f else 0) → Tested (placeCheck (pos g) n size f) (concatBelow n (cellsOf g n size)) old new r
       judge-last h r q =
           record {
             says =
@@ -99,7 +100,7 @@ module _ (g n size f : ℕ) (old : List ℕ) (ready : Ready g n size old) (new :
 -- ---- numbers that are not 0, and halves put together
 
 -- a grid that is too small for any setting
-pub judge-small : (number k reach : ℕ) (cells old new : List ℕ) (r : ℕ) → number ≡ (9 if ltb reach k else 10) → r ≡ (9 if ltb reach k else 10) → Judged number cells old new r
+pub judge-small : (number k reach : ℕ) (cells old new : List ℕ) (r : ℕ) → number ≡ (9 if ltb reach k else 10) → r ≡ (9 if ltb reach k else 10) → Tested number cells old new r
 judge-small number k reach cells old new r e q = record { says = q ∙ sym e; words = λ z. absurd (nine-or-ten (ltb reach k) (sym q ∙ z)) }
 
 -- the number of the first half, or of the second
@@ -111,15 +112,15 @@ module _ (s : Setting) (k : ℕ) (e : k ≡ limitsCheck s) where
   check-second z r q = q ∙ sym (check-parts s ∙ ap (λ (m : ℕ). firstOf m (placeCheck (s .grid) (s .snakes) (s .size) (s .food))) (sym e ∙ z))
 
   module _ (cells old new : List ℕ) where
-    pub judge-first : (k ≡ 0 → ⊥) → Judged (settingCheck s) cells old new k
+    pub judge-first : (k ≡ 0 → ⊥) → Tested (settingCheck s) cells old new k
     judge-first h = record { says = check-first h; words = λ z. absurd (h z) }
 
-    pub judge-second : k ≡ 0 → (r : ℕ) → Judged (placeCheck (s .grid) (s .snakes) (s .size) (s .food)) cells old new r → Judged (settingCheck s) cells old new r
+    pub judge-second : k ≡ 0 → (r : ℕ) → Tested (placeCheck (s .grid) (s .snakes) (s .size) (s .food)) cells old new r → Tested (settingCheck s) cells old new r
     judge-second z r j = record { says = check-second z r (j .says); words = j .words }
 
 -- the same of a grid and its side
 pub judge-side : (g : ℤ) (m n k f : ℕ) (old new : List ℕ) (r : ℕ) → m ≡ sideOf g → g ≡ pos (sideOf g)
-    → Judged (placeCheck (pos m) n k f) (concatBelow n (cellsOf m n k)) old new r → Judged (placeCheck g n k f) (concatBelow n (cellsOf (sideOf g) n k)) old new r
+    → Tested (placeCheck (pos m) n k f) (concatBelow n (cellsOf m n k)) old new r → Tested (placeCheck g n k f) (concatBelow n (cellsOf (sideOf g) n k)) old new r
 judge-side g m n k f old new r e h j =
     record {
       says = j .says ∙ ap (λ (z : ℤ). placeCheck z n k f) (ap pos e ∙ sym h);

@@ -1,5 +1,5 @@
 -- From the words of the initial state to the promise of the call. Assumes nothing.
-use Prim.Native.Nat.{ℕ, zero, _+_, _-_, _*_, _<_, _≤_}
+use Prim.Native.Nat.{ℕ, _+_, _-_, _*_, _<_, _≤_}
 use native.Mathlib.Nat.{sub-zero}
 use native.Mathlib.Omega.{arith}
 use mathlib.Core.Path.{_≡_, refl, sym, ap, _∙_}
@@ -8,25 +8,23 @@ use lib.Dec.{ltb}
 use lib.ListN.{length, take, drop, length-append}
 use lib.Seq.{take-append-seam}
 use borrow.Author.Tests.{lt-ltb, le-ltb}
-use Rattle.lists.specs.Choice.{_if_else_, bit}
+use Rattle.lists.specs.Choice.{bit}
 use Rattle.lists.specs.Below.{concatBelow}
 use Rattle.lists.specs.Lists.{writeAt, overFront}
 use Rattle.lists.proofs.Repeats.{sum-same}
 use Rattle.lists.proofs.Below.{concat-long, sum-ext}
 use Rattle.lists.proofs.Concat.{blocks-long}
 use Rattle.lists.proofs.Writes.{write-front}
-use Rattle.rules.specs.State.{State}
 use Rattle.rules.specs.Image.{imageOf}
 use Rattle.rules.specs.Calls.{initialSays}
 use Rattle.rules.specs.Promises.{Starts}
-use Rattle.rules.specs.Says.{Says, refuses, gives, first, seen, lent, says}
+use Rattle.rules.specs.Says.{refuses, gives, first, seen, lent, says}
 use Rattle.rules.specs.Setting.{sideOf, settingCheck, initialState}
 use Rattle.rules.specs.SettingParts.{cellsOf, startCells, startRecord, startContents}
 use Rattle.rules.specs.declared.Answer.{Answer}
 use Rattle.rules.specs.declared.Answer.the-variants.{Done, Refused}
 use Rattle.rules.specs.declared.Setting.{Setting}
-use Rattle.rules.proofs.Firsts.{first-refuses}
-use Rattle.rules.proofs.Tables.{startFor, initial-says}
+use Rattle.rules.proofs.Tables.{startFor, initial-says, first-refuses}
 use Rattle.rules.proofs.Facts.{square-le}
 use Rattle.rules.proofs.InitialFacts.{cells-long, start-image}
 use Rattle.rules.proofs.SettingFacts.{accepts}

@@ -1,4 +1,3 @@
-pub mod Traces
+pub mod Tested
 pub mod Crowds
 pub mod Starts
-pub mod Apart

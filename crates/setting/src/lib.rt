@@ -1,8 +1,7 @@
-// Where the snakes start, the check of a setting (refusals 1 to 12), and the initial state.
+// The check of a setting (refusals 1 to 12), and the initial state.
 mod limits;
 mod place;
 mod start;
-mod trace;
 
 use limits::limits;
 use limits::side_of;
@@ -18,12 +17,12 @@ ghost use Rattle.rules.specs.Setting.{settingCheck};
 ghost use Rattle.rules.specs.SettingParts.{startCells};
 ghost use Rattle.rules.specs.Says.{first, gives, saysVerdict};
 ghost use Rattle.rules.specs.Promises.{Validates, Starts};
-ghost use Rattle.setting.specs.Traces.{Judged};
+ghost use Rattle.setting.specs.Tested.{Tested};
 
 // 0 where the setting is accepted, and then the cells of all bodies stand at the front of `cells`.
 fn check(setting: Setting, cells: &mut [u16]) -> u8
     requires { ⌜ length (now cells) ≡ 1024 ⌝ }
-    ensures { λ r. ⌜ Judged (settingCheck setting) (startCells setting) (now (cells .entry)) (now (cells .exit)) r ⌝ }
+    ensures { λ r. ⌜ Tested (settingCheck setting) (startCells setting) (now (cells .entry)) (now (cells .exit)) r ⌝ }
 {
     let number = limits(setting);
     if number != 0 {

@@ -2,7 +2,7 @@
 use rules::Limit;
 use rules::Setting;
 ghost use mathlib.Core.Path.{_≡_};
-ghost use Prim.Native.Nat.{_^_, _≤_, min};
+ghost use Prim.Native.Nat.{_^_, _≤_};
 ghost use lib.Dec.{ltb};
 ghost use Rattle.lists.specs.Products.{falling};
 ghost use Rattle.rules.specs.Setting.{isSet, isZero, sideOf};
@@ -37,27 +37,13 @@ pub fn side_of(grid: i32) -> u64
     grid as u64
 }
 
-// Whether the product of k factors from `area` downward is above 2^53: it stops there, so that no product is above 2^63.
-fn too_many(area: u64, k: u64) -> bool
-    requires { ⌜ (area ≤ 1024) × (k ≤ area) ⌝ }
+// Whether the product of k factors from `area` downward is above 2^53; a product that is 0 is one above 2^64 - 1.
+fn too_many(area: usize, k: usize) -> bool
+    requires { ⌜ k ≤ area ⌝ }
     ensures { λ r. ⌜ r ≡ ltb (2 ^ 53) (falling area k) ⌝ }
 {
-    let mut product = 1;
-    let mut j = 0;
-    while j < k {
-        product *= area - j;
-        j += 1;
-        if 9007199254740992 < product {
-            return true;
-        }
-    }
-    false
-}
-
-fn least(a: u64, b: u64) -> u64
-    ensures { λ r. ⌜ r ≡ min a b ⌝ }
-{
-    if a < b { a } else { b }
+    let product = lists::product(area, k);
+    (product == 0) | (9007199254740992 < product)
 }
 
 // Refusals 6, 7 and 8.
@@ -72,7 +58,7 @@ fn crowded(n: u64, side: u64, food: u64) -> u8
     if 10000 < food {
         return 7;
     }
-    if too_many(area, least(n, food)) {
+    if too_many(area as usize, lists::smaller(n as usize, food as usize)) {
         return 8;
     }
     0

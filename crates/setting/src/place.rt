@@ -1,6 +1,7 @@
 // Refusals 9 to 12: the bodies are placed, and only then is any cell judged.
 use crate::limits::side_of;
-use crate::trace::place_snakes;
+use placement::place_snakes;
+use placement::span;
 use rules::Setting;
 ghost use mathlib.Core.Path.{_≡_};
 ghost use lib.Dec.{ltb};
@@ -12,8 +13,8 @@ ghost use Rattle.lists.specs.Below.{concatBelow};
 ghost use Rattle.lists.specs.Boards.{Under};
 ghost use Rattle.lists.specs.Lists.{distinct};
 ghost use Rattle.rules.specs.SettingParts.{placeCheck, cellsOf, startCells, Limited};
-ghost use Rattle.setting.specs.Apart.{spanOf};
-ghost use Rattle.setting.specs.Traces.{Ready, Judged};
+ghost use Rattle.placement.specs.Traces.{Traceable};
+ghost use Rattle.setting.specs.Tested.{Tested};
 
 // No cell twice, by a board of all squares.
 fn all_new(cells: &[u16]) -> bool
@@ -37,9 +38,9 @@ fn full(area: u64, total: u64, food: u64) -> u8
 
 // On a grid of 3 and more every start is inside, so that no cell is outside: 9, 11 or 12.
 fn judge(cells: &mut [u16], g: u16, n: u16, size: usize, food: usize) -> u8
-    requires { ⌜ Ready g n size (now cells) ⌝ }
+    requires { ⌜ Traceable g n size (now cells) ⌝ }
     requires { ⌜ food ≤ 1024 ⌝ }
-    ensures { λ r. ⌜ Judged (placeCheck (pos g) n size food) (concatBelow n (cellsOf g n size)) (now (cells .entry)) (now (cells .exit)) r ⌝ }
+    ensures { λ r. ⌜ Tested (placeCheck (pos g) n size food) (concatBelow n (cellsOf g n size)) (now (cells .entry)) (now (cells .exit)) r ⌝ }
 {
     if !place_snakes(cells, g, n, size) {
         return 9;
@@ -65,7 +66,7 @@ fn beyond(reach: u64, size: u64) -> u8
 pub fn place_check(setting: Setting, cells: &mut [u16]) -> u8
     requires { ⌜ Limited setting ⌝ }
     requires { ⌜ length (now cells) ≡ 1024 ⌝ }
-    ensures { λ r. ⌜ Judged (placeCheck (setting .grid) (setting .snakes) (setting .size) (setting .food)) (startCells setting) (now (cells .entry)) (now (cells .exit)) r ⌝ }
+    ensures { λ r. ⌜ Tested (placeCheck (setting .grid) (setting .snakes) (setting .size) (setting .food)) (startCells setting) (now (cells .entry)) (now (cells .exit)) r ⌝ }
 {
     let grid = setting.grid;
     let size = setting.size;
@@ -78,14 +79,6 @@ pub fn place_check(setting: Setting, cells: &mut [u16]) -> u8
     let n = setting.snakes as u16;
     let food = setting.food as usize;
     judge(cells, places::plain(grid), n, size as usize, food)
-}
-
-// The length below which all bodies lie apart and inside.
-fn span(g: u64, n: u64) -> u64
-    requires { ⌜ (g ≤ 32) × (n ≤ 8) ⌝ }
-    ensures { λ r. ⌜ r ≡ spanOf g n ⌝ }
-{
-    g / 3 + 2 * g / (n + 1)
 }
 
 // The same where no cell is asked for: bodies below the span need no trace.

@@ -10,7 +10,7 @@ use Rattle.rules.specs.Events.{blank}
 use Rattle.rules.specs.declared.Limit.{Limit}
 use Rattle.rules.specs.declared.Limit.the-variants.{Unset, Is}
 use Rattle.rules.specs.declared.Event.{Event}
-use Rattle.text.specs.Text.{placesText}
+use Rattle.letters.specs.Text.{placesText}
 use Rattle.standing.specs.Places.{placesOf}
 use Rattle.standing.specs.declared.Match.{Match}
 

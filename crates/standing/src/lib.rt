@@ -6,12 +6,10 @@ mod shown;
 pub use moves::after_move;
 pub use moves::ends_by;
 pub use moves::mark_all;
-pub use moves::no_events;
 pub use moves::put_end;
 pub use moves::snakes_of;
 use rules::Setting;
 pub use shown::put_line;
-pub use shown::word_at;
 
 // The setting, the moves made, for each snake the move on which it died (0 while it lives), and whether the match is over.
 pub struct Match {

@@ -1,22 +1,19 @@
 // The match as a value: what a move makes of it, which events its line shows, and its last line.
 use crate::Match;
 use crate::ranks::places;
-use crate::shown::word_at;
-use rules::Cause;
+use events::mark;
+use events::no_events;
+use letters::put_places;
+use lists::word_at;
 use rules::Event;
 use rules::Limit;
-use text::put_places;
 ghost use mathlib.Core.Path.{_≡_};
-ghost use mathlib.Core.Bool.{_||_};
-ghost use mathlib.Core.List.{[]};
 ghost use Prim.Native.Nat.{_<_, _≤_};
 ghost use lib.ListN.{length};
 ghost use Rattle.lists.specs.Choice.{_if_else_};
 ghost use Rattle.lists.specs.Below.{filled};
-ghost use Rattle.rules.specs.Events.{blank, eight};
-ghost use Rattle.rules.specs.Turns.{truncated};
-ghost use Rattle.rules.specs.declared.Event.{Event};
-ghost use Rattle.text.specs.Text.{Wrote};
+ghost use Rattle.rules.specs.Events.{blank};
+ghost use Rattle.letters.specs.Text.{Wrote};
 ghost use Rattle.standing.specs.Shown.{markShown};
 ghost use Rattle.standing.specs.Standing.{snakesOf, counted, reached, endsBy, deathsAfter, moved, endText};
 
@@ -30,27 +27,6 @@ pub fn snakes_of(m: Match) -> usize
         return 8;
     }
     n as usize
-}
-
-fn no_event() -> Event
-    ensures { λ r. ⌜ r ≡ blank ⌝ }
-{
-    Event {
-        ate: false,
-        died: false,
-        cause: Cause::NoCause,
-        killed: false,
-        won: false,
-        lost: false,
-        drew: false,
-        survived: false,
-    }
-}
-
-pub fn no_events() -> [Event; 8]
-    ensures { λ r. ⌜ r ≡ eight [] ⌝ }
-{
-    [no_event(); 8]
 }
 
 // One move more; 2^64 - 1 of them are never made.
@@ -79,23 +55,6 @@ pub fn ends_by(m: Match, over: bool) -> bool
     let s = m.setting;
     let ticks = s.ticks;
     !over & has_reached(ticks, count_on(m.moves))
-}
-
-// Truncation: the survival flag is the alive flag.
-fn mark(e: Event, alive: bool) -> Event
-    ensures { λ r. ⌜ r ≡ truncated e alive ⌝ }
-{
-    let cause = e.cause;
-    Event {
-        ate: e.ate,
-        died: e.died,
-        cause,
-        killed: e.killed,
-        won: e.won,
-        lost: e.lost,
-        drew: e.drew,
-        survived: alive,
-    }
 }
 
 // The events of n snakes, the living marked y.

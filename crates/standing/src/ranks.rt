@@ -1,5 +1,5 @@
 // The places at the end of a match.
-use text::more_if;
+use lists::more_if;
 ghost use mathlib.Core.Path.{_≡_};
 ghost use Prim.Native.Nat.{_<_, _≤_};
 ghost use Rattle.lists.specs.Below.{countBelow};

@@ -1,25 +1,17 @@
 // An output line of the words of an image. Words past its end read as 0, so that nothing is asked of the image.
+use letters::put;
+use letters::put_body;
+use letters::put_events;
+use letters::put_head;
+use lists::word_at;
 use rules::Event;
-use text::put;
-use text::put_body;
-use text::put_events;
-use text::put_head;
 ghost use mathlib.Core.Path.{_≡_};
 ghost use Prim.Native.Nat.{_+_, _*_, _<_, _≤_};
 ghost use lib.ListN.{length};
 ghost use Rattle.lists.specs.Below.{concatBelow};
 ghost use Rattle.rules.specs.Image.{word};
-ghost use Rattle.text.specs.Text.{Wrote};
+ghost use Rattle.letters.specs.Text.{Wrote};
 ghost use Rattle.standing.specs.Shown.{snakeShown, snakeShownBy, lineShown};
-
-pub fn word_at(image: &[u16], k: usize) -> u64
-    ensures { λ r. ⌜ r ≡ word (now (image .entry)) k ⌝ }
-{
-    if k < image.len() {
-        return image[k] as u64;
-    }
-    0
-}
 
 // The first word of the body of snake i.
 fn first_of(image: &[u16], i: usize) -> u64

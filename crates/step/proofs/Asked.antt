@@ -1,7 +1,7 @@
 -- The refusals in their order: what the numbers say, and what is known of an image that none of them refuses. Assumes nothing.
 use Prim.Native.Nat.{ℕ, zero, suc}
 use mathlib.Core.Path.{_≡_, refl, sym, ap, _∙_}
-use mathlib.Core.Bool.{Bool, true, false, not, _&&_}
+use mathlib.Core.Bool.{true, false, not, _&&_}
 use mathlib.Core.List.{List, [], _∷_}
 use native.Mathlib.Omega.{arith}
 use lib.Dec.{ltb, eqb}
@@ -18,19 +18,18 @@ use Rattle.rules.specs.Setting.{settingOrder, settingCheck}
 use Rattle.rules.specs.State.{Snake, snakeOf}
 use Rattle.rules.specs.Image.{snakesIn, dueIn, aliveAt, stateOf, imageOf, wellFormed}
 use Rattle.rules.specs.Facts.{Sound}
-use Rattle.rules.specs.Says.{Says, refuses, gives, first, seen, beside, lent, says, saysVerdict, byTable}
+use Rattle.rules.specs.Says.{refuses, gives, first, seen, beside, lent, says, saysVerdict, byTable}
 use Rattle.rules.specs.Events.{blank, eight}
 use Rattle.rules.specs.Promises.{Validates, Steps}
 use Rattle.rules.specs.Calls.{stepSays}
 use Rattle.rules.specs.Orders.{differs, badAction, askedRows, askedOrder}
-use Rattle.rules.specs.Step.{Outcome, stepped}
+use Rattle.rules.specs.Step.{Transition, stepped}
 use Rattle.rules.specs.declared.Setting.{Setting}
 use Rattle.rules.specs.declared.Stepped.{Stepped}
 use Rattle.rules.specs.declared.Verdict.{Verdict}
 use Rattle.rules.specs.declared.Verdict.the-variants.{Accepted, Refused}
 use Rattle.rules.proofs.Facts.{sound}
-use Rattle.rules.proofs.Firsts.{first-refuses}
-use Rattle.rules.proofs.Tables.{setting-says, table-then}
+use Rattle.rules.proofs.Tables.{setting-says, table-then, first-refuses}
 use Rattle.rules.proofs.Parts.{state-count, state-snake}
 use Rattle.judge.specs.declared.Judged.{Judged}
 use Rattle.judge.specs.World.{Judges}
@@ -139,10 +138,10 @@ module _ (s : Setting) (w acts old : List ℕ) where
       let p : stepSays s w acts (length old) ≡ refuses k =
       step-says s w acts (length old) ∙ ap (λ (n : ℕ). first n (roomFor (stepped s (stateOf w) acts) (length old))) (sym e) ∙ first-refuses k _ h in
       record {
-        answer = ap says (q .answer) ∙ sym (ap (seen (λ (o : Outcome). length (imageOf (o .next)))) p);
-        terminal = q .terminal ∙ sym (ap (beside (λ (o : Outcome). o .terminal) false) p);
-        events = q .events ∙ sym (ap (beside (λ (o : Outcome). eight (o .events)) (replicate 8 blank)) p);
-        words = sym (ap (lent (λ (o : Outcome). imageOf (o .next)) old) p);
+        answer = ap says (q .answer) ∙ sym (ap (seen (λ (o : Transition). length (imageOf (o .next)))) p);
+        terminal = q .terminal ∙ sym (ap (beside (λ (o : Transition). o .terminal) false) p);
+        events = q .events ∙ sym (ap (beside (λ (o : Transition). eight (o .events)) (replicate 8 blank)) p);
+        words = sym (ap (lent (λ (o : Transition). imageOf (o .next)) old) p);
       }
 
   pub steps-done : (new : List ℕ) (r : Stepped) → 0 ≡ asked s w acts → Applied (stepped s (stateOf w) acts) old new r → Steps s w acts old new r
@@ -150,8 +149,8 @@ module _ (s : Setting) (w acts old : List ℕ) where
       let p : stepSays s w acts (length old) ≡ roomFor (stepped s (stateOf w) acts) (length old) =
       step-says s w acts (length old) ∙ ap (λ (n : ℕ). first n (roomFor (stepped s (stateOf w) acts) (length old))) (sym e) in
       record {
-        answer = q .answer ∙ sym (ap (seen (λ (o : Outcome). length (imageOf (o .next)))) p);
-        terminal = q .terminal ∙ sym (ap (beside (λ (o : Outcome). o .terminal) false) p);
-        events = q .events ∙ sym (ap (beside (λ (o : Outcome). eight (o .events)) (replicate 8 blank)) p);
-        words = q .words ∙ sym (ap (lent (λ (o : Outcome). imageOf (o .next)) old) p);
+        answer = q .answer ∙ sym (ap (seen (λ (o : Transition). length (imageOf (o .next)))) p);
+        terminal = q .terminal ∙ sym (ap (beside (λ (o : Transition). o .terminal) false) p);
+        events = q .events ∙ sym (ap (beside (λ (o : Transition). eight (o .events)) (replicate 8 blank)) p);
+        words = q .words ∙ sym (ap (lent (λ (o : Transition). imageOf (o .next)) old) p);
       }

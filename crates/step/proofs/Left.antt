@@ -12,8 +12,9 @@ use Rattle.lists.proofs.Below.{count-next, concat-next}
 use Rattle.lists.proofs.Lists.{member-append}
 use Rattle.image.specs.Writers.{left}
 use Rattle.rules.specs.Step.{eatenBy}
-use Rattle.step.specs.declared.after.After.{After}
-use Rattle.step.specs.After.{cells, eating, bite}
+use Rattle.consequences.specs.declared.after.After.{After}
+use Rattle.consequences.specs.After.{cells, eating}
+use Rattle.step.specs.Eaten.{bite}
 
 module _ (all : List After) (i : ℕ) where
   pub bite-none : eating all i ≡ false → concatBelow (i + 1) (bite all) ≡ concatBelow i (bite all)

@@ -1,4 +1,3 @@
-mod Laws
 mod Left
 mod Words
 mod Room

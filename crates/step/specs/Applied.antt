@@ -10,7 +10,7 @@ use Rattle.rules.specs.declared.Stepped.{Stepped}
 use Rattle.rules.specs.Events.{blank, eight}
 use Rattle.rules.specs.Image.{snakesIn, sideIn, imageOf}
 use Rattle.rules.specs.Says.{Says, refuses, gives, seen, beside, lent, says}
-use Rattle.rules.specs.Step.{causeOf, Outcome}
+use Rattle.rules.specs.Step.{causeOf, Transition}
 use Rattle.judge.specs.declared.Judged.{Judged}
 use Rattle.judge.specs.World.{movesOf, causesOf, judgedWorld}
 
@@ -21,10 +21,10 @@ pub record Ready (w : List ℕ) (js : List Judged) : Type 0 where
   pub short : (i : ℕ) → i < snakesIn w → movesOf js i .keep ≤ 1024
 
 -- 29 is the last refusal of a step
-abbrev pub roomFor : Outcome → ℕ → Says Outcome
+abbrev pub roomFor : Transition → ℕ → Says Transition
 roomFor o room = refuses 29 if ltb room (length (imageOf (o .next))) else gives o
 
-pub record Applied (o : Outcome) (old new : List ℕ) (r : Stepped) : Type 0 where
+pub record Applied (o : Transition) (old new : List ℕ) (r : Stepped) : Type 0 where
   pub answer : says (r .answer) ≡ seen (λ o. length (imageOf (o .next))) (roomFor o (length old))
   pub terminal : r .terminal ≡ beside (λ o. o .terminal) false (roomFor o (length old))
   pub events : r .events ≡ beside (λ o. eight (o .events)) (replicate 8 blank) (roomFor o (length old))

@@ -1,4 +1,4 @@
-pub mod After
+pub mod Eaten
 pub mod Next
 pub mod Applied
 pub mod Asked

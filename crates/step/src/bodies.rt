@@ -1,6 +1,6 @@
 // The records and the bodies of the next image.
-use crate::after::After;
-use crate::after::size_of;
+use consequences::After;
+use consequences::size_of;
 ghost use mathlib.Core.Path.{_≡_};
 ghost use Prim.Native.Nat.{_+_, _*_, _<_, _≤_};
 ghost use lib.ListN.{length};
@@ -8,7 +8,7 @@ ghost use Rattle.lists.specs.Below.{concatBelow};
 ghost use Rattle.lists.specs.Lists.{writeAt};
 ghost use Rattle.lists.specs.Written.{Written};
 ghost use Rattle.rules.specs.Image.{front};
-ghost use Rattle.step.specs.After.{Parts, Short};
+ghost use Rattle.consequences.specs.After.{InImage, Short};
 ghost use Rattle.step.specs.Next.{recordIn, bodyIn};
 
 // Four words of each snake, from word 5 on.
@@ -31,7 +31,7 @@ pub fn write_records(out: &mut [u16], all: [After; 8], n: usize)
 
 pub fn write_bodies(out: &mut [u16], from: usize, image: &[u16], all: [After; 8], n: usize) -> usize
     requires { ⌜ (n ≤ 8) × (from + length (concatBelow n (bodyIn (now image) all)) ≤ length (now out)) ⌝ }
-    requires { ⌜ Parts (now image) all ⌝ }
+    requires { ⌜ InImage (now image) all ⌝ }
     ensures { λ r. ⌜ Written (now (out .entry)) from (concatBelow n (bodyIn (now (image .entry)) all)) (now (out .exit)) r ⌝ }
 {
     let mut at = from;

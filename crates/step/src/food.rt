@@ -1,7 +1,7 @@
 // 'Surviving eaters remove their food': the cells eaten.
-use crate::after::After;
+use consequences::After;
 ghost use Prim.Native.Nat.{_≤_};
-ghost use Rattle.step.specs.After.{EatenAre};
+ghost use Rattle.step.specs.Eaten.{EatenAre};
 
 // The cells that were eaten: the first `count` of the array.
 pub struct Eaten {

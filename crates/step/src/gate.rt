@@ -1,6 +1,6 @@
 // The public call: the refusals in their order, then the step of a checked image.
 use crate::apply::apply;
-use crate::events::blanks;
+use events::no_events;
 use judge::judge;
 use rules::Answer;
 use rules::Setting;
@@ -89,7 +89,7 @@ fn refused(number: u8) -> Stepped
     Stepped {
         answer: Answer::Refused(number),
         terminal: false,
-        events: blanks(),
+        events: no_events(),
     }
 }
 

@@ -1,5 +1,5 @@
 -- What the loops over the pieces of a line need: where a piece ends, how many there are, where the next one starts. Assumes nothing.
-use Prim.Native.Nat.{ℕ, zero, suc, _+_, _-_, _<_, _≤_}
+use Prim.Native.Nat.{ℕ, suc, _+_, _-_, _<_, _≤_}
 use native.Mathlib.Numerals.{add-one}
 use native.Mathlib.Nat.{add-zero}
 use native.Mathlib.Omega.{arith}
@@ -11,7 +11,7 @@ use lib.ListN.{length, getD, take, drop, drop-of-length-le, length-drop}
 use lib.Seq.{drop-cons, drop-drop, getD-drop}
 use borrow.Author.Tests.{eq-eqb, ne-eqb, le-leb, lt-leb, leb-true, leb-false}
 use Rattle.lists.specs.Choice.{_if_else_, bit}
-use Rattle.text.specs.Fields.{upTo, pastEach, pieces, piecesFrom, fieldsOf, fieldAt}
+use Rattle.text.specs.Fields.{upTo, pastEach, pieces, piecesFrom, fieldAt}
 
 module _ (b : ℕ) where
   -- the first piece is the front of the bytes

@@ -1,18 +1,17 @@
 -- A line that comes in parts is read as the whole line; an input is its lines. Assumes nothing.
-use Prim.Native.Nat.{ℕ, suc, _+_, _-_, _<_, _≤_, min}
+use Prim.Native.Nat.{ℕ, _+_, _-_, _<_, _≤_}
 use native.Mathlib.Omega.{arith}
 use mathlib.Core.Path.{_≡_, refl, sym, ap, _∙_}
 use mathlib.Core.Bool.{Bool, true, false, cond}
 use mathlib.Core.List.{List, [], _∷_, _++_}
-use lib.Dec.{eqb, ltb}
+use lib.Dec.{eqb}
 use lib.ListN.{length, take, drop, length-append}
 use lib.Seq.{take-at, length-take-le}
-use borrow.Author.Tests.{lt-ltb, eq-eqb}
-use Rattle.lists.specs.Choice.{_if_else_}
+use borrow.Author.Tests.{lt-ltb}
 use Rattle.lists.specs.Lists.{writeAt}
 use Rattle.lists.proofs.Tests.{ordered, less, more}
 use Rattle.text.specs.Fields.{upTo, pastEach, pieces}
-use Rattle.text.specs.Lines.{readFirst, noEntry, readLater}
+use Rattle.text.specs.Lines.{readFirst, readLater}
 use Rattle.text.specs.Split.{Holds, lessLast, linesFrom, linesOf}
 
 -- ---- one more part

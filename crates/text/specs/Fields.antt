@@ -1,7 +1,7 @@
 -- Bytes cut into pieces at a byte b: a line's fields at its spaces, an input's lines at its newlines. Assumes nothing.
 use Prim.Native.Nat.{ℕ, _-_, _≤_}
 use mathlib.Core.Path.{_≡_}
-use mathlib.Core.Bool.{Bool, cond}
+use mathlib.Core.Bool.{cond}
 use mathlib.Core.List.{List, [], _∷_}
 use lib.Dec.{leb, eqb}
 use lib.ListN.{length, getD, take, drop}
@@ -25,7 +25,7 @@ pieces b s = upTo b s ∷ pastEach b s
 abbrev pub piecesFrom : ℕ → List ℕ → ℕ → List (List ℕ)
 piecesFrom b s at = pieces b (drop at s) if leb at (length s) else []
 
--- 'Single spaces': two side by side have an empty field between them, which no number is
+-- 'Single spaces' (32): two side by side have an empty field between them, which no number is
 abbrev pub fieldsOf : List ℕ → List (List ℕ)
 fieldsOf s = pieces 32 s
 

@@ -19,7 +19,6 @@ use Rattle.text.specs.declared.Flag.{Flag}
 use Rattle.text.specs.declared.Flag.the-variants.{NoFlag, Flagged}
 use Rattle.text.specs.declared.First.{First}
 use Rattle.text.specs.declared.First.the-variants.{NoFirst, Opens}
-use Rattle.text.specs.declared.Line.{Line}
 use Rattle.text.specs.declared.Line.the-variants.{NoLine, DrawLine, MoveLine}
 use Rattle.text.specs.declared.Entry.{Entry}
 use Rattle.text.specs.declared.Got.{Got}
@@ -61,7 +60,7 @@ drawBy (Reads n) = record { line = DrawLine n; acts = replicate 8 0 }
 unfoldable pub drawIn : List (List ℕ) → Entry
 drawIn fs = drawBy (decimalOf (fieldAt fs 1)) if eqb (length fs) 2 else noEntry
 
--- the i-th action is the field after it
+-- action i is field i + 1
 abbrev pub isAction : List (List ℕ) → ℕ → Bool
 isAction fs i = isDecimal (fieldAt fs (i + 1))
 
@@ -74,6 +73,7 @@ actionsIn n fs = record { line = MoveLine; acts = filled (action fs) n 8 0 } if 
 unfoldable pub moveIn : ℕ → List (List ℕ) → Entry
 moveIn n fs = actionsIn n fs if eqb (length fs) (n + 1) else noEntry
 
+-- `d` is 100, `m` 109
 unfoldable pub entryIn : ℕ → List (List ℕ) → Entry
 entryIn n fs =
     drawIn fs if isByte 100 (fieldAt fs 0) else

@@ -1,12 +1,11 @@
 -- Numbers of the replay's lines, read from bytes (01, 'Replay'). Assumes nothing.
-use Prim.Native.Nat.{ℕ, _+_, _*_, _-_, _^_}
+use Prim.Native.Nat.{ℕ, _+_, _*_, _-_}
 use mathlib.Core.Bool.{Bool, true, false, not, _&&_, _||_}
 use mathlib.Core.List.{List, [], _∷_}
 use lib.Dec.{ltb, leb, eqb}
 use lib.ListN.{length, getD, drop}
 use lib.IntN.{pos, negsuc}
 use Rattle.lists.specs.Choice.{_if_else_}
-use Rattle.rules.specs.declared.Limit.{Limit}
 use Rattle.rules.specs.declared.Limit.the-variants.{Unset, Is}
 use Rattle.text.specs.declared.Num.{Num}
 use Rattle.text.specs.declared.Num.the-variants.{NoNumber, Reads}
@@ -17,7 +16,7 @@ use Rattle.text.specs.declared.Bound.the-variants.{NoBound, Bounds}
 use Rattle.text.specs.declared.Flag.{Flag}
 use Rattle.text.specs.declared.Flag.the-variants.{NoFlag, Flagged}
 
--- `0` to `9`
+-- `0` (48) to `9` (57)
 abbrev pub isDigit : ℕ → Bool
 isDigit b = leb 48 b && leb b 57
 
@@ -30,7 +29,7 @@ unfoldable pub readOn : ℕ → List ℕ → ℕ
 readOn v [] = v
 readOn v (b ∷ s) = readOn (v * 10 + (b - 48)) s
 
--- 'without leading zeros': at least one byte, and no zero before another
+-- 'without leading zeros': at least one byte, and no zero (48) before another
 abbrev pub unpadded : List ℕ → Bool
 unpadded s = not (eqb (length s) 0) && (eqb (length s) 1 || not (eqb (getD s 0 0) 48))
 
@@ -57,6 +56,7 @@ abbrev pub gridBelow : Num → Grid
 gridBelow NoNumber = NoGrid
 gridBelow (Reads n) = GridIs (negsuc (n - 1)) if not (eqb n 0) && leb n 2147483648 else NoGrid
 
+-- a minus sign is 45
 unfoldable pub gridOf : List ℕ → Grid
 gridOf s = gridBelow (decimalOf (drop 1 s)) if eqb (getD s 0 0) 45 else gridAbove (decimalOf s)
 
@@ -64,11 +64,11 @@ gridOf s = gridBelow (decimalOf (drop 1 s)) if eqb (getD s 0 0) 45 else gridAbov
 abbrev pub isByte : ℕ → List ℕ → Bool
 isByte b s = eqb (length s) 1 && eqb (getD s 0 0) b
 
--- '`-` means none'
 abbrev pub boundBy : Num → Bound
 boundBy NoNumber = NoBound
 boundBy (Reads n) = Bounds (Is n)
 
+-- '`-` means none': 45
 unfoldable pub boundOf : List ℕ → Bound
 boundOf s = Bounds Unset if isByte 45 s else boundBy (decimalOf s)
 

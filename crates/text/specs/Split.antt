@@ -15,7 +15,7 @@ abbrev pub linesFrom : List (List ℕ) → List (List ℕ)
 linesFrom [] = []
 linesFrom (s ∷ ts) = lessLast s ts
 
--- the lines of an input, without their newlines; a blank line is a line
+-- the lines of an input, without their newlines (10); a blank line is a line
 unfoldable pub linesOf : List ℕ → List (List ℕ)
 linesOf s = linesFrom (pieces 10 s)
 

@@ -9,22 +9,12 @@ use crate::numbers::decimal;
 use crate::numbers::flag_by;
 use crate::numbers::grid_in;
 use crate::numbers::is_byte;
+use lists::more_if;
 ghost use mathlib.Core.Path.{_≡_};
-ghost use Prim.Native.Nat.{_+_, _<_, _≤_};
+ghost use Prim.Native.Nat.{_+_, _≤_};
 ghost use lib.ListN.{length, drop};
-ghost use Rattle.lists.specs.Choice.{bit};
 ghost use Rattle.text.specs.Numbers.{decimalOf, gridOf, boundOf, flagOf, isByte};
 ghost use Rattle.text.specs.Fields.{upTo, piecesFrom, fieldsOf, fieldAt, Spans};
-
-pub fn more_if(k: usize, b: bool) -> usize
-    requires { ⌜ k < 18446744073709551615 ⌝ }
-    ensures { λ r. ⌜ r ≡ k + bit b ⌝ }
-{
-    if b {
-        return k + 1;
-    }
-    k
-}
 
 // One more than the line has spaces.
 pub fn field_count(s: &[u8]) -> usize
@@ -33,7 +23,7 @@ pub fn field_count(s: &[u8]) -> usize
     let mut k = 1;
     let mut i = 0;
     while i < s.len() {
-        k = more_if(k, s[i] == 32);
+        k = more_if(k, s[i] == b' ');
         i += 1;
     }
     k
@@ -62,7 +52,7 @@ pub fn next_start(s: &[u8], at: usize) -> usize
     if s.len() < at {
         return at;
     }
-    piece_end(s, at, 32) + 1
+    piece_end(s, at, b' ') + 1
 }
 
 // Where the k-th field starts; past the line where there is none.
@@ -91,7 +81,7 @@ fn field(s: &[u8], k: usize) -> Span
     }
     Span {
         from: at,
-        to: piece_end(s, at, 32),
+        to: piece_end(s, at, b' '),
     }
 }
 

@@ -1,20 +1,10 @@
-// The text of the programs: the input cut into lines, lines read, pieces of lines written. The types that its modules share.
-mod bytes;
+// The text of the programs, read: the input cut into lines, the lines into fields and numbers. The types that its modules share.
 mod fields;
-mod letters;
 mod lines;
 mod numbers;
 mod split;
 
-pub use bytes::put;
-pub use bytes::put_item;
-pub use fields::more_if;
 pub use fields::start_of;
-pub use letters::put_body;
-pub use letters::put_events;
-pub use letters::put_head;
-pub use letters::put_places;
-pub use letters::put_refusal;
 pub use lines::next_number;
 pub use lines::read_first;
 pub use lines::read_later;

@@ -126,7 +126,7 @@ pub fn next_number(s: &[u8], at: usize) -> Got
             next: at,
         };
     }
-    let end = piece_end(s, at, 32);
+    let end = piece_end(s, at, b' ');
     let num = decimal(&s[at..end]);
     Got { num, next: end + 1 }
 }
@@ -169,10 +169,10 @@ fn entry_in(s: &[u8], n: usize) -> Entry
     requires { ⌜ n ≤ 8 ⌝ }
     ensures { λ r. ⌜ r ≡ entryIn n (fieldsOf (now (s .entry))) ⌝ }
 {
-    if word_is(100, s, 0) {
+    if word_is(b'd', s, 0) {
         return draw_in(s);
     }
-    if word_is(109, s, 0) {
+    if word_is(b'm', s, 0) {
         return move_in(s, n);
     }
     no_entry()

@@ -16,7 +16,7 @@ fn wide(b: u8) -> u64
 fn is_digit(b: u8) -> bool
     ensures { λ r. ⌜ r ≡ isDigit b ⌝ }
 {
-    (48 <= b) & (b <= 57)
+    (b'0' <= b) & (b <= b'9')
 }
 
 // At least one byte, and no zero before another.
@@ -29,7 +29,7 @@ fn is_unpadded(s: &[u8]) -> bool
     if s.len() == 1 {
         return true;
     }
-    s[0] != 48
+    s[0] != b'0'
 }
 
 // The number that the digits say; none where a byte is no digit, or at 2^64 and above.
@@ -43,7 +43,7 @@ fn digits(s: &[u8]) -> Num
         if !is_digit(b) {
             return Num::NoNumber;
         }
-        let d = wide(b) - 48;
+        let d = wide(b) - b'0' as u64;
         if (u64::MAX - d) / 10 < v {
             return Num::NoNumber;
         }
@@ -99,7 +99,7 @@ pub fn grid_in(s: &[u8]) -> Grid
     if s.len() == 0 {
         return grid_above(decimal(s));
     }
-    if s[0] == 45 {
+    if s[0] == b'-' {
         return grid_below(decimal(&s[1..]));
     }
     grid_above(decimal(s))
@@ -128,7 +128,7 @@ fn bound_by(n: Num) -> Bound
 pub fn bound_in(s: &[u8]) -> Bound
     ensures { λ r. ⌜ r ≡ boundOf (now (s .entry)) ⌝ }
 {
-    if is_byte(45, s) {
+    if is_byte(b'-', s) {
         return Bound::Bounds(Limit::Unset);
     }
     bound_by(decimal(s))

@@ -1,6 +1,6 @@
 // The input cut into lines, as it comes in parts.
-use crate::bytes::write_at;
 use crate::fields::piece_end;
+use letters::write_at;
 ghost use mathlib.Core.Path.{_≡_};
 ghost use Prim.Native.Nat.{_+_, _≤_};
 ghost use lib.ListN.{length, drop};
@@ -12,7 +12,7 @@ pub fn line_end(part: &[u8], from: usize) -> usize
     requires { ⌜ from ≤ length (now part) ⌝ }
     ensures { λ r. ⌜ (r ≡ from + length (upTo 10 (drop from (now (part .entry))))) × (from ≤ r) × (r ≤ length (now (part .entry))) ⌝ }
 {
-    piece_end(part, from, 10)
+    piece_end(part, from, b'\n')
 }
 
 // A further part of a line, after the bytes that are held; of more than 200 bytes only that they are more is kept.

@@ -12,7 +12,7 @@ use Rattle.rules.specs.Events.{blank, eight}
 use Rattle.rules.specs.State.{State, snakeOf}
 use Rattle.rules.specs.Image.{imageOf, stateOf, wellFormed}
 use Rattle.rules.specs.Setting.{sideOf, settingOrder, initialState}
-use Rattle.rules.specs.Step.{Outcome, stepped}
+use Rattle.rules.specs.Step.{Transition, stepped}
 use Rattle.rules.specs.Chance.{outcomes, drawn, afterDraw, rankOf}
 use Rattle.rules.specs.View.{view, lit}
 use Rattle.rules.specs.LengthKey.{lengthKey}
@@ -49,6 +49,7 @@ use Rattle.image.specs.Memory.{wordPlace, startAsked}
 use Rattle.lists.specs.Tables.{Table, noneHold}
 use Rattle.rules.specs.Orders.{initialOrder, stepOrder, observeOrder, countOrder, drawOrder, rankOrder, imageOrder, agentOrder, rewardOrder, spaceOrder}
 use Rattle.rules.proofs.Tables.{table-gives}
+use Rattle.theorems.specs.Answers.{StepIs, DrawIs}
 
 module _ {A : Type 0} where
   lawful : (t : Table) (a : A) → noneHold t ≡ true → byTable t (gives a) ≡ gives a
@@ -82,13 +83,6 @@ initial-is s old new r p h =
       ap (take (length t)) (p .words ∙ ap (lent imageOf old) e) ∙ over-take t old,
     )
 
--- a step: the next image, the events, and whether it is terminal
-pub record StepIs (o : Outcome) (new : List ℕ) (r : Stepped) : Type 0 where
-  pub answer : r .answer ≡ Done (length (imageOf (o .next)))
-  pub image : take (length (imageOf (o .next))) new ≡ imageOf (o .next)
-  pub terminal : r .terminal ≡ o .terminal
-  pub events : r .events ≡ eight (o .events)
-
 pub step-is : (s : Setting) (w acts old new : List ℕ) (r : Stepped) → Steps s w acts old new r → noneHold (stepOrder s w acts (length old)) ≡ true
     → StepIs (stepped s (stateOf w) acts) new r
 unfolding stepSays
@@ -97,10 +91,10 @@ step-is s w acts old new r p h =
     let e = lawful (stepOrder s w acts (length old)) o h in
     let t = imageOf (o .next) in
     record {
-      answer = answer-one (r .answer) (Done (length t)) (p .answer ∙ ap (seen (λ (o : Outcome). length (imageOf (o .next)))) e);
-      image = ap (take (length t)) (p .words ∙ ap (lent (λ (o : Outcome). imageOf (o .next)) old) e) ∙ over-take t old;
-      terminal = p .terminal ∙ ap (beside (λ (o : Outcome). o .terminal) false) e;
-      events = p .events ∙ ap (beside (λ (o : Outcome). eight (o .events)) (replicate 8 blank)) e;
+      answer = answer-one (r .answer) (Done (length t)) (p .answer ∙ ap (seen (λ (o : Transition). length (imageOf (o .next)))) e);
+      image = ap (take (length t)) (p .words ∙ ap (lent (λ (o : Transition). imageOf (o .next)) old) e) ∙ over-take t old;
+      terminal = p .terminal ∙ ap (beside (λ (o : Transition). o .terminal) false) e;
+      events = p .events ∙ ap (beside (λ (o : Transition). eight (o .events)) (replicate 8 blank)) e;
     }
 
 -- the numbers written are the agent's view
@@ -117,13 +111,6 @@ observe-is w a old new r p h =
 pub count-is : (w : List ℕ) (r : Number) → Counts w r → noneHold (countOrder w) ≡ true → r ≡ Value (outcomes (stateOf w))
 unfolding countSays
 count-is w r p h = number-one r (Value (outcomes (stateOf w))) (p .answer ∙ lawful (countOrder w) (outcomes (stateOf w)) h)
-
--- a draw: the next image, and the ordered list of the cells drawn
-pub record DrawIs (t : State) (i : ℕ) (new cells : List ℕ) (r : Drawn) : Type 0 where
-  pub answer : r .answer ≡ Done (length (imageOf (afterDraw t i)))
-  pub image : take (length (imageOf (afterDraw t i))) new ≡ imageOf (afterDraw t i)
-  pub many : r .cells ≡ length (drawn t i)
-  pub list : take (length (drawn t i)) cells ≡ drawn t i
 
 pub draw-is : (w : List ℕ) (i : ℕ) (old new list cells : List ℕ) (r : Drawn) → Draws w i old new list cells r
     → noneHold (drawOrder w i (length old) (length list)) ≡ true → DrawIs (stateOf w) i new cells r

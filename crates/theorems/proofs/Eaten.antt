@@ -22,7 +22,7 @@ use Rattle.lists.proofs.Members.{not-in-without}
 use Rattle.rules.specs.Places.{inside, same, cellOf}
 use Rattle.rules.specs.State.{Snake, State, nobody, count, snakeOf}
 use Rattle.rules.specs.Events.{dies}
-use Rattle.rules.specs.Step.{Moved, stays, onFood, goes, movedOf, another, onBody, causeOf, ateNow, eatenBy, outcomeOf, stepped}
+use Rattle.rules.specs.Step.{Moved, stays, onFood, goes, movedOf, another, onBody, causeOf, ateNow, eatenBy, transitionOf, stepped}
 use Rattle.rules.specs.declared.Heading.{Heading}
 use Rattle.rules.specs.declared.Place.{Place}
 use Rattle.rules.specs.declared.Setting.{Setting}
@@ -136,9 +136,9 @@ module _ (g n : ℕ) (food : List ℕ) (m : ℕ → Moved)
       true≢false (sym met ∙ unmet-at i p (a .1))
 
   -- what is due after a step that is not terminal are the apples that are gone
-  pub due-gone : (s : Setting) → ascending 0 food ≡ true → outcomeOf s g n food m .terminal ≡ false
-      → length (outcomeOf s g n food m .next .food) + outcomeOf s g n food m .next .due ≡ length food
-  unfolding outcomeOf
+  pub due-gone : (s : Setting) → ascending 0 food ≡ true → transitionOf s g n food m .terminal ≡ false
+      → length (transitionOf s g n food m .next .food) + transitionOf s g n food m .next .due ≡ length food
+  unfolding transitionOf
   due-gone s f t = rw t (gone food (ascending-distinct 0 food f) cell ate n (λ i h e. rw (cell-at i h) (on i h (eater i h e .0) .1)) apart)
 
 eats-on : (g : ℕ) (food : List ℕ) (z : Snake) (h : Heading) (p : Place) (b : Bool) → (goes (z .body) h p (onFood g food p) if b else stays z) .eats ≡ true

@@ -10,13 +10,14 @@ pub use Rattle.theorems.proofs.Refusals.{validate-number, initial-numbe
 pub use Rattle.theorems.proofs.Refusals.{initial-untouched, step-untouched, observe-untouched, draw-untouched}
 -- Demand 1: an answer is a count of words, and the words after them keep their values
 pub use Rattle.theorems.proofs.Refusals.{initial-after, step-after, observe-after, draw-after}
+-- Demand 1: the setting's number where its fields are at their ends
+pub use Rattle.rules.proofs.Extremes.{over-itself, traced-first, last-length, lowest-grid, lowest-grid-many, lowest-grid-fed, no-grid, no-grid-long, lowest-grid-longest, highest-grid, longest, most-snakes, most-food, largest-lead, no-snakes, no-length, no-lead, lead-of-three, first-large-grid}
 -- Demand 2: where no row holds, each call answers what its definition says
 pub use Rattle.theorems.proofs.Definitions.{turn-is, check-is, body-is, validate-is, initial-is, step-is, observe-is, count-is, draw-is, rank-is, actor-is, legal-is, key-is, truncation-is, reward-is, space-is, action-space-is}
--- Demand 2: document 01's twelve examples, one table; two moves more
+-- Demand 2: document 01's twelve examples, one table; a second one for the rules that they do not pin
 pub use Rattle.rules.proofs.Examples.{examples-hold, more-hold}
--- Demand 2: its sample match, as states and as text
-pub use Rattle.rules.proofs.Sample.{sample-holds as sample-played}
-pub use Rattle.theorems.proofs.Cases.{sample-holds as sample-printed}
+-- Demand 2: its sample match
+pub use Rattle.theorems.proofs.Cases.{sample-holds}
 -- Demand 2: where the replay is subtle, input and output as one table
 pub use Rattle.theorems.proofs.Cases.{cases-hold}
 -- Demand 2: what a program prints that takes the lines of its input one by one is the replay of that input
@@ -30,11 +31,13 @@ pub use Rattle.rules.proofs.Step.{corpse-harmless, lost-to-someone}
 -- Demand 2: what is due after a step that is not terminal are the apples that are gone
 pub use Rattle.theorems.proofs.Eaten.{apples-gone}
 -- Demand 2: an agent cannot see other snakes' headings, alive flags, food due or birth
+pub use Rattle.rules.proofs.View.{same-view}
 pub use Rattle.view.proofs.Theorems.{hidden-unseen}
 -- Demand 2: truncation changes the survival flag alone
 pub use Rattle.agent.proofs.Theorems.{only-survival}
 -- Demand 3, of the definitions: free cells, count, one to one, rank, k! indices a set; what a draw changes, at birth too
-pub use Rattle.rules.proofs.Fairness.{Fair, fair, settled, born, born-full}
+pub use Rattle.rules.specs.Fair.{Fair}
+pub use Rattle.rules.proofs.Fairness.{fair, settled, born, born-full}
 -- Demand 3, of the calls' answers: the count is P; an index draws k different free cells; a draw is undone by its rank and a rank by its draw
 pub use Rattle.rules.proofs.FairCalls.{count-answers, list-fair, rank-answers, rank-back, list-forth, list-one}
 -- Demand 3, of the calls' answers: each set of k free cells comes of exactly k! indices, and nothing else changes

@@ -1,10 +1,10 @@
 -- A list of 20 cells holds whatever a draw gives: 21 cells would have more than 2^64 - 1 outcomes, which 28 refuses. Assumes nothing.
-use Prim.Native.Nat.{ℕ, _-_, _^_, _≤_}
+use Prim.Native.Nat.{_-_, _^_, _≤_}
 use native.Mathlib.Nat.{min-le-right}
 use native.Mathlib.Omega.{arith}
 use mathlib.Core.Path.{_≡_, refl}
 use lib.ListN.{length}
-use Rattle.lists.specs.Products.{falling, factorial}
+use Rattle.lists.specs.Products.{factorial}
 use Rattle.lists.proofs.Products.{falling-mono, falling-least}
 use Rattle.lists.proofs.Tests.{ordered, less, more}
 use Rattle.rules.specs.State.{State}

@@ -14,7 +14,7 @@ use Rattle.lists.specs.Tables.{Table, FirstRow}
 use Rattle.rules.specs.State.{snakeOf}
 use Rattle.rules.specs.Image.{imageOf, stateOf}
 use Rattle.rules.specs.Setting.{sideOf, settingOrder, initialState}
-use Rattle.rules.specs.Step.{Outcome, stepped}
+use Rattle.rules.specs.Step.{Transition, stepped}
 use Rattle.rules.specs.Chance.{outcomes, drawn, afterDraw, rankOf}
 use Rattle.rules.specs.View.{view, lit}
 use Rattle.rules.specs.LengthKey.{lengthKey}
@@ -168,7 +168,7 @@ module _ (k : ℕ) where
   initial-untouched s old new r p e = p .words ∙ kept _ imageOf old (initialSays s (length old)) k (sym (p .answer) ∙ ap says e)
 
   pub step-untouched : (s : Setting) (w acts old new : List ℕ) (r : Stepped) → Steps s w acts old new r → r .answer ≡ RefusedAnswer k → new ≡ old
-  step-untouched s w acts old new r p e = p .words ∙ kept _ (λ (o : Outcome). imageOf (o .next)) old (stepSays s w acts (length old)) k (sym (p .answer) ∙ ap says e)
+  step-untouched s w acts old new r p e = p .words ∙ kept _ (λ (o : Transition). imageOf (o .next)) old (stepSays s w acts (length old)) k (sym (p .answer) ∙ ap says e)
 
   pub observe-untouched : (w : List ℕ) (a : ℕ) (old new : List Float) (r : Answer) → Observes w a old new r → r ≡ RefusedAnswer k → new ≡ old
   observe-untouched w a old new r p e = p .numbers ∙ kept _ (λ v. v) old (observeSays w a (length old)) k (sym (p .answer) ∙ ap says e)
@@ -203,7 +203,7 @@ module _ (n : ℕ) where
 
   pub step-after : (s : Setting) (w acts old new : List ℕ) (r : Stepped) → Steps s w acts old new r → r .answer ≡ Done n → drop n new ≡ drop n old
   step-after s w acts old new r p e =
-      ap (drop n) (p .words) ∙ kept-after (λ (o : Outcome). imageOf (o .next)) old (stepSays s w acts (length old)) n (sym (p .answer) ∙ ap says e)
+      ap (drop n) (p .words) ∙ kept-after (λ (o : Transition). imageOf (o .next)) old (stepSays s w acts (length old)) n (sym (p .answer) ∙ ap says e)
 
   pub observe-after : (w : List ℕ) (a : ℕ) (old new : List Float) (r : Answer) → Observes w a old new r → r ≡ Done n → drop n new ≡ drop n old
   observe-after w a old new r p e = ap (drop n) (p .numbers) ∙ kept-after (λ v. v) old (observeSays w a (length old)) n (sym (p .answer) ∙ ap says e)

@@ -41,6 +41,8 @@ theCases =
     ∷ prints "2  3 1 0 - 0 -\n" "r 32\n"
     ∷ prints "2 5 1 0 - 1 -\nd \n" "i 0 1 0 1:1:11:- 1:1:14:-\nr 32\n"
     ∷ prints "2 5 1 0 - 1 -\nd 0\r\n" "i 0 1 0 1:1:11:- 1:1:14:-\nr 32\n"
+    ∷ prints "2\03 1 0 - 0 -\n" "r 32\n"
+    ∷ prints "2 5 1 0 - 1 -\nd 0\0\n" "i 0 1 0 1:1:11:- 1:1:14:-\nr 32\n"
     -- 'decimal without leading zeros, below 2^64'
     ∷ prints "2 +3 1 0 - 0 -\n" "r 32\n"
     ∷ prints "2 03 1 0 - 0 -\n" "r 32\n"
@@ -62,7 +64,10 @@ theCases =
     ∷ prints "8 -1 1 0 - 0 -\nd 0\n" "r 10\n"
     -- 'play_to_last is 0 or 1'; '`-` means none for lead and max_ticks only'; seven fields
     ∷ prints "2 3 1 2 - 0 -\n" "r 32\n"
+    ∷ prints "2 - 1 0 - 0 -\n" "r 32\n"
+    ∷ prints "2 3 1 - - 0 -\n" "r 32\n"
     ∷ prints "2 3 1 0 - - -\n" "r 32\n"
+    ∷ prints "2 3 1 0 -1 0 -\n" "r 32\n"
     ∷ prints "2 3 1 0 - 0\n" "r 32\n"
     ∷ prints "2 3 1 0 - 0 - 0\n" "r 32\n"
     -- '`d INDEX` or `m` and n actions; another number of actions is 32'
@@ -113,6 +118,8 @@ theCases =
     ∷ prints "2 3 1 0 - 0 2\nm 1 1\nm 0 0\n" "i 0 0 0 1:1:4:- 1:1:5:-\nm 0 0 0 1:1:1:- 1:1:8:-\nm 1 0 0 0:0:-:Wx 0:0:-:Wx\np 1 1\n"
     ∷ prints "2 3 1 0 - 1 1\nd 1\nm 1 0\n" "i 0 1 0 1:1:4:- 1:1:5:-\nd 0 0 1 1:1:4:- 1:1:5:-\nm 1 0 0 1:2:1:akw 0:0:-:Ol\np 1 2\n"
     ∷ prints "2 5 1 0 - 1 1\nd 12\nm 2 0\nd 0\n" "i 0 1 0 1:1:11:- 1:1:14:-\nd 0 0 1 1:1:11:- 1:1:14:-\nm 0 1 0 1:1:16:y 1:2:13:ay\nr 33\n"
+    -- 'marks the living y': not the dead
+    ∷ prints "3 8 1 0 - 0 6\nm 0 0 1\nm 0 0 1\nm 0 0 1\nm 0 0 1\nm 0 0 1\nm 0 0 1\n" "i 0 0 0 1:1:18:- 1:1:38:- 1:1:50:-\nm 0 0 0 1:1:19:- 1:1:37:- 1:1:42:-\nm 0 0 0 1:1:20:- 1:1:36:- 1:1:41:-\nm 0 0 0 1:1:21:- 1:1:35:- 1:1:49:-\nm 0 0 0 1:1:22:- 1:1:34:- 1:1:50:-\nm 0 0 0 1:1:23:- 1:1:33:- 1:1:42:-\nm 0 0 0 0:0:-:Wl 1:1:32:y 1:1:41:y\np 3 1 1\n"
     -- a lead; `play_to_last`, its last snake alone; places that are shared, and that skip numbers
     ∷ prints "2 5 1 0 1 1 -\nd 11\nm 0 0\n" "i 0 1 0 1:1:11:- 1:1:14:-\nd 0 0 1 1:1:11:- 1:1:14:-\nm 1 0 0 1:2:12:aw 1:1:13:l\np 1 1\n"
     ∷ prints "2 5 1 1 - 0 -\nm 0 0\nm 0 1\nm 0 1\nm 0 0\n" "i 0 0 0 1:1:11:- 1:1:14:-\nm 0 0 0 1:1:12:- 1:1:13:-\nm 0 0 0 1:1:13:- 1:1:18:-\nm 0 0 0 1:1:14:- 1:1:19:-\nm 1 0 0 0:0:-:Wx 0:0:-:Wx\np 1 1\n"

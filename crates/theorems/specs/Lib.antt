@@ -1,2 +1,3 @@
 pub mod Sample
 pub mod Cases
+pub mod Answers

@@ -2,7 +2,7 @@
 use Prim.Native.Nat.{ℕ, _*_}
 use mathlib.Core.Path.{_≡_, sym, ap, ap₂, _∙_}
 use mathlib.Core.Logic.{⊎-elim}
-use mathlib.Core.Bool.{Bool, true, false}
+use mathlib.Core.Bool.{true, false}
 use mathlib.Core.List.{List}
 use lib.Dec.{ltb}
 use lib.Ieee.{Float}
@@ -17,7 +17,8 @@ use Rattle.rules.specs.Promises.{Observes}
 use Rattle.rules.specs.declared.Answer.{Answer}
 use Rattle.rules.proofs.Facts.{sound}
 use Rattle.rules.proofs.Answers.{answer-one}
-use Rattle.rules.proofs.View.{Alike, same-view, DifferOnly, alike}
+use Rattle.rules.specs.Seen.{Alike, DifferOnly, SameSeen}
+use Rattle.rules.proofs.View.{same-view, alike}
 
 module _ (w v : List ℕ) (a : ℕ) (p : wellFormed w ≡ true) (q : wellFormed v ≡ true) (k : Alike w v a) where
   inside-says : (room : ℕ) → ltb a (snakesIn w) ≡ true → observeSays w a room ≡ observeSays v a room
@@ -33,11 +34,6 @@ module _ (w v : List ℕ) (a : ℕ) (p : wellFormed w ≡ true) (q : wellFormed 
 
   same-says : (room : ℕ) → observeSays w a room ≡ observeSays v a room
   same-says room = ⊎-elim (inside-says room) (outside-says room) (tell (ltb a (snakesIn w)))
-
--- two calls into equal buffers: equal answers, and equal numbers afterwards
-pub record SameSeen (new new' : List Float) (r r' : Answer) : Type 0 where
-  pub answers : r ≡ r'
-  pub numbers : new ≡ new'
 
 module _ (w v : List ℕ) (a : ℕ) (p : wellFormed w ≡ true) (q : wellFormed v ≡ true)
     (old new new' : List Float) (r r' : Answer) (x : Observes w a old new r) (y : Observes v a old new' r') where

@@ -501,10 +501,10 @@ fn spaces() {
         observation_space(7),
         Ok(Space::Box {
             planes: 5,
-            high: 7,
-            wide: 7,
+            rows: 7,
+            cols: 7,
             low: 0.0,
-            top: 1.0
+            high: 1.0
         })
     );
     assert_eq!(number(observation_space(0)), 5);

@@ -1,8 +1,8 @@
 -- The invariant: the word is still to come, and its place is i and what is left.
-use Prim.Native.Nat.{ℕ, _≤_, _+_, _-_}
+use Prim.Native.Nat.{_≤_, _+_, _-_}
 use native.Mathlib.Omega.{arith}
-use mathlib.Core.Path.{_≡_, sym, ap, _∙_}
-use mathlib.Core.Bool.{Bool, true, false, false≢true}
+use mathlib.Core.Path.{_≡_, sym, _∙_}
+use mathlib.Core.Bool.{true, false, false≢true}
 use lib.ListN.{length, drop}
 use denote.Ref.{now}
 use Rattle.lists.specs.Lists.{member, place}

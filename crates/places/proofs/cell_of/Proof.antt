@@ -2,8 +2,8 @@
 use Prim.Native.Nat.{ℕ, _+_, _*_, _<_, _≤_}
 use native.Mathlib.Omega.{arith}
 use mathlib.Core.Path.{_≡_, sym, ap, ap₂, _∙_}
-use mathlib.Core.Bool.{Bool, true, false}
-use lib.IntN.{ℤ, pos, natAbs}
+use mathlib.Core.Bool.{true}
+use lib.IntN.{pos, natAbs}
 use mir.Syntax.{w32}
 use mir.Val.{toZ, ofZ}
 use borrow.Author.Needs.{needs}
@@ -15,10 +15,6 @@ use Rattle.places.specs.Near.{Plain}
 use Rattle.places.proofs.cell_of.Statement.{statement}
 use Rattle.places.proofs.cell_of.Tie as tie
 
--- what the test says of the signed side
-tested : (b t : Bool) (z : ℤ) (g : ℕ) (p : Place) → z ≡ pos g → b ≡ inside z p → b ≡ t → inside (pos g) p ≡ t
-tested b t z g p e h k = ap (λ (y : ℤ). inside y p) (sym e) ∙ sym h ∙ k
-
 module _ (g : ℕ) (p : Place) (s : g ≤ 32) (i : inside (pos g) p ≡ true) where
   row-fits : Plain (p .row)
   row-fits = record { positive = row-plain g p i; small = omega (arith, row-below g p i) }
@@ -29,44 +25,37 @@ module _ (g : ℕ) (p : Place) (s : g ≤ 32) (i : inside (pos g) p ≡ true) wh
   sum-fits : natAbs (p .row) * g + natAbs (p .col) < 65536
   sum-fits = omega (arith, cell-below g p i, cell-is g p i, square-le g s)
 
-signed-requires : tie.Need-signed-requires
-signed-requires c κs = search needs
-
-is-inside-requires : tie.Need-is-inside-requires
-is-inside-requires c κs = search needs
+on-grid-requires : tie.Need-on-grid-requires
+on-grid-requires c κs = search needs
 
 plain-requires : tie.Need-plain-requires
 plain-requires c κs =
-    let a = c .before .before .before .before .before .args in
-    let z : toZ w32 (ofZ w32 (c .before .before .signed .result)) ≡ c .before .before .signed .result = search needs in
-    let i = tested _ true _ (a .g) (a .p) (z ∙ c .before .before .signed .ensures) (c .before .is-inside .ensures) (c .if1 .taken) in
+    let a = c .before .before .before .before .args in
+    let i = sym (c .before .on-grid .ensures) ∙ c .if1 .taken in
     let e : toZ w32 (ofZ w32 (a .p .row)) ≡ a .p .row = search needs in
     rw e (row-fits (a .g) (a .p) (search needs) i)
 
 mul-result : tie.Need-mul-result
 mul-result c =
-    let a = c .before .before .before .before .before .before .args in
+    let a = c .before .before .before .before .before .args in
     let s : a .g ≤ 32 = search needs in
-    let z : toZ w32 (ofZ w32 (c .before .before .before .signed .result)) ≡ c .before .before .before .signed .result = search needs in
-    let i = tested _ true _ (a .g) (a .p) (z ∙ c .before .before .before .signed .ensures) (c .before .before .is-inside .ensures) (c .before .if1 .taken) in
+    let i = sym (c .before .before .on-grid .ensures) ∙ c .before .if1 .taken in
     let e : toZ w32 (ofZ w32 (a .p .row)) ≡ a .p .row = search needs in
     let m : c .plain .result * a .g ≡ natAbs (a .p .row) * a .g = ap (λ (k : ℕ). k * a .g) (c .plain .ensures ∙ ap natAbs e) in
     record { fits = omega (arith, m, sum-fits (a .g) (a .p) s i) }
 
 plain-requires-2 : tie.Need-plain-requires-2
 plain-requires-2 c κs =
-    let a = c .before .before .before .before .before .before .args in
-    let z : toZ w32 (ofZ w32 (c .before .before .before .signed .result)) ≡ c .before .before .before .signed .result = search needs in
-    let i = tested _ true _ (a .g) (a .p) (z ∙ c .before .before .before .signed .ensures) (c .before .before .is-inside .ensures) (c .before .if1 .taken) in
+    let a = c .before .before .before .before .before .args in
+    let i = sym (c .before .before .on-grid .ensures) ∙ c .before .if1 .taken in
     let e : toZ w32 (ofZ w32 (a .p .col)) ≡ a .p .col = search needs in
     rw e (col-fits (a .g) (a .p) (search needs) i)
 
 add-result : tie.Need-add-result
 add-result c =
-    let a = c .before .before .before .before .before .before .before .args in
+    let a = c .before .before .before .before .before .before .args in
     let s : a .g ≤ 32 = search needs in
-    let z : toZ w32 (ofZ w32 (c .before .before .before .before .signed .result)) ≡ c .before .before .before .before .signed .result = search needs in
-    let i = tested _ true _ (a .g) (a .p) (z ∙ c .before .before .before .before .signed .ensures) (c .before .before .before .is-inside .ensures) (c .before .before .if1 .taken) in
+    let i = sym (c .before .before .before .on-grid .ensures) ∙ c .before .before .if1 .taken in
     let e : toZ w32 (ofZ w32 (a .p .row)) ≡ a .p .row = search needs in
     let k : toZ w32 (ofZ w32 (a .p .col)) ≡ a .p .col = search needs in
     let m : c .before .plain .result * a .g ≡ natAbs (a .p .row) * a .g = ap (λ (k : ℕ). k * a .g) (c .before .plain .ensures ∙ ap natAbs e) in
@@ -75,28 +64,15 @@ add-result c =
 
 returns : tie.Need-returns
 returns c =
-    let a = c .before .before .before .before .before .before .before .args in
-    let z : toZ w32 (ofZ w32 (c .before .before .before .before .signed .result)) ≡ c .before .before .before .before .signed .result = search needs in
-    let i = tested _ true _ (a .g) (a .p) (z ∙ c .before .before .before .before .signed .ensures) (c .before .before .before .is-inside .ensures) (c .before .before .if1 .taken) in
+    let a = c .before .before .before .before .before .before .args in
+    let i = sym (c .before .before .before .on-grid .ensures) ∙ c .before .before .if1 .taken in
     let e : toZ w32 (ofZ w32 (a .p .row)) ≡ a .p .row = search needs in
     let k : toZ w32 (ofZ w32 (a .p .col)) ≡ a .p .col = search needs in
     ap₂ (λ (x y : ℕ). x * a .g + y) (c .before .plain .ensures ∙ ap natAbs e) (c .plain2 .ensures ∙ ap natAbs k) ∙ sym (cell-is (a .g) (a .p) i)
 
 returns-2 : tie.Need-returns-2
-returns-2 c =
-    let a = c .before .before .before .before .before .args in
-    let z : toZ w32 (ofZ w32 (c .before .before .signed .result)) ≡ c .before .before .signed .result = search needs in
-    rw (tested _ false _ (a .g) (a .p) (z ∙ c .before .before .signed .ensures) (c .before .is-inside .ensures) (c .if1 .left))
+returns-2 c = rw (sym (c .before .on-grid .ensures) ∙ c .if1 .left)
 
 pub cell-of-spec : {M : Type 1} → statement M
 cell-of-spec =
-    tie.close
-    (tie.spec
-    signed-requires
-    is-inside-requires
-    plain-requires
-    mul-result
-    plain-requires-2
-    add-result
-    returns
-    returns-2)
+    tie.close (tie.spec on-grid-requires plain-requires mul-result plain-requires-2 add-result returns returns-2)

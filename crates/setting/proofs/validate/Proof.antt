@@ -2,8 +2,7 @@ use mathlib.Core.Path.{sym, ap, _∙_}
 use Prim.Native.Nat.{ℕ}
 use Rattle.rules.specs.Says.{first, gives}
 use Rattle.rules.proofs.SettingParts.{limited}
-use Rattle.rules.proofs.Firsts.{first-refuses}
-use Rattle.rules.proofs.Tables.{setting-says}
+use Rattle.rules.proofs.Tables.{setting-says, first-refuses}
 use Rattle.setting.proofs.Judging.{check-first, check-second}
 use borrow.Author.Needs.{needs}
 use Rattle.setting.proofs.validate.Statement.{statement}

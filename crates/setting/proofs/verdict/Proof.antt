@@ -1,5 +1,5 @@
 use mathlib.Core.Path.{sym}
-use Rattle.rules.proofs.Firsts.{first-refuses}
+use Rattle.rules.proofs.Tables.{first-refuses}
 use borrow.Author.Needs.{needs}
 use Rattle.setting.proofs.verdict.Statement.{statement}
 use Rattle.setting.proofs.verdict.Tie as tie

@@ -4,7 +4,7 @@ use Rattle.bindings.proofs.Saying.{tells-refused, tells-done}
 use Rattle.bindings.specs.Flat.{tellsOf}
 use Rattle.rules.specs.declared.Event.{Event}
 use Rattle.rules.specs.Events.{blank, eight}
-use Rattle.rules.specs.Step.{Outcome}
+use Rattle.rules.specs.Step.{Transition}
 use Rattle.rules.specs.Says.{says, beside}
 use Rattle.lists.specs.Lists.{overFront}
 use mathlib.Core.List.{List}
@@ -48,7 +48,7 @@ returns-2 c =
     let p = c .before .before .before .before .before .before .before .before .before .before .step .ensures in
     let x = stepSays (a .setting) (now (a .image)) (now (a .actions)) (length (now (a .out))) in
     tells-done (now (a .out)) _ (now (a .events)) x _ _ _ (sym (ap says (c .before .before .before .before .before .answer2 .given .1)) ∙ p .answer) (p .terminal) (p .words)
-    (λ o q. c .before .before .put-events .ensures ∙ ap (λ (es : List Event). overFront (tellsOf es) (now (a .events))) (p .events ∙ ap (beside (λ (o : Outcome). eight (o .events)) (replicate 8 blank)) q))
+    (λ o q. c .before .before .put-events .ensures ∙ ap (λ (es : List Event). overFront (tellsOf es) (now (a .events))) (p .events ∙ ap (beside (λ (o : Transition). eight (o .events)) (replicate 8 blank)) q))
 
 pub step-told-spec : {M : Type 1} → statement M
 step-told-spec =

@@ -1,4 +1,4 @@
-use Rattle.bindings.proofs.Numbers.{heading-small}
+use Rattle.rules.proofs.Holdable.{number-le}
 use Rattle.rules.specs.Headings.{numberOf, turned}
 use native.Mathlib.Omega.{arith}
 use mathlib.Core.Path.{ap, ap₂, _∙_}
@@ -9,8 +9,8 @@ use Rattle.bindings.proofs.views.lundaspro_relative_to_absolute.Tie as 
 heading-of-requires : tie.Need-heading-of-requires
 heading-of-requires c κs = search needs
 
-action-in-requires : tie.Need-action-in-requires
-action-in-requires c κs = search needs
+action-of-requires : tie.Need-action-of-requires
+action-of-requires c κs = search needs
 
 relative-to-absolute-requires : tie.Need-relative-to-absolute-requires
 relative-to-absolute-requires c κs = search needs
@@ -19,19 +19,19 @@ number-of-requires : tie.Need-number-of-requires
 number-of-requires c κs = search needs
 
 cast-result : tie.Need-cast-result
-cast-result c = omega (arith, c .number-of .ensures, heading-small (c .before .relative-to-absolute .result))
+cast-result c = omega (arith, c .number-of .ensures, number-le (c .before .relative-to-absolute .result))
 
 returns : tie.Need-returns
 returns c =
     c .number-of .ensures
-    ∙ ap numberOf (c .before .relative-to-absolute .ensures .answer ∙ ap₂ turned (c .before .before .before .heading-of .ensures) (c .before .before .action-in .ensures))
+    ∙ ap numberOf (c .before .relative-to-absolute .ensures .answer ∙ ap₂ turned (c .before .before .before .heading-of .ensures) (c .before .before .action-of .ensures))
 
 pub lundaspro-relative-to-absolute-spec : {M : Type 1} → statement M
 lundaspro-relative-to-absolute-spec =
     tie.close
     (tie.spec
     heading-of-requires
-    action-in-requires
+    action-of-requires
     relative-to-absolute-requires
     number-of-requires
     cast-result

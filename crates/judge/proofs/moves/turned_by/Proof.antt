@@ -1,7 +1,8 @@
-use mathlib.Core.Path.{sym, ap, _∙_}
+use native.Mathlib.Omega.{arith}
+use mathlib.Core.Path.{ap, _∙_}
 use borrow.Author.Needs.{needs}
 use Rattle.rules.specs.Headings.{turned}
-use Rattle.judge.proofs.Moving.{acts-right}
+use Rattle.places.proofs.Actions.{action-last}
 use Rattle.judge.proofs.moves.turned_by.Statement.{statement}
 use Rattle.judge.proofs.moves.turned_by.Tie as tie
 
@@ -20,7 +21,7 @@ clockwise-requires c κs = search needs
 returns-3 : tie.Need-returns-3
 returns-3 c =
     let a = c .before .before .before .args in
-    c .clockwise .ensures ∙ ap (turned (a .heading)) (sym (acts-right (a .action) (c .before .before .if1 .left) (c .before .if2 .left)))
+    c .clockwise .ensures ∙ ap (turned (a .heading)) (action-last (a .action) (omega (arith, c .before .before .if1 .left, c .before .if2 .left)))
 
 pub turned-by-spec : {M : Type 1} → statement M
 turned-by-spec =

@@ -3,8 +3,6 @@ use mathlib.Core.Path.{sym, _∙_}
 use borrow.Author.Tests.{not-true, not-false}
 use Rattle.rules.specs.Calls.{rewardSays}
 use Rattle.rules.specs.Reward.{rewardOf}
-use Rattle.rules.specs.Calls.{rewardSays}
-use Rattle.rules.specs.Reward.{rewardOf}
 use Rattle.score.proofs.rewards.reward.Statement.{statement}
 use Rattle.score.proofs.rewards.reward.Tie as tie
 use Rattle.rules.specs.Says.{byTable}

@@ -6,7 +6,7 @@ use borrow.Author.Needs.{needs}
 use Rattle.rules.specs.Setting.{sideOf}
 use Rattle.rules.proofs.Facts.{square-le}
 use Rattle.rules.proofs.Starts.{side-small}
-use Rattle.setting.proofs.Apart.{apart-side, apart-total, apart-check}
+use Rattle.placement.proofs.Apart.{apart-side, apart-total, apart-check}
 use Rattle.setting.proofs.place.place_number.Statement.{statement}
 use Rattle.setting.proofs.place.place_number.Tie as tie
 

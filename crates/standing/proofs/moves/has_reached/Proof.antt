@@ -1,4 +1,3 @@
-use Rattle.standing.specs.Standing.{reached}
 use borrow.Author.Needs.{needs}
 use Rattle.standing.proofs.moves.has_reached.Statement.{statement}
 use Rattle.standing.proofs.moves.has_reached.Tie as tie

@@ -1,13 +1,12 @@
 use Prim.Native.Nat.{_+_, _-_, _≤_, _*_}
 use mathlib.Core.Path.{_≡_}
 use denote.Ref.{now}
-use lib.ListN.{length}
 use native.Mathlib.Omega.{arith}
 use borrow.Author.Needs.{needs}
 use Rattle.lists.specs.Below.{concatBelow}
 use Rattle.lists.proofs.Below.{concat-none, concat-next}
-use Rattle.text.proofs.Writing.{both, wider, nothing}
-use Rattle.text.specs.Text.{Wrote}
+use Rattle.letters.proofs.Writing.{both, wider, nothing}
+use Rattle.letters.specs.Text.{Wrote}
 use Rattle.standing.specs.Shown.{snakeShownBy}
 use Rattle.standing.proofs.shown.put_snakes.Statement.{statement}
 use Rattle.standing.proofs.shown.put_snakes.Tie as tie

@@ -3,7 +3,7 @@ use Rattle.step.proofs.bodies.write_records.Statement.{statement}
 use Prim.Native.Nat.{_+_, _-_, _≤_, ℕ, _*_}
 use mathlib.Core.Path.{_≡_, refl, ap, _∙_}
 use lib.ListN.{length, getD}
-use Rattle.step.specs.After.{sizes, gone}
+use Rattle.consequences.specs.After.{sizes, gone}
 use Rattle.lists.specs.Below.{sumBelow, concatBelow}
 use Rattle.lists.specs.Lists.{writeAt}
 use Rattle.step.specs.Next.{recordIn}
@@ -13,7 +13,7 @@ use mathlib.Core.List.{[], _∷_}
 use denote.Ref.{now}
 use Rattle.lists.proofs.Below.{sum-none, sum-next}
 use Rattle.lists.specs.Choice.{bit}
-use Rattle.step.proofs.Laws.{size-le}
+use Rattle.consequences.proofs.Laws.{size-le}
 use Rattle.lists.proofs.Writes.{length-write, turn-start, turn-next}
 use Rattle.step.proofs.Words.{records-long, sizes-small}
 use Rattle.rules.specs.Headings.{numberOf}

@@ -3,7 +3,8 @@ use Rattle.step.proofs.food.eaten_of.Statement.{statement}
 use Prim.Native.Nat.{_-_, _≤_, ℕ, _+_}
 use mathlib.Core.Path.{_≡_, refl, sym, ap, _∙_}
 use lib.ListN.{length, take, length-set}
-use Rattle.step.specs.After.{cells, eating, bite}
+use Rattle.consequences.specs.After.{cells, eating}
+use Rattle.step.specs.Eaten.{bite}
 use Rattle.lists.specs.Below.{countBelow, concatBelow}
 use native.Mathlib.Omega.{arith}
 use mathlib.Core.Bool.{true, false}

@@ -1,10 +1,4 @@
 -- The judged array is the definition's world, and ready to be applied.
-use mathlib.Core.Path.{_≡_, subst}
-use mathlib.Core.List.{List}
-use Prim.Native.Nat.{ℕ}
-use denote.Ref.{now}
-use Rattle.rules.specs.Step.{Outcome}
-use Rattle.step.specs.Applied.{Applied}
 use Rattle.step.proofs.Asked.{judged-ready}
 use Rattle.judge.proofs.Judging.{stepped-by}
 use borrow.Author.Needs.{needs}

@@ -1,6 +1,5 @@
 use Prim.Native.Nat.{_-_}
 use mathlib.Core.Path.{sym, ap}
-use denote.Ref.{now}
 use Rattle.text.specs.Lines.{drawBy}
 use borrow.Author.Needs.{needs}
 use Rattle.text.proofs.lines.draw_by.Statement.{statement}

@@ -1,6 +1,5 @@
 use Prim.Native.Nat.{_-_}
 use mathlib.Core.Path.{_≡_}
-use denote.Ref.{now}
 use mir.Val.{toZ, ofZ}
 use mir.Syntax.{w32}
 use borrow.Author.Needs.{needs}

@@ -1,6 +1,5 @@
 use Prim.Native.Nat.{_-_}
 use mathlib.Core.Path.{sym, ap}
-use denote.Ref.{now}
 use Rattle.text.specs.Numbers.{boundBy}
 use borrow.Author.Needs.{needs}
 use Rattle.text.proofs.numbers.bound_by.Statement.{statement}

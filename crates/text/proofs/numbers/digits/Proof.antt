@@ -35,6 +35,9 @@ returns c =
 wide-requires : tie.Need-wide-requires Inv-loop μ-loop
 wide-requires c κs = search needs
 
+cast-d : tie.Need-cast-d Inv-loop μ-loop
+cast-d c = search needs
+
 sub-d : tie.Need-sub-d Inv-loop μ-loop
 sub-d c =
     let b = getD (now (c .before .before .before .before .before .before .before .args .s)) (c .before .before .before .before .before .loop .i) 0 in
@@ -93,6 +96,7 @@ digits-spec =
     is-digit-requires
     returns
     wide-requires
+    cast-d
     sub-d
     sub-if2
     returns-2

@@ -1,5 +1,4 @@
 use Prim.Native.Nat.{_-_}
-use denote.Ref.{now}
 use borrow.Author.Tests.{ne-eqb}
 use borrow.Author.Needs.{needs}
 use Rattle.text.proofs.numbers.flag_by.Statement.{statement}

@@ -6,7 +6,6 @@ use mir.Syntax.{w32}
 use native.Mathlib.Omega.{arith}
 use Prim.Native.Nat.{_-_}
 use mathlib.Core.Path.{_≡_, ap, _∙_}
-use denote.Ref.{now}
 use borrow.Author.Tests.{le-ltb, lt-ltb}
 use borrow.Author.Needs.{needs}
 use Rattle.text.proofs.numbers.grid_above.Statement.{statement}

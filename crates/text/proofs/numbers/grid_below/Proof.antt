@@ -6,7 +6,6 @@ use mir.Syntax.{w32}
 use native.Mathlib.Omega.{arith}
 use Prim.Native.Nat.{_-_}
 use mathlib.Core.Path.{_≡_}
-use denote.Ref.{now}
 use borrow.Author.Tests.{ne-eqb, lt-leb, le-leb}
 use borrow.Author.Needs.{needs}
 use Rattle.text.proofs.numbers.grid_below.Statement.{statement}

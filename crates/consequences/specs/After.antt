@@ -1,0 +1,111 @@
+-- The code's records of the snakes after the step, as the definition's snakes; the tests as the code makes them. Assumes nothing.
+use Prim.Native.Nat.{ℕ, _+_, _-_, _≤_}
+use mathlib.Core.Bool.{Bool, false, not, _&&_, _||_}
+use mathlib.Core.List.{List}
+use mathlib.Core.Path.{_≡_}
+use lib.Dec.{eqb, ltb, leb}
+use lib.ListN.{length, getD}
+use Rattle.lists.specs.Choice.{bit}
+use Rattle.lists.specs.Below.{someBelow, countBelow, sumBelow}
+use Rattle.lists.specs.Lists.{member}
+use Rattle.image.specs.Writers.{partOf, bodyWith}
+use Rattle.rules.specs.declared.Heading.the-variants.{Up}
+use Rattle.rules.specs.declared.Cause.{Cause}
+use Rattle.rules.specs.declared.Cause.the-variants.{NoCause}
+use Rattle.rules.specs.declared.Limit.{Limit}
+use Rattle.rules.specs.declared.Limit.the-variants.{Unset, Is}
+use Rattle.rules.specs.declared.Event.{Event}
+use Rattle.rules.specs.Events.{dies}
+use Rattle.rules.specs.Places.{cellOf}
+use Rattle.rules.specs.State.{Snake}
+use Rattle.judge.specs.declared.Judged.{Judged}
+use Rattle.consequences.specs.declared.after.After.{After}
+use Rattle.consequences.specs.declared.after.Tally.{Tally}
+
+-- a judged move, settled
+abbrev pub settled : ℕ → Judged → After
+settled g j = record {
+  heading = j .moved .heading;
+  lives = j .moved .moves && not (dies (j .cause));
+  cell = cellOf g (j .moved .head);
+  start = j .moved .start;
+  keep = j .moved .keep;
+  ate = j .moved .eats && not (dies (j .cause));
+  cause = j .cause;
+}
+
+-- a place of the array that no snake has
+abbrev pub gone : After
+gone = record { heading = Up; lives = false; cell = 0; start = 0; keep = 0; ate = false; cause = NoCause }
+
+abbrev pub part : List ℕ → After → List ℕ
+part w a = partOf w (a .start) (a .keep)
+
+abbrev pub later : List ℕ → After → Snake
+later w a = record { heading = a .heading; alive = a .lives; body = bodyWith w (a .start) (a .keep) (a .cell) (a .lives) }
+
+-- ---- what an array of them says, by number
+
+abbrev pub snakes : List ℕ → List After → ℕ → Snake
+snakes w all i = later w (getD all i gone)
+
+abbrev pub cells : List After → ℕ → ℕ
+cells all i = getD all i gone .cell
+
+abbrev pub living : List After → ℕ → Bool
+living all i = getD all i gone .lives
+
+abbrev pub eating : List After → ℕ → Bool
+eating all i = getD all i gone .ate
+
+abbrev pub causes : List After → ℕ → Cause
+causes all i = getD all i gone .cause
+
+abbrev pub sizeOf : After → ℕ
+sizeOf a = a .keep + bit (a .lives)
+
+abbrev pub sizes : List After → ℕ → ℕ
+sizes all i = sizeOf (getD all i gone)
+
+-- each rest is a part of the image, and short
+abbrev pub InImage : List ℕ → List After → Type 0
+InImage w all = (i : ℕ) → getD all i gone .start + getD all i gone .keep ≤ length w
+
+abbrev pub Short : List After → Type 0
+Short all = (i : ℕ) → getD all i gone .keep ≤ 1024
+
+pub record Counted (all : List After) (n : ℕ) (r : Tally) : Type 0 where
+  pub alive : r .alive ≡ countBelow n (living all)
+  pub deaths : r .deaths ≡ countBelow n (λ i. dies (causes all i))
+  pub cells : r .cells ≡ sumBelow n (sizes all)
+
+-- ---- tests
+
+-- a survivor's body holds the cell
+abbrev pub holdsAt : List ℕ → After → ℕ → Bool
+holdsAt w a cell = later w a .alive && member cell (later w a .body)
+
+abbrev pub creditedTo : List ℕ → ℕ → ℕ → Bool
+creditedTo to j i = eqb (getD to i 0) j
+
+-- two live, i and j, and i keeps more cells than j, by k or more
+abbrev pub leadsBy : List After → ℕ → ℕ → ℕ → ℕ → Bool
+leadsBy all alive k i j =
+    eqb alive 2 && (living all i && living all j && ltb (getD all j gone .keep) (getD all i gone .keep) && leb k (getD all i gone .keep - getD all j gone .keep))
+
+abbrev pub leadsIn : List After → ℕ → Limit → ℕ → ℕ → Bool
+leadsIn all alive Unset i j = false
+leadsIn all alive (Is k) i j = leadsBy all alive k i j
+
+-- the event of snake i, of n: the array, whom each death is credited to, the counts of the living and the dead
+abbrev pub eventAt : List After → List ℕ → ℕ → ℕ → ℕ → Limit → ℕ → Event
+eventAt all to n alive deaths lead i = record {
+  ate = eating all i;
+  died = dies (causes all i);
+  cause = causes all i;
+  killed = someBelow n (creditedTo to i);
+  won = living all i && eqb alive 1 && ltb 0 deaths || someBelow n (leadsIn all alive lead i);
+  lost = dies (causes all i) && ltb 0 alive || someBelow n (λ j. leadsIn all alive lead j i);
+  drew = dies (causes all i) && eqb alive 0 && ltb 1 deaths;
+  survived = false;
+}

@@ -1,0 +1,92 @@
+// Who is credited with a death: 'An OppBody victim credits the lowest-numbered survivor whose body holds the fatal cell, if any'.
+use crate::after::After;
+use rules::Cause;
+ghost use mathlib.Core.Path.{_≡_};
+ghost use Prim.Native.Nat.{_+_, _<_, _≤_};
+ghost use lib.ListN.{length, getD};
+ghost use Rattle.lists.specs.Below.{someBelow, lowestFrom, filled};
+ghost use Rattle.rules.specs.Events.{byBody};
+ghost use Rattle.rules.specs.Step.{killerOf};
+ghost use Rattle.consequences.specs.After.{causes, cells, gone, snakes, holdsAt, creditedTo, InImage};
+
+fn is_by_body(c: Cause) -> bool
+    ensures { λ r. ⌜ r ≡ byBody c ⌝ }
+{
+    match c {
+        Cause::NoCause => false,
+        Cause::Wall => false,
+        Cause::SelfBody => false,
+        Cause::OppBody => true,
+        Cause::HeadOn => false,
+    }
+}
+
+// Whether a survivor's body holds a cell; the dead are not searched.
+fn has_cell(image: &[u16], a: After, cell: u16) -> bool
+    requires { ⌜ a .start + a .keep ≤ length (now image) ⌝ }
+    ensures { λ r. ⌜ r ≡ holdsAt (now (image .entry)) a cell ⌝ }
+{
+    let at_head = cell == a.cell;
+    if !a.lives {
+        return false;
+    }
+    at_head | image::holds_in(image, a.start as usize, a.keep as usize, cell)
+}
+
+// The lowest-numbered survivor whose body holds a cell, or n.
+fn find_killer(image: &[u16], all: [After; 8], n: usize, cell: u16) -> usize
+    requires { ⌜ n ≤ 8 ⌝ }
+    requires { ⌜ InImage (now image) all ⌝ }
+    ensures { λ r. ⌜ r ≡ lowestFrom (λ j. holdsAt (now (image .entry)) (getD all j gone) cell) 0 n ⌝ }
+{
+    let mut j = 0;
+    while j < n {
+        let a = all[j];
+        if has_cell(image, a, cell) {
+            return j;
+        }
+        j += 1;
+    }
+    j
+}
+
+// Whom the death of a snake is credited to, or n.
+fn killer_of(image: &[u16], all: [After; 8], n: usize, i: usize) -> usize
+    requires { ⌜ (n ≤ 8) × (i < 8) ⌝ }
+    requires { ⌜ InImage (now image) all ⌝ }
+    ensures { λ r. ⌜ r ≡ killerOf n (cells all) (causes all) (snakes (now (image .entry)) all) i ⌝ }
+{
+    let a = all[i];
+    let c = a.cause;
+    if is_by_body(c) {
+        return find_killer(image, all, n, a.cell);
+    }
+    n
+}
+
+pub fn find_killers(image: &[u16], all: [After; 8], n: usize) -> [usize; 8]
+    requires { ⌜ n ≤ 8 ⌝ }
+    requires { ⌜ InImage (now image) all ⌝ }
+    ensures { λ r. ⌜ r ≡ filled (killerOf n (cells all) (causes all) (snakes (now (image .entry)) all)) n 8 0 ⌝ }
+{
+    let mut to = [0usize; 8];
+    let mut i = 0;
+    while i < n {
+        to[i] = killer_of(image, all, n, i);
+        i += 1;
+    }
+    to
+}
+
+pub fn is_killer(to: [usize; 8], n: usize, j: usize) -> bool
+    requires { ⌜ n ≤ 8 ⌝ }
+    ensures { λ r. ⌜ r ≡ someBelow n (creditedTo to j) ⌝ }
+{
+    let mut found = false;
+    let mut i = 0;
+    while i < n {
+        found = found | (to[i] == j);
+        i += 1;
+    }
+    found
+}

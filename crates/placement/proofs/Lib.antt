@@ -1,0 +1,4 @@
+pub mod Walks
+pub mod Going
+pub mod Laying
+pub mod Apart

@@ -1,0 +1,95 @@
+-- The directions that are left do not change while a shut one is passed.
+use Prim.Native.Nat.{_-_, _≤_, _<_}
+use native.Mathlib.Nat.{lt-irrefl}
+use native.Mathlib.Omega.{arith}
+use mathlib.Core.Path.{_≡_, refl, sym, ap, _∙_}
+use mathlib.Core.Bool.{true, false}
+use lib.IntN.{pos}
+use lib.ListN.{drop, getD}
+use borrow.Author.Needs.{needs}
+use Rattle.rules.specs.Places.{ahead, inside}
+use Rattle.rules.specs.Placement.{tracing, unblocked}
+use Rattle.rules.specs.declared.Heading.{Heading}
+use Rattle.rules.specs.declared.Heading.the-variants.{Up}
+use Rattle.rules.specs.declared.Place.{Place}
+use Rattle.placement.proofs.Walks.{walk-open, walk-shut, walk-end}
+use Rattle.placement.proofs.trace.walk_on.Statement.{statement}
+use Rattle.placement.proofs.trace.walk_on.Tie as tie
+
+abbrev Inv-loop : tie.InvT-loop
+Inv-loop g even place turn₀ turn =
+    (turn ≤ 4) × (unblocked (pos g) (drop turn₀ (tracing even)) place ≡ unblocked (pos g) (drop turn (tracing even)) place)
+
+abbrev μ-loop : tie.MeasureT-loop
+μ-loop g even place turn₀ turn = 4 - turn
+
+loop-holds : tie.Need-loop-holds Inv-loop μ-loop
+loop-holds c = (search needs, refl)
+
+direction-requires : tie.Need-direction-requires Inv-loop μ-loop
+direction-requires c κs = omega arith
+
+ahead-requires : tie.Need-ahead-requires Inv-loop μ-loop
+ahead-requires c κs = search needs
+
+on-grid-requires : tie.Need-on-grid-requires Inv-loop μ-loop
+on-grid-requires c κs = search needs
+
+returns : tie.Need-returns Inv-loop μ-loop
+returns c =
+    let l = c .before .before .before .before .before in
+    let a = l .before .before .args in
+    let t : l .loop .turn < 4 = search needs in
+    let d = c .before .before .before .direction .ensures in
+    let q : c .before .before .ahead .result ≡ ahead (getD (tracing (a .even)) (l .loop .turn) Up) (a .from .place) =
+    c .before .before .ahead .ensures ∙ ap (λ (h : Heading). ahead h (a .from .place)) d in
+    let i : inside (pos (a .g)) (c .before .before .ahead .result) ≡ true = sym (c .before .on-grid .ensures) ∙ c .if1 .taken in
+    record {
+      most = omega arith;
+      left = l .loop .inv .1 ∙ walk-open (pos (a .g)) (a .even) (a .from .place) (l .loop .turn) t (ap (λ (p : Place). inside (pos (a .g)) p) (sym q) ∙ i);
+      step = λ _. q;
+      within = λ _. i;
+    }
+
+add-turn : tie.Need-add-turn Inv-loop μ-loop
+add-turn c = omega arith
+
+loop-less : tie.Need-loop-less Inv-loop μ-loop
+loop-less c = omega arith
+
+loop-again : tie.Need-loop-again Inv-loop μ-loop
+loop-again c =
+    let l = c .before .before .before .before .before in
+    let a = l .before .before .args in
+    let t : l .loop .turn < 4 = search needs in
+    let q : c .before .before .ahead .result ≡ ahead (getD (tracing (a .even)) (l .loop .turn) Up) (a .from .place) =
+    c .before .before .ahead .ensures ∙ ap (λ (h : Heading). ahead h (a .from .place)) (c .before .before .before .direction .ensures) in
+    let i : inside (pos (a .g)) (c .before .before .ahead .result) ≡ false = sym (c .before .on-grid .ensures) ∙ c .if1 .left in
+    (omega arith, l .loop .inv .1 ∙ walk-shut (pos (a .g)) (a .even) (a .from .place) (l .loop .turn) t (ap (λ (p : Place). inside (pos (a .g)) p) (sym q) ∙ i))
+
+returns-2 : tie.Need-returns-2 Inv-loop μ-loop
+returns-2 c =
+    let a = c .before .before .before .args in
+    let l = c .before .loop in
+    record {
+      most = omega arith;
+      left = l .inv .1 ∙ walk-end (pos (a .g)) (a .even) (a .from .place) (l .turn) (search needs);
+      step = λ h. absurd (lt-irrefl 4 h);
+      within = λ h. absurd (lt-irrefl 4 h);
+    }
+
+pub walk-on-spec : {M : Type 1} → statement M
+walk-on-spec =
+    tie.close
+    (tie.spec
+    Inv-loop
+    μ-loop
+    loop-holds
+    direction-requires
+    ahead-requires
+    on-grid-requires
+    returns
+    add-turn
+    loop-less
+    loop-again
+    returns-2)
