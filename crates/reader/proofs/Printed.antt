@@ -2,7 +2,7 @@
 use Prim.Native.Nat.{ℕ, _<_}
 use native.Mathlib.Omega.{arith}
 use mathlib.Core.Path.{_≡_, refl, sym, ap, _∙_}
-use mathlib.Core.Bool.{Bool, true, false, true≢false}
+use mathlib.Core.Bool.{Bool, true, false, cond, true≢false}
 use mathlib.Core.List.{List, [], _∷_, _++_, append-assoc, append-nil}
 use lib.Dec.{eqb}
 use lib.ListN.{take, drop}
@@ -17,7 +17,7 @@ use Rattle.reader.specs.declared.Reader.{Reader}
 
 -- ---- the bytes before a newline, and none
 
-up-by : (t : Bool) (x : ℕ) (s : List ℕ) → eqb x 10 ≡ t → upTo 10 (upTo 10 s) ≡ upTo 10 s → upTo 10 (mathlib.Core.Bool.cond t [] (x ∷ upTo 10 s)) ≡ mathlib.Core.Bool.cond t [] (x ∷ upTo 10 s)
+up-by : (t : Bool) (x : ℕ) (s : List ℕ) → eqb x 10 ≡ t → upTo 10 (upTo 10 s) ≡ upTo 10 s → upTo 10 (cond t [] (x ∷ upTo 10 s)) ≡ cond t [] (x ∷ upTo 10 s)
 unfolding upTo
 up-by true x s e h = refl
 up-by false x s e h = rw (e, h)
