@@ -48,7 +48,7 @@ turn-distinct cells (c ∷ l) u g =
 pick-length : (cells ds : List ℕ) → length (pick cells ds) ≡ length ds
 unfolding pick
 pick-length cells [] = refl
-pick-length cells (d ∷ ds) = ap suc (pick-length (without (getD cells d 0) cells) ds)
+pick-length cells (d ∷ ds) = ap suc (pick-length _ ds)
 
 pub drawn-length : (cells : List ℕ) (k i : ℕ) → length (drawnFrom cells k i) ≡ k
 unfolding drawnFrom
