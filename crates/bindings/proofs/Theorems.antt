@@ -60,7 +60,7 @@ cause-of p h OppBody = every-at (p NoCause ∷ p Wall ∷ p SelfBody ∷ p OppBo
 cause-of p h HeadOn = every-at (p NoCause ∷ p Wall ∷ p SelfBody ∷ p OppBody ∷ p HeadOn ∷ []) 4 h
 
 abbrev event : Cause → Bool → Bool → Bool → Bool → Bool → Bool → Bool → Event
-event c a d k w l x y = record { ate = a; died = d; cause = c; killed = k; won = w; lost = l; drew = x; survived = y }
+event c a d k w l x y = record { «ate_food» = a; died = d; «death_cause» = c; «killed_opponent» = k; won = w; lost = l; drew = x; «survived_to_max_ticks» = y }
 
 abbrev allEvents : (Event → Bool) → Bool
 allEvents p =
@@ -68,7 +68,7 @@ allEvents p =
 
 event-of : (p : Event → Bool) → allEvents p ≡ true → (e : Event) → p e ≡ true
 event-of p h e =
-    flag-of _ (flag-of _ (flag-of _ (flag-of _ (flag-of _ (flag-of _ (flag-of _ (cause-of _ h (e .cause)) (e .ate)) (e .died)) (e .killed)) (e .won)) (e .lost)) (e .drew)) (e .survived)
+    flag-of _ (flag-of _ (flag-of _ (flag-of _ (flag-of _ (flag-of _ (flag-of _ (cause-of _ h (e .«death_cause»)) (e .«ate_food»)) (e .died)) (e .«killed_opponent»)) (e .won)) (e .lost)) (e .drew)) (e .«survived_to_max_ticks»)
 
 abbrev sameFlag : Bool → Bool → Bool
 sameFlag a b = b if a else not b
@@ -80,8 +80,8 @@ flag-is false false h = refl
 
 abbrev parts : Event → Event → List Bool
 parts e f =
-    sameFlag (e .ate) (f .ate) ∷ sameFlag (e .died) (f .died) ∷ eqb (causeNumber (e .cause)) (causeNumber (f .cause)) ∷ sameFlag (e .killed) (f .killed)
-    ∷ sameFlag (e .won) (f .won) ∷ sameFlag (e .lost) (f .lost) ∷ sameFlag (e .drew) (f .drew) ∷ sameFlag (e .survived) (f .survived) ∷ []
+    sameFlag (e .«ate_food») (f .«ate_food») ∷ sameFlag (e .died) (f .died) ∷ eqb (causeNumber (e .«death_cause»)) (causeNumber (f .«death_cause»)) ∷ sameFlag (e .«killed_opponent») (f .«killed_opponent»)
+    ∷ sameFlag (e .won) (f .won) ∷ sameFlag (e .lost) (f .lost) ∷ sameFlag (e .drew) (f .drew) ∷ sameFlag (e .«survived_to_max_ticks») (f .«survived_to_max_ticks») ∷ []
 
 cause-back : (c : Cause) → causeIn (causeNumber c) ≡ c
 cause-back NoCause = refl
@@ -93,9 +93,9 @@ cause-back HeadOn = refl
 same-event : (e f : Event) → every (parts e f) ≡ true → e ≡ f
 same-event e f h =
     let at : (k : ℕ) → getD (parts e f) k true ≡ true = λ k. every-at (parts e f) k h in
-    let c = sym (cause-back (e .cause)) ∙ ap causeIn (eqb-true (causeNumber (e .cause)) (causeNumber (f .cause)) (at 2)) ∙ cause-back (f .cause) in
-    λ i. event (c i) (flag-is (e .ate) (f .ate) (at 0) i) (flag-is (e .died) (f .died) (at 1) i) (flag-is (e .killed) (f .killed) (at 3) i) (flag-is (e .won) (f .won) (at 4) i)
-    (flag-is (e .lost) (f .lost) (at 5) i) (flag-is (e .drew) (f .drew) (at 6) i) (flag-is (e .survived) (f .survived) (at 7) i)
+    let c = sym (cause-back (e .«death_cause»)) ∙ ap causeIn (eqb-true (causeNumber (e .«death_cause»)) (causeNumber (f .«death_cause»)) (at 2)) ∙ cause-back (f .«death_cause») in
+    λ i. event (c i) (flag-is (e .«ate_food») (f .«ate_food») (at 0) i) (flag-is (e .died) (f .died) (at 1) i) (flag-is (e .«killed_opponent») (f .«killed_opponent») (at 3) i) (flag-is (e .won) (f .won) (at 4) i)
+    (flag-is (e .lost) (f .lost) (at 5) i) (flag-is (e .drew) (f .drew) (at 6) i) (flag-is (e .«survived_to_max_ticks») (f .«survived_to_max_ticks») (at 7) i)
 
 tried : allEvents (λ e. every (parts (eventIn (eventNumber e)) e)) ≡ true
 unfolding bothFlags allCauses eventNumber every

@@ -47,13 +47,13 @@ limitIn b n = Is n if b else Unset
 
 abbrev pub settingIn : FlatSetting → Setting
 settingIn s = record {
-  snakes = s .snakes;
-  grid = s .grid;
-  size = s .size;
-  last = s .last;
-  lead = limitIn (s .«lead_set») (s .lead);
-  food = s .food;
-  ticks = limitIn (s .«ticks_set») (s .ticks);
+  «num_snakes» = s .«num_snakes»;
+  «grid_size» = s .«grid_size»;
+  «initial_length» = s .«initial_length»;
+  «play_to_last» = s .«play_to_last»;
+  «win_food_lead» = limitIn (s .«win_food_lead_set») (s .«win_food_lead»);
+  «initial_food_count» = s .«initial_food_count»;
+  «max_ticks» = limitIn (s .«max_ticks_set») (s .«max_ticks»);
 }
 
 abbrev pub weightsIn : FlatWeights → Weights
@@ -73,26 +73,26 @@ isOdd n = eqb (n % 2) 1
 -- the flags by their bits; bit 128 and causes above 4 mean nothing
 abbrev pub eventIn : ℕ → Event
 eventIn n = record {
-  ate = isOdd n;
+  «ate_food» = isOdd n;
   died = isOdd (n / 2);
-  cause = causeIn (n / 256);
-  killed = isOdd (n / 4);
+  «death_cause» = causeIn (n / 256);
+  «killed_opponent» = isOdd (n / 4);
   won = isOdd (n / 8);
   lost = isOdd (n / 16);
   drew = isOdd (n / 32);
-  survived = isOdd (n / 64);
+  «survived_to_max_ticks» = isOdd (n / 64);
 }
 
 -- ---- what an answer is as numbers: refusal 0 and what came, or the number and zeros
 
 abbrev pub low : Event → ℕ
-low e = (1 if e .ate else 0) + (2 if e .died else 0) + (4 if e .killed else 0) + (8 if e .won else 0)
+low e = (1 if e .«ate_food» else 0) + (2 if e .died else 0) + (4 if e .«killed_opponent» else 0) + (8 if e .won else 0)
 
 abbrev pub high : Event → ℕ
-high e = (16 if e .lost else 0) + (32 if e .drew else 0) + (64 if e .survived else 0)
+high e = (16 if e .lost else 0) + (32 if e .drew else 0) + (64 if e .«survived_to_max_ticks» else 0)
 
 unfoldable pub eventNumber : Event → ℕ
-eventNumber e = low e + high e + 256 * causeNumber (e .cause)
+eventNumber e = low e + high e + 256 * causeNumber (e .«death_cause»)
 
 abbrev pub flatVerdict : Says (Unit {0}) → ℕ
 flatVerdict (refuses k) = k

@@ -9,10 +9,10 @@ use Rattle.lists.specs.Products.{falling}
 use Rattle.rules.specs.Image.{stateOf}
 use Rattle.rules.specs.Chance.{outcomes}
 use Rattle.rules.proofs.FreeCells.{from-few}
-use Rattle.odds.specs.Marks.{marked, unmarked}
-use Rattle.odds.specs.Odds.{Stands}
-use Rattle.odds.specs.declared.odds.Odds.{Odds}
-use Rattle.odds.proofs.Marking.{count-in}
+use Rattle.outcomes.specs.Marks.{marked, unmarked}
+use Rattle.outcomes.specs.Odds.{Stands}
+use Rattle.outcomes.specs.declared.odds.Odds.{Odds}
+use Rattle.outcomes.proofs.Marking.{count-in}
 
 pub unmarked-few : (b : List ℕ) (n : ℕ) → length (unmarked b n) ≤ n
 unfolding unmarked

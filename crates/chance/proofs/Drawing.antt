@@ -16,9 +16,9 @@ use Rattle.rules.specs.Chance.{free, outcomes, drawnFrom, drawn, afterDraw}
 use Rattle.rules.proofs.DrawFacts.{drawn-due}
 use Rattle.rules.proofs.Fairness.{listed}
 use Rattle.rules.proofs.FreeCells.{free-short}
-use Rattle.odds.specs.Marks.{unmarked}
-use Rattle.odds.specs.Odds.{Stands}
-use Rattle.odds.specs.declared.odds.Odds.{Odds}
+use Rattle.outcomes.specs.Marks.{unmarked}
+use Rattle.outcomes.specs.Odds.{Stands}
+use Rattle.outcomes.specs.declared.odds.Odds.{Odds}
 use Rattle.chance.specs.Next.{nextWords}
 use Rattle.chance.proofs.NextImage.{next-is}
 use Rattle.chance.proofs.Bounds.{size-le}

@@ -19,8 +19,8 @@ use Rattle.rules.specs.Chance.{free, drawSize, rankIn, canRank}
 use Rattle.rules.proofs.FreeCells.{place-scan, of-from, free-distinct}
 use Rattle.rules.proofs.Draws.{InTurn, in-turn, turn-among, turn-distinct}
 use Rattle.rules.proofs.Fairness.{ranked-listed, listed-ranked}
-use Rattle.odds.specs.Marks.{marked, unmarked}
-use Rattle.odds.proofs.Scans.{mark-yes, mark-no, open-member, unmarked-set}
+use Rattle.outcomes.specs.Marks.{marked, unmarked}
+use Rattle.outcomes.proofs.Scans.{mark-yes, mark-no, open-member, unmarked-set}
 use Rattle.chance.specs.Ranking.{inTurn}
 
 -- ---- the test

@@ -23,7 +23,7 @@ use Rattle.rules.proofs.Fairness.{listed}
 use Rattle.rules.proofs.Sets.{with-long}
 use Rattle.rules.proofs.Words.{image-of}
 use Rattle.rules.proofs.Parts.{state-count, food-long}
-use Rattle.writers.specs.Writers.{Fresh}
+use Rattle.cells.specs.Writers.{Fresh}
 use Rattle.chance.specs.Next.{nextWords}
 
 module _ (w : List ℕ) (s : Sound w) where

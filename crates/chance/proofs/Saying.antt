@@ -14,9 +14,9 @@ use Rattle.rules.specs.Calls.{Draw}
 use Rattle.rules.specs.Says.{Says, refuses, gives}
 use Rattle.rules.specs.declared.Drawn.{Drawn}
 use Rattle.rules.proofs.FreeCells.{free-short}
-use Rattle.odds.specs.Odds.{Stands}
-use Rattle.odds.specs.declared.odds.Odds.{Odds}
-use Rattle.odds.proofs.Marking.{count-over, count-in, count-eq}
+use Rattle.outcomes.specs.Odds.{Stands}
+use Rattle.outcomes.specs.declared.odds.Odds.{Odds}
+use Rattle.outcomes.proofs.Marking.{count-over, count-in, count-eq}
 use Rattle.chance.specs.Answers.{drawOf, dueSays, Answers, Refuses}
 use Rattle.chance.proofs.Bounds.{size-le}
 use Rattle.chance.proofs.NextImage.{next-long}

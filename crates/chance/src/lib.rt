@@ -5,7 +5,7 @@ mod ranks;
 use image::well_formed;
 use next::draw_due;
 use next::refused;
-use odds::count_due;
+use outcomes::count_due;
 use ranks::rank_due;
 use rules::Drawn;
 use rules::Number;

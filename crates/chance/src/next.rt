@@ -2,10 +2,10 @@
 use image::put_all;
 use image::write_contents;
 use lists::write_at;
-use odds::Odds;
-use odds::odds_of;
-use odds::pick_cells;
-use odds::split;
+use outcomes::Odds;
+use outcomes::odds_of;
+use outcomes::pick_cells;
+use outcomes::split;
 use rules::Answer;
 use rules::Drawn;
 ghost use mathlib.Core.Path.{_≡_};
@@ -19,9 +19,9 @@ ghost use Rattle.rules.specs.Image.{dueIn, foodAt, stateOf};
 ghost use Rattle.rules.specs.Facts.{Sound};
 ghost use Rattle.rules.specs.Chance.{outcomes, drawnFrom};
 ghost use Rattle.rules.specs.Says.{gives};
-ghost use Rattle.odds.specs.Marks.{unmarked};
-ghost use Rattle.odds.specs.Odds.{Stands};
-ghost use Rattle.writers.specs.Writers.{Fresh};
+ghost use Rattle.outcomes.specs.Marks.{unmarked};
+ghost use Rattle.outcomes.specs.Odds.{Stands};
+ghost use Rattle.cells.specs.Writers.{Fresh};
 ghost use Rattle.chance.specs.Next.{nextWords};
 ghost use Rattle.chance.specs.Answers.{drawOf, dueSays, Answers, Refuses};
 

@@ -1,6 +1,6 @@
 // The rank of a list: each cell's place among the cells still free is a digit.
-use odds::free_below;
-use odds::odds_of;
+use outcomes::free_below;
+use outcomes::odds_of;
 use rules::Number;
 ghost use mathlib.Core.Path.{_≡_};
 ghost use mathlib.Core.Bool.{not};
@@ -13,7 +13,7 @@ ghost use Rattle.rules.specs.Image.{stateOf};
 ghost use Rattle.rules.specs.Facts.{Sound};
 ghost use Rattle.rules.specs.Chance.{outcomes, rankIn, rankOf, canRank};
 ghost use Rattle.rules.specs.Says.{refuses, gives, saysNumber};
-ghost use Rattle.odds.specs.Marks.{unmarked};
+ghost use Rattle.outcomes.specs.Marks.{unmarked};
 ghost use Rattle.chance.specs.Ranking.{inTurn};
 
 // Refusal 30, for a cell that is not free or stood in the list before: it has a mark then.

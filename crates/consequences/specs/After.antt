@@ -8,7 +8,7 @@ use lib.ListN.{length, getD}
 use Rattle.lists.specs.Choice.{bit}
 use Rattle.lists.specs.Below.{someBelow, countBelow, sumBelow}
 use Rattle.lists.specs.Lists.{member}
-use Rattle.writers.specs.Writers.{partOf, bodyWith}
+use Rattle.cells.specs.Writers.{partOf, bodyWith}
 use Rattle.rules.specs.declared.Heading.the-variants.{Up}
 use Rattle.rules.specs.declared.Cause.{Cause}
 use Rattle.rules.specs.declared.Cause.the-variants.{NoCause}
@@ -16,7 +16,7 @@ use Rattle.rules.specs.declared.Limit.{Limit}
 use Rattle.rules.specs.declared.Limit.the-variants.{Unset, Is}
 use Rattle.rules.specs.declared.Event.{Event}
 use Rattle.rules.specs.Events.{dies}
-use Rattle.rules.specs.Places.{cellOf}
+use Rattle.rules.specs.Grid.{cellOf}
 use Rattle.rules.specs.State.{Snake}
 use Rattle.judge.specs.declared.Judged.{Judged}
 use Rattle.consequences.specs.declared.after.After.{After}
@@ -100,12 +100,12 @@ leadsIn all alive (Is k) i j = leadsBy all alive k i j
 -- the event of snake i, of n: the array, whom each death is credited to, the counts of the living and the dead
 abbrev pub eventAt : List After → List ℕ → ℕ → ℕ → ℕ → Limit → ℕ → Event
 eventAt all to n alive deaths lead i = record {
-  ate = eating all i;
+  «ate_food» = eating all i;
   died = dies (causes all i);
-  cause = causes all i;
-  killed = someBelow n (creditedTo to i);
+  «death_cause» = causes all i;
+  «killed_opponent» = someBelow n (creditedTo to i);
   won = living all i && eqb alive 1 && ltb 0 deaths || someBelow n (leadsIn all alive lead i);
   lost = dies (causes all i) && ltb 0 alive || someBelow n (λ j. leadsIn all alive lead j i);
   drew = dies (causes all i) && eqb alive 0 && ltb 1 deaths;
-  survived = false;
+  «survived_to_max_ticks» = false;
 }

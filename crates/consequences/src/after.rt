@@ -42,7 +42,7 @@ fn settle(g: u16, j: Judged) -> After
     After {
         heading,
         lives: m.moves & lasts,
-        cell: places::cell_of(g, head),
+        cell: grid::cell_of(g, head),
         start: m.start,
         keep: m.keep,
         ate: m.eats & lasts,

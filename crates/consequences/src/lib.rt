@@ -2,7 +2,7 @@
 mod after;
 mod killers;
 mod leads;
-mod told;
+mod snake_events;
 
 pub use after::After;
 pub use after::count_all;
@@ -10,4 +10,4 @@ pub use after::settle_all;
 pub use after::size_of;
 pub use killers::find_killers;
 pub use leads::is_terminal;
-pub use told::all_events;
+pub use snake_events::all_events;

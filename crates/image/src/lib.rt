@@ -9,8 +9,8 @@ pub use parts::find_in;
 pub use parts::food_of;
 pub use parts::holds_in;
 use rules::Heading;
-pub use shape::stamps_once;
-pub use shape::well_formed;
+pub use wellformed::stamps_once;
+pub use wellformed::well_formed;
 pub use table::record_at;
 pub use table::records;
 pub use words::flag;
@@ -18,10 +18,10 @@ pub use words::heading_of;
 pub use words::number_of;
 pub use words::write_contents;
 pub use words::write_record;
-pub use writers::count_left;
-pub use writers::put_all;
-pub use writers::write_body;
-pub use writers::write_left;
+pub use cells::count_left;
+pub use cells::put_all;
+pub use cells::write_body;
+pub use cells::write_left;
 
 // A snake's four words, read.
 pub struct SnakeRecord {

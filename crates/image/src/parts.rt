@@ -1,6 +1,6 @@
 // Parts of an image, as parts of the caller's own slice: a snake's body, the food, and the search in a part.
 use lists::Found;
-use shape::well_formed;
+use wellformed::well_formed;
 ghost use mathlib.Core.Path.{_≡_};
 ghost use Prim.Native.Nat.{_+_, _<_, _≤_};
 ghost use lib.ListN.{length, take, drop};

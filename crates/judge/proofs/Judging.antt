@@ -13,7 +13,7 @@ use Rattle.lists.specs.Lists.{member}
 use Rattle.lists.proofs.Missing.{missing-part}
 use Rattle.lists.proofs.Tests.{ordered, less, more}
 use Rattle.lists.proofs.Below.{some-ext, some-never, some-false, each-at, each-past, each-ext, each-map, filled-is}
-use Rattle.rules.specs.Places.{same, inside, cellOf}
+use Rattle.rules.specs.Grid.{same, inside, cellOf}
 use Rattle.rules.specs.State.{nobody}
 use Rattle.rules.specs.Image.{front, snakesIn, sideIn, foodStart, foodAt, stateOf}
 use Rattle.rules.specs.Facts.{Sound}

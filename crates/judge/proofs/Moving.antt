@@ -14,7 +14,7 @@ use Rattle.lists.specs.Choice.{_if_else_}
 use Rattle.lists.specs.Lists.{member}
 use Rattle.lists.proofs.Lists.{part-long}
 use Rattle.rules.specs.Headings.{headingOf, turned, actionOf}
-use Rattle.rules.specs.Places.{ahead, inside, cellOf, placeOf}
+use Rattle.rules.specs.Grid.{ahead, inside, cellOf, placeOf}
 use Rattle.rules.specs.State.{Snake}
 use Rattle.rules.specs.Image.{word, front, snakesIn, sideIn, startAt, lengthAt, headingAt, aliveAt, foodStart, bodyAt, foodAt, snakeAt, stateOf}
 use Rattle.rules.specs.Facts.{Sound}
@@ -22,7 +22,7 @@ use Rattle.rules.proofs.Parts.{state-snake, body-in}
 use Rattle.rules.specs.Step.{onFood, goes, stays, move, movedOf}
 use Rattle.rules.specs.declared.Heading.{Heading}
 use Rattle.rules.specs.declared.Place.{Place}
-use Rattle.places.specs.Near.{Near}
+use Rattle.grid.specs.Near.{Near}
 use Rattle.image.specs.declared.SnakeRecord.{SnakeRecord}
 use Rattle.image.specs.Records.{recordAt}
 use Rattle.judge.specs.declared.Move.{Move}

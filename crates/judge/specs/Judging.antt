@@ -11,7 +11,7 @@ use Rattle.lists.specs.Lists.{member}
 use Rattle.rules.specs.declared.Cause.{Cause}
 use Rattle.rules.specs.declared.Cause.the-variants.{NoCause, SelfBody, OppBody}
 use Rattle.rules.specs.declared.Place.{Place}
-use Rattle.rules.specs.Places.{same}
+use Rattle.rules.specs.Grid.{same}
 use Rattle.rules.specs.Image.{front, snakesIn, sideIn}
 use Rattle.rules.specs.Step.{causeOf}
 use Rattle.judge.specs.declared.Move.{Move}

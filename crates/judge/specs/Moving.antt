@@ -7,7 +7,7 @@ use lib.IntN.{pos}
 use lib.ListN.{getD}
 use Rattle.lists.specs.Choice.{_if_else_}
 use Rattle.rules.specs.Headings.{headingOf, turned, actionOf}
-use Rattle.rules.specs.Places.{ahead, placeOf}
+use Rattle.rules.specs.Grid.{ahead, placeOf}
 use Rattle.rules.specs.Image.{word, sideIn, startAt, lengthAt, headingAt, aliveAt, foodAt}
 use Rattle.rules.specs.Step.{onFood}
 use Rattle.rules.specs.declared.Heading.{Heading}

@@ -24,7 +24,7 @@ fn head_on(all: [Move; 8], n: usize, i: usize, head: Place) -> bool
     let mut j = 0;
     while j < n {
         let you = all[j];
-        found = found | (i != j) & you.moves & places::same(head, you.head);
+        found = found | (i != j) & you.moves & grid::same(head, you.head);
         j += 1;
     }
     found
@@ -93,7 +93,7 @@ fn cause_of(image: &[u16], all: [Move; 8], n: usize, i: usize) -> Cause
         return Cause::NoCause;
     }
     let g = image[1];
-    let inside = places::on_grid(g, head);
+    let inside = grid::on_grid(g, head);
     let met = head_on(all, n, i, head);
     if met {
         return Cause::HeadOn;
@@ -101,7 +101,7 @@ fn cause_of(image: &[u16], all: [Move; 8], n: usize, i: usize) -> Cause
     if !inside {
         return Cause::Wall;
     }
-    body_cause(image, all, n, i, places::cell_of(g, head))
+    body_cause(image, all, n, i, grid::cell_of(g, head))
 }
 
 // Every snake's move and cause.

@@ -21,9 +21,9 @@ fn turned_by(heading: Heading, action: u64) -> Heading
         return heading;
     }
     if action == 1 {
-        return places::counterclockwise(heading);
+        return grid::counterclockwise(heading);
     }
-    places::clockwise(heading)
+    grid::clockwise(heading)
 }
 
 // Whether there is food at a place.
@@ -32,11 +32,11 @@ fn on_food(image: &[u16], p: Place) -> bool
     ensures { λ r. ⌜ r ≡ onFood (sideIn (now (image .entry))) (foodAt (now (image .entry))) p ⌝ }
 {
     let g = image[1];
-    if !places::on_grid(g, p) {
+    if !grid::on_grid(g, p) {
         return false;
     }
     let food = image::food_of(image);
-    lists::holds(food, places::cell_of(g, p))
+    lists::holds(food, grid::cell_of(g, p))
 }
 
 // The body of `len` words from `start` on goes one place on; its tail stays only where the new head is on food.
@@ -45,8 +45,8 @@ fn goes_on(image: &[u16], start: u16, len: u16, heading: Heading) -> Move
     requires { ⌜ (start < length (now image)) × (0 < len) ⌝ }
     ensures { λ r. ⌜ r ≡ going (now (image .entry)) start len heading ⌝ }
 {
-    let here = places::place_of(image[1], image[start as usize]);
-    let head = places::ahead(heading, here);
+    let here = grid::place_of(image[1], image[start as usize]);
+    let head = grid::ahead(heading, here);
     if on_food(image, head) {
         return Move {
             moves: true,

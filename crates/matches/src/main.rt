@@ -2,11 +2,11 @@
 // match's input, `~ TEXT` its last one, whose newline is missing.
 use libc::STDIN_FILENO;
 use libc::STDOUT_FILENO;
-use reader::Reader;
+use stream::Reader;
 ghost use mathlib.Core.Path.{_≡_};
 ghost use Prim.Native.Nat.{_+_, _<_, _≤_};
 ghost use lib.ListN.{length};
-ghost use Rattle.reader.specs.Room.{Ready};
+ghost use Rattle.stream.specs.Room.{Ready};
 
 // The match under way; how many bytes of the line's front came, up to two, and its mark; where to go on in what came; whether more may come.
 pub struct Frame {
@@ -21,7 +21,7 @@ pub struct Frame {
 fn idle() -> Reader
     ensures { λ q. ⌜ (q .fill ≡ 0) × (q .desk .words ≡ 0) ⌝ }
 {
-    let r = reader::start();
+    let r = stream::start();
     let desk = r.desk;
     Reader {
         desk,
@@ -45,9 +45,9 @@ fn begin(
     requires { ⌜ Ready old (now line) (now image) (now next) (now list) (now out) ⌝ }
     ensures { λ q. ⌜ Ready q (now (line .entry)) (now (image .exit)) (now (next .exit)) (now (list .exit)) (now (out .exit)) ⌝ }
 {
-    reader::finish(old, line, image, next, list, out);
+    stream::finish(old, line, image, next, list, out);
     io::write_all(STDOUT_FILENO, b"= ");
-    reader::start()
+    stream::start()
 }
 
 // A byte of a line's front: the mark, then a space.
@@ -88,7 +88,7 @@ fn take_text(
         io::write_all(STDOUT_FILENO, text);
         return r;
     }
-    reader::take_all(r, text, line, image, next, list, out)
+    stream::take_all(r, text, line, image, next, list, out)
 }
 
 // Where the text of a line ends that has its newline at `end`: the match gets the newline too, but for a last line without one.
@@ -136,7 +136,7 @@ fn take_some(
         };
     }
     let mark = f.mark;
-    let end = text::line_end(part, at);
+    let end = parsing::line_end(part, at);
     let after = end + 1;
     if end == part.len() {
         let reader = take_text(f, &part[at..end], line, image, next, list, out);
@@ -223,7 +223,7 @@ fn replay_all(
         turns -= 1;
     }
     let reader = f.reader;
-    reader::finish(reader, line, image, next, list, out);
+    stream::finish(reader, line, image, next, list, out);
 }
 
 fn main() {

@@ -6,10 +6,10 @@ use crate::writing::put_number;
 use crate::writing::refuse;
 use image::heading_of;
 use image::number_of;
-use places::action_of;
+use grid::action_of;
 use rules::Space;
-use text::Grid;
-use text::grid_in;
+use parsing::Grid;
+use parsing::grid_in;
 
 fn put_space(text: &mut [u8], at: usize, space: Space) -> usize {
     match space {

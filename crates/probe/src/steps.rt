@@ -17,9 +17,9 @@ use rules::Answer;
 use rules::Setting;
 use rules::Stepped;
 use rules::Verdict;
-use text::First;
-use text::read_first;
-use text::start_of;
+use parsing::First;
+use parsing::read_first;
+use parsing::start_of;
 
 // `v S`
 pub fn validate_line(s: &[u8], text: &mut [u8], at: usize) -> usize {

@@ -18,8 +18,8 @@ use Rattle.rules.specs.Step.{Transition}
 use Rattle.rules.specs.Events.{blank, eight}
 use Rattle.rules.specs.declared.Event.{Event}
 use Rattle.rules.proofs.Image.{snakes-is}
-use Rattle.text.specs.Lines.{readLater}
-use Rattle.letters.specs.Text.{lineText, refusalText}
+use Rattle.parsing.specs.Lines.{readLater}
+use Rattle.printing.specs.Text.{lineText, refusalText}
 use Rattle.standing.specs.Shown.{lineShown, markShown}
 use Rattle.referee.specs.Match.{Turn, marked, movedTurn, eventsShown, asked, beginSays, turnSays, lineSays, closeText, Stops, Shows, Plays}
 use Rattle.standing.specs.Standing.{snakesOf, endsBy, moved, endText}

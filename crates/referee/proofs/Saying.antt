@@ -39,8 +39,8 @@ pub initial-fits : (s : Setting) (room : ℕ) (t : State) → initialSays s room
 unfolding initialSays initialState
 initial-fits s room t e =
     let out = given-out (initialOrder s room) (initialState s) t e in
-    let f = ltb-false 8 (s .snakes) (or-false-right (ltb (s .snakes) 2) (ltb 8 (s .snakes)) (out 0)) in
-    let l = each-long (s .snakes) (startSnake s) in
+    let f = ltb-false 8 (s .«num_snakes») (or-false-right (ltb (s .«num_snakes») 2) (ltb 8 (s .«num_snakes»)) (out 0)) in
+    let l = each-long (s .«num_snakes») (startSnake s) in
     rw (← given-is (initialOrder s room) (initialState s) t e) (record { few = omega (arith, f, l); short = ltb-false room (length (imageOf (initialState s))) (out 12) })
 
 -- a step keeps the snakes

@@ -15,16 +15,16 @@ use Rattle.rules.specs.Says.{Says, refuses, gives, seen, beside, lent}
 use Rattle.rules.specs.Calls.{initialSays, stepSays, Draw, drawSays}
 use Rattle.rules.specs.declared.Setting.{Setting}
 use Rattle.rules.specs.declared.Event.{Event}
-use Rattle.text.specs.Lines.{readFirst, readLater}
-use Rattle.text.specs.Split.{linesOf}
+use Rattle.parsing.specs.Lines.{readFirst, readLater}
+use Rattle.parsing.specs.Split.{linesOf}
 use Rattle.standing.specs.Shown.{lineShown, markShown}
 use Rattle.standing.specs.Standing.{snakesOf, endsBy, moved, endText}
-use Rattle.letters.specs.Text.{lineText, refusalText, Wrote}
-use Rattle.text.specs.declared.First.{First}
-use Rattle.text.specs.declared.First.the-variants.{NoFirst, Opens}
-use Rattle.text.specs.declared.Line.{Line}
-use Rattle.text.specs.declared.Line.the-variants.{NoLine, DrawLine, MoveLine}
-use Rattle.text.specs.declared.Entry.{Entry}
+use Rattle.printing.specs.Text.{lineText, refusalText, Wrote}
+use Rattle.parsing.specs.declared.First.{First}
+use Rattle.parsing.specs.declared.First.the-variants.{NoFirst, Opens}
+use Rattle.parsing.specs.declared.Line.{Line}
+use Rattle.parsing.specs.declared.Line.the-variants.{NoLine, DrawLine, MoveLine}
+use Rattle.parsing.specs.declared.Entry.{Entry}
 use Rattle.standing.specs.declared.Match.{Match}
 use Rattle.referee.specs.declared.Desk.{Desk}
 use Rattle.referee.specs.declared.Turned.{Turned}

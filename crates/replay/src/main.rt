@@ -1,7 +1,7 @@
 // The replay: lines from standard input, of any number, to standard output. `reader` takes what is read here.
 use libc::STDIN_FILENO;
-use reader::Reader;
-ghost use Rattle.reader.specs.Room.{Ready};
+use stream::Reader;
+ghost use Rattle.stream.specs.Room.{Ready};
 
 // The reader, and whether more may come.
 pub struct Reading {
@@ -24,7 +24,7 @@ fn read_some(
     let mut part = io::large_buffer();
     let got = libc::read(STDIN_FILENO, &mut part);
     let n = io::count(got, &part);
-    let reader = reader::take_all(r, &part[..n], line, image, next, list, out);
+    let reader = stream::take_all(r, &part[..n], line, image, next, list, out);
     let heard = reader.heard;
     Reading {
         reader,
@@ -52,7 +52,7 @@ fn replay(
         more = q.more;
         turns -= 1;
     }
-    reader::finish(r, line, image, next, list, out);
+    stream::finish(r, line, image, next, list, out);
 }
 
 fn main() {
@@ -61,6 +61,6 @@ fn main() {
     let mut next = [0u16; 9253];
     let mut list = [0u16; 1024];
     let mut out = [0u8; 512];
-    let first = reader::start();
+    let first = stream::start();
     replay(first, &mut line, &mut image, &mut next, &mut list, &mut out);
 }

@@ -15,7 +15,7 @@ use Rattle.lists.specs.Tables.{fault}
 
 -- snakes, grid, length, lead, food
 abbrev asked : ℕ → ℤ → ℕ → Limit → ℕ → Setting
-asked n g k lead f = record { snakes = n; grid = g; size = k; last = false; lead = lead; food = f; ticks = Unset }
+asked n g k lead f = record { «num_snakes» = n; «grid_size» = g; «initial_length» = k; «play_to_last» = false; «win_food_lead» = lead; «initial_food_count» = f; «max_ticks» = Unset }
 
 abbrev largest : ℕ
 largest = 18446744073709551615

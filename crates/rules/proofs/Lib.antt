@@ -6,7 +6,7 @@ pub mod Answers
 pub mod Step
 pub mod Parts
 pub mod Examples
-pub mod Places
+pub mod Grid
 pub mod FreeCells
 pub mod Digits
 pub mod Draws

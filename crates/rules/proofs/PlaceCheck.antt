@@ -16,13 +16,13 @@ use Rattle.lists.specs.Lists.{all, distinct}
 use Rattle.lists.proofs.Tests.{and-left, and-right}
 use Rattle.lists.proofs.Repeats.{map-concat, all-concat, sum-same}
 use Rattle.lists.proofs.Below.{some-never, concat-long, sum-ext}
-use Rattle.rules.specs.Places.{inside, cellOf}
+use Rattle.rules.specs.Grid.{inside, cellOf}
 use Rattle.rules.specs.Placement.{startPlace, tracing, even, placed}
 use Rattle.rules.specs.Setting.{badCell, allPlaced, someShort}
 use Rattle.rules.specs.SettingParts.{placeCheck, cellsOf}
 use Rattle.rules.specs.declared.Place.{Place}
 use Rattle.rules.proofs.Facts.{square-le}
-use Rattle.rules.proofs.Places.{cell-below}
+use Rattle.rules.proofs.Grid.{cell-below}
 use Rattle.rules.proofs.Placement.{traced-short, traced-inside, traced-reach}
 use Rattle.rules.proofs.Starts.{start-inside}
 use Rattle.rules.proofs.Taken.{bad-repeats}

@@ -13,7 +13,7 @@ use Rattle.lists.specs.Choice.{_if_else_}
 use Rattle.lists.specs.Below.{someBelow, concatBelow}
 use Rattle.lists.specs.Lists.{any}
 use Rattle.lists.proofs.Below.{some-found, some-false, concat-split, concat-next, concat-none}
-use Rattle.rules.specs.Places.{within, inside, ahead}
+use Rattle.rules.specs.Grid.{within, inside, ahead}
 use Rattle.rules.specs.Placement.{startPlace, even, unblocked, trail, tracing, placed}
 use Rattle.rules.specs.Setting.{badCell, allPlaced, someShort}
 use Rattle.rules.specs.SettingParts.{placeCheck}

@@ -20,7 +20,7 @@ use Rattle.lists.proofs.Members.{distinct-more}
 use Rattle.lists.proofs.Shorter.{all-take, distinct-take, all-keep, ascending-keep}
 use Rattle.lists.proofs.Pigeonhole.{cells-short}
 use Rattle.rules.specs.Headings.{turned, actionOf}
-use Rattle.rules.specs.Places.{ahead, inside, same, cellOf, placeOf}
+use Rattle.rules.specs.Grid.{ahead, inside, same, cellOf, placeOf}
 use Rattle.rules.specs.State.{Snake, State, nobody, count, snakeOf, area}
 use Rattle.rules.specs.Image.{bodyOf, imageOf, stateOf, wellFormed}
 use Rattle.rules.specs.Facts.{Holdable}
@@ -31,7 +31,7 @@ use Rattle.rules.specs.declared.Cause.the-variants.{NoCause, Wall, SelfB
 use Rattle.rules.specs.declared.Setting.{Setting}
 use Rattle.rules.proofs.Facts.{sound}
 use Rattle.rules.proofs.Holdable.{image-well-formed, holds-state}
-use Rattle.rules.proofs.Places.{cell-below}
+use Rattle.rules.proofs.Grid.{cell-below}
 
 -- different cells below m
 pub record Cells (m : ℕ) (l : List ℕ) : Type 0 where

@@ -17,7 +17,7 @@ use Rattle.lists.proofs.Below.{concat-ext, sum-ext}
 use Rattle.lists.proofs.Squares.{row-lt, col-lt, cell-is, cell-lt, row-of, col-of, far-rows}
 use Rattle.rules.specs.Headings.{headingOf}
 use Rattle.rules.specs.State.{Snake}
-use Rattle.rules.specs.Places.{ahead, inside, within, cellOf, placeOf}
+use Rattle.rules.specs.Grid.{ahead, inside, within, cellOf, placeOf}
 use Rattle.rules.specs.Image.{front, snakesIn, sideIn, startAt, lengthAt, headingAt, foodStart, bodyOf, bodyAt, foodAt, stateOf}
 use Rattle.rules.specs.Facts.{Sound}
 use Rattle.rules.specs.View.{shows, turnedCell, plane, channels, viewOf, view}

@@ -70,7 +70,7 @@ planesOf (s ∷ ss) = numbersOf s ++ planesOf ss
 -- the length cell. Then: the state at the start; all that comes of a step; what an index draws, and the state afterwards; the planes of an agent; no length cell;
 -- the reward of an event, a whole number; a state's image, which is read back; words that are no image; whether chance acts, and what an agent may do
 abbrev pub Holds : Example → Type 0
-Holds (accepted s p) = (settingCheck s ≡ 0) × (worst (s .snakes) (sideOf (s .grid)) (s .food) ≡ p)
+Holds (accepted s p) = (settingCheck s ≡ 0) × (worst (s .«num_snakes») (sideOf (s .«grid_size»)) (s .«initial_food_count») ≡ p)
 Holds (refused s k) = settingCheck s ≡ k
 Holds (draw t cells p i list) = Picks t cells p i list
 Holds (turn g r c h r′ c′) = shows g h r c ≡ (r′, c′)
@@ -94,7 +94,7 @@ EachHolds (x ∷ xs) = Holds x × EachHolds xs
 
 -- snakes, grid, length, food
 abbrev pub plain : ℕ → ℕ → ℕ → ℕ → Setting
-plain n g k f = record { snakes = n; grid = pos g; size = k; last = false; lead = Unset; food = f; ticks = Unset }
+plain n g k f = record { «num_snakes» = n; «grid_size» = pos g; «initial_length» = k; «play_to_last» = false; «win_food_lead» = Unset; «initial_food_count» = f; «max_ticks» = Unset }
 
 abbrev pub living : Heading → List ℕ → Snake
 living h b = record { heading = h; alive = true; body = b }
@@ -104,7 +104,7 @@ arena g due zs fs = record { side = g; due = due; birth = false; snakes = zs; fo
 
 -- cause, killed, won, lost, drew
 abbrev pub event : Cause → Bool → Bool → Bool → Bool → Event
-event c k w l d = record { ate = false; died = dies c; cause = c; killed = k; won = w; lost = l; drew = d; survived = false }
+event c k w l d = record { «ate_food» = false; died = dies c; «death_cause» = c; «killed_opponent» = k; won = w; lost = l; drew = d; «survived_to_max_ticks» = false }
 
 -- grid 3, free 0, 1, 4, 6, 7, 8, two apples due
 abbrev pub sixFree : State
@@ -146,13 +146,13 @@ abbrev pub born : ℕ → ℕ → List Snake → List ℕ → State
 born g due zs fs = record { side = g; due = due; birth = true; snakes = zs; food = fs }
 
 abbrev pub toLast : ℕ → ℕ → Setting
-toLast n g = record { snakes = n; grid = pos g; size = 1; last = true; lead = Unset; food = 0; ticks = Unset }
+toLast n g = record { «num_snakes» = n; «grid_size» = pos g; «initial_length» = 1; «play_to_last» = true; «win_food_lead» = Unset; «initial_food_count» = 0; «max_ticks» = Unset }
 
 abbrev pub withLead : ℕ → ℕ → Setting
-withLead g k = record { snakes = 2; grid = pos g; size = 1; last = false; lead = Is k; food = 0; ticks = Unset }
+withLead g k = record { «num_snakes» = 2; «grid_size» = pos g; «initial_length» = 1; «play_to_last» = false; «win_food_lead» = Is k; «initial_food_count» = 0; «max_ticks» = Unset }
 
 abbrev pub fed : Event → Event
-fed e = record { ate = true; died = e .died; cause = e .cause; killed = e .killed; won = e .won; lost = e .lost; drew = e .drew; survived = e .survived }
+fed e = record { «ate_food» = true; died = e .died; «death_cause» = e .«death_cause»; «killed_opponent» = e .«killed_opponent»; won = e .won; lost = e .lost; drew = e .drew; «survived_to_max_ticks» = e .«survived_to_max_ticks» }
 
 abbrev pub won : Event
 won = event NoCause false true false false
@@ -186,7 +186,7 @@ coarse =
 
 -- every flag stands, died or not
 abbrev pub flagged : Cause → Event
-flagged c = record { ate = true; died = dies c; cause = c; killed = true; won = true; lost = true; drew = true; survived = true }
+flagged c = record { «ate_food» = true; died = dies c; «death_cause» = c; «killed_opponent» = true; won = true; lost = true; drew = true; «survived_to_max_ticks» = true }
 
 unfoldable pub theOthers : List Example
 theOthers =

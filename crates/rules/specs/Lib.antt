@@ -1,5 +1,5 @@
 pub mod Headings
-pub mod Places
+pub mod Grid
 pub mod State
 pub mod Image
 pub mod Facts

@@ -8,7 +8,7 @@ use lib.IntN.{ℤ, pos}
 use lib.Signed.{ltZ}
 use Rattle.lists.specs.Below.{someBelow}
 use Rattle.lists.specs.Tables.{Table}
-use Rattle.rules.specs.Places.{sameZ}
+use Rattle.rules.specs.Grid.{sameZ}
 use Rattle.rules.specs.State.{State, count, snakeOf}
 use Rattle.rules.specs.Image.{snakesIn, sideIn, dueIn, areaIn, imageOf, stateOf, wellFormed}
 use Rattle.rules.specs.Setting.{settingOrder, initialState}
@@ -28,7 +28,7 @@ initialOrder s room = settingOrder s ++ ((29, ltb room (length (imageOf (initial
 
 -- 'n or g differs from the setting'
 abbrev pub differs : Setting → List ℕ → Bool
-differs s w = not (eqb (snakesIn w) (s .snakes)) || not (sameZ (pos (sideIn w)) (s .grid))
+differs s w = not (eqb (snakesIn w) (s .«num_snakes»)) || not (sameZ (pos (sideIn w)) (s .«grid_size»))
 
 -- 'a living snake's action above 2'; 'A dead snake's action may be any number'
 abbrev pub badAction : State → List ℕ → Bool

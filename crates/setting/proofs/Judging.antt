@@ -16,7 +16,7 @@ use Rattle.lists.specs.Boards.{Under}
 use Rattle.lists.specs.Lists.{writeAt, overFront, distinct}
 use Rattle.lists.proofs.Tests.{ordered, less, more, first-some}
 use Rattle.lists.proofs.Writes.{write-front}
-use Rattle.rules.specs.Places.{cellOf}
+use Rattle.rules.specs.Grid.{cellOf}
 use Rattle.rules.specs.Setting.{sideOf, settingCheck, allPlaced, someShort}
 use Rattle.rules.specs.SettingParts.{limitsCheck, placeCheck, cellsOf}
 use Rattle.rules.specs.declared.Setting.{Setting}
@@ -106,16 +106,16 @@ judge-small number k reach cells old new r e q = record { says = q ∙ sym e; wo
 -- the number of the first half, or of the second
 module _ (s : Setting) (k : ℕ) (e : k ≡ limitsCheck s) where
   pub check-first : (k ≡ 0 → ⊥) → k ≡ settingCheck s
-  check-first h = e ∙ sym (check-parts s ∙ first-some (limitsCheck s) (placeCheck (s .grid) (s .snakes) (s .size) (s .food)) (λ z. h (e ∙ z)))
+  check-first h = e ∙ sym (check-parts s ∙ first-some (limitsCheck s) (placeCheck (s .«grid_size») (s .«num_snakes») (s .«initial_length») (s .«initial_food_count»)) (λ z. h (e ∙ z)))
 
-  pub check-second : k ≡ 0 → (r : ℕ) → r ≡ placeCheck (s .grid) (s .snakes) (s .size) (s .food) → r ≡ settingCheck s
-  check-second z r q = q ∙ sym (check-parts s ∙ ap (λ (m : ℕ). firstOf m (placeCheck (s .grid) (s .snakes) (s .size) (s .food))) (sym e ∙ z))
+  pub check-second : k ≡ 0 → (r : ℕ) → r ≡ placeCheck (s .«grid_size») (s .«num_snakes») (s .«initial_length») (s .«initial_food_count») → r ≡ settingCheck s
+  check-second z r q = q ∙ sym (check-parts s ∙ ap (λ (m : ℕ). firstOf m (placeCheck (s .«grid_size») (s .«num_snakes») (s .«initial_length») (s .«initial_food_count»))) (sym e ∙ z))
 
   module _ (cells old new : List ℕ) where
     pub judge-first : (k ≡ 0 → ⊥) → Tested (settingCheck s) cells old new k
     judge-first h = record { says = check-first h; words = λ z. absurd (h z) }
 
-    pub judge-second : k ≡ 0 → (r : ℕ) → Tested (placeCheck (s .grid) (s .snakes) (s .size) (s .food)) cells old new r → Tested (settingCheck s) cells old new r
+    pub judge-second : k ≡ 0 → (r : ℕ) → Tested (placeCheck (s .«grid_size») (s .«num_snakes») (s .«initial_length») (s .«initial_food_count»)) cells old new r → Tested (settingCheck s) cells old new r
     judge-second z r j = record { says = check-second z r (j .says); words = j .words }
 
 -- the same of a grid and its side

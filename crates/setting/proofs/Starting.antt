@@ -44,34 +44,34 @@ module _ (s : Setting) (old : List ℕ) where
       refused old (Refused k) k (initial-says s (length old) ∙ ap (λ (j : ℕ). first j r) (sym e) ∙ first-refuses k r h) refl refl
 
 module _ (s : Setting) (e : settingCheck s ≡ 0) where
-  pub total-is : length (startCells s) ≡ s .snakes * s .size
+  pub total-is : length (startCells s) ≡ s .«num_snakes» * s .«initial_length»
   total-is =
-      concat-long (s .snakes) (cellsOf (sideOf (s .grid)) (s .snakes) (s .size))
-      ∙ sum-ext (s .snakes) (λ i. length (cellsOf (sideOf (s .grid)) (s .snakes) (s .size) i)) (λ i. s .size) (cells-long s (accepts s e))
-      ∙ sum-same (s .snakes) (s .size)
+      concat-long (s .«num_snakes») (cellsOf (sideOf (s .«grid_size»)) (s .«num_snakes») (s .«initial_length»))
+      ∙ sum-ext (s .«num_snakes») (λ i. length (cellsOf (sideOf (s .«grid_size»)) (s .«num_snakes») (s .«initial_length») i)) (λ i. s .«initial_length») (cells-long s (accepts s e))
+      ∙ sum-same (s .«num_snakes») (s .«initial_length»)
 
-  pub total-most : s .snakes * s .size ≤ 1024
-  total-most = let a = accepts s e in omega (arith, a .food-free, square-le (sideOf (s .grid)) (a .side-max))
+  pub total-most : s .«num_snakes» * s .«initial_length» ≤ 1024
+  total-most = let a = accepts s e in omega (arith, a .food-free, square-le (sideOf (s .«grid_size»)) (a .side-max))
 
-  pub part-cells : (old new : List ℕ) → new ≡ writeAt old 0 (startCells s) → take (s .snakes * s .size - 0) new ≡ startCells s
+  pub part-cells : (old new : List ℕ) → new ≡ writeAt old 0 (startCells s) → take (s .«num_snakes» * s .«initial_length» - 0) new ≡ startCells s
   unfolding overFront
   part-cells old new q =
-      ap (λ (k : ℕ). take k new) (sub-zero (s .snakes * s .size) ∙ sym total-is)
+      ap (λ (k : ℕ). take k new) (sub-zero (s .«num_snakes» * s .«initial_length») ∙ sym total-is)
       ∙ ap (take (length (startCells s))) (q ∙ write-front old (startCells s))
       ∙ take-append-seam (startCells s) (drop (length (startCells s)) old)
 
-  image-long : length (imageOf (initialState s)) ≡ 5 + 4 * s .snakes + length (startCells s)
+  image-long : length (imageOf (initialState s)) ≡ 5 + 4 * s .«num_snakes» + length (startCells s)
   image-long =
-      let f = startRecord (s .snakes) (s .size) in
-      let b : length (concatBelow (s .snakes) f) ≡ 4 * s .snakes = blocks-long f 4 (s .snakes) (λ _. refl) in
+      let f = startRecord (s .«num_snakes») (s .«initial_length») in
+      let b : length (concatBelow (s .«num_snakes») f) ≡ 4 * s .«num_snakes» = blocks-long f 4 (s .«num_snakes») (λ _. refl) in
       ap (λ (l : List ℕ). length l) (start-image s (accepts s e))
-      ∙ omega (arith, b, length-append (concatBelow (s .snakes) f) (startCells s))
+      ∙ omega (arith, b, length-append (concatBelow (s .«num_snakes») f) (startCells s))
 
-  pub fits : (cells out : List ℕ) (g : ℕ) → cells ≡ startCells s → g ≡ sideOf (s .grid) → 5 + 4 * s .snakes + length cells ≤ length out
-      → Room (s .snakes) g (s .food) (s .size) cells out
+  pub fits : (cells out : List ℕ) (g : ℕ) → cells ≡ startCells s → g ≡ sideOf (s .«grid_size») → 5 + 4 * s .«num_snakes» + length cells ≤ length out
+      → Room (s .«num_snakes») g (s .«initial_food_count») (s .«initial_length») cells out
   fits cells out g c q h =
       let a = accepts s e in
-      let m = square-le (sideOf (s .grid)) (a .side-max) in
+      let m = square-le (sideOf (s .«grid_size»)) (a .side-max) in
       record {
         snakes = a .snakes-max;
         side = omega (arith, q, a .side-max);
@@ -81,28 +81,28 @@ module _ (s : Setting) (e : settingCheck s ≡ 0) where
       }
 
   module _ (old cells : List ℕ) (c : cells ≡ startCells s) where
-    count-is : 5 + 4 * s .snakes + length cells ≡ length (imageOf (initialState s))
-    count-is = ap (λ (l : List ℕ). 5 + 4 * s .snakes + length l) c ∙ sym image-long
+    count-is : 5 + 4 * s .«num_snakes» + length cells ≡ length (imageOf (initialState s))
+    count-is = ap (λ (l : List ℕ). 5 + 4 * s .«num_snakes» + length l) c ∙ sym image-long
 
-    pub starts-short : length old < 5 + 4 * s .snakes + length cells → Starts s old old (Refused 29)
+    pub starts-short : length old < 5 + 4 * s .«num_snakes» + length cells → Starts s old old (Refused 29)
     starts-short h =
         refused s old old (Refused 29) 29
         (rw (initial-says s (length old), e, lt-ltb (length old) (length (imageOf (initialState s))) (omega (arith, count-is))))
         refl refl
 
-    given : 5 + 4 * s .snakes + length cells ≤ length old → initialSays s (length old) ≡ gives (initialState s)
+    given : 5 + 4 * s .«num_snakes» + length cells ≤ length old → initialSays s (length old) ≡ gives (initialState s)
     given h = rw (initial-says s (length old), e, le-ltb (length old) (length (imageOf (initialState s))) (omega (arith, count-is)))
 
-    pub starts-done : (new : List ℕ) (g : ℕ) → g ≡ sideOf (s .grid) → 5 + 4 * s .snakes + length cells ≤ length old
-        → new ≡ writeAt old 0 ((s .snakes ∷ g ∷ s .food ∷ bit (ltb 0 (s .food)) ∷ 0 ∷ []) ++ (concatBelow (s .snakes) (startRecord (s .snakes) (s .size)) ++ cells))
-        → Starts s old new (Done (5 + 4 * s .snakes + length cells))
+    pub starts-done : (new : List ℕ) (g : ℕ) → g ≡ sideOf (s .«grid_size») → 5 + 4 * s .«num_snakes» + length cells ≤ length old
+        → new ≡ writeAt old 0 ((s .«num_snakes» ∷ g ∷ s .«initial_food_count» ∷ bit (ltb 0 (s .«initial_food_count»)) ∷ 0 ∷ []) ++ (concatBelow (s .«num_snakes») (startRecord (s .«num_snakes») (s .«initial_length»)) ++ cells))
+        → Starts s old new (Done (5 + 4 * s .«num_snakes» + length cells))
     starts-done new g q h w =
-        let r = concatBelow (s .snakes) (startRecord (s .snakes) (s .size)) in
+        let r = concatBelow (s .«num_snakes») (startRecord (s .«num_snakes») (s .«initial_length»)) in
         record {
           answer = ap gives count-is ∙ sym (ap (seen (λ t. length (imageOf t))) (given h));
           words =
               w
-              ∙ ap (λ (k : ℕ). writeAt old 0 ((s .snakes ∷ k ∷ s .food ∷ bit (ltb 0 (s .food)) ∷ 0 ∷ []) ++ (r ++ cells))) q
+              ∙ ap (λ (k : ℕ). writeAt old 0 ((s .«num_snakes» ∷ k ∷ s .«initial_food_count» ∷ bit (ltb 0 (s .«initial_food_count»)) ∷ 0 ∷ []) ++ (r ++ cells))) q
               ∙ ap (λ (l : List ℕ). writeAt old 0 (startContents s ++ (r ++ l))) c
               ∙ ap (writeAt old 0) (sym (start-image s (accepts s e)))
               ∙ write-front old (imageOf (initialState s))

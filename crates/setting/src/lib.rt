@@ -56,14 +56,14 @@ fn write_state(setting: Setting, cells: &[u16], out: &mut [u16]) -> Answer
     requires { ⌜ now cells ≡ startCells setting ⌝ }
     ensures { λ r. ⌜ Starts setting (now (out .entry)) (now (out .exit)) r ⌝ }
 {
-    let n = setting.snakes as usize;
-    let size = setting.size as usize;
+    let n = setting.num_snakes as usize;
+    let size = setting.initial_length as usize;
     let words = 5 + 4 * n + cells.len();
     if out.len() < words {
         return Answer::Refused(29);
     }
-    let g = side_of(setting.grid) as usize;
-    write_start(out, n, g, setting.food as usize, size, cells);
+    let g = side_of(setting.grid_size) as usize;
+    write_start(out, n, g, setting.initial_food_count as usize, size, cells);
     Answer::Done(words)
 }
 
@@ -75,6 +75,6 @@ pub fn initial_state(setting: Setting, out: &mut [u16]) -> Answer
     if number != 0 {
         return Answer::Refused(number);
     }
-    let total = setting.snakes as usize * setting.size as usize;
+    let total = setting.num_snakes as usize * setting.initial_length as usize;
     write_state(setting, &cells[0..total], out)
 }

@@ -1,9 +1,9 @@
 // The match as a value: what a move makes of it, which events its line shows, and its last line.
 use crate::Match;
-use crate::ranks::places;
+use crate::ranks::placings;
 use events::mark;
 use events::no_events;
-use letters::put_places;
+use printing::put_placings;
 use lists::word_at;
 use rules::Event;
 use rules::Limit;
@@ -13,7 +13,7 @@ ghost use lib.ListN.{length};
 ghost use Rattle.lists.specs.Choice.{_if_else_};
 ghost use Rattle.lists.specs.Below.{filled};
 ghost use Rattle.rules.specs.Events.{blank};
-ghost use Rattle.letters.specs.Text.{Wrote};
+ghost use Rattle.printing.specs.Text.{Wrote};
 ghost use Rattle.standing.specs.Shown.{markShown};
 ghost use Rattle.standing.specs.Standing.{snakesOf, counted, reached, endsBy, deathsAfter, moved, endText};
 
@@ -22,7 +22,7 @@ pub fn snakes_of(m: Match) -> usize
     ensures { λ r. ⌜ (r ≡ snakesOf m) × (r ≤ 8) ⌝ }
 {
     let s = m.setting;
-    let n = s.snakes;
+    let n = s.num_snakes;
     if 8 < n {
         return 8;
     }
@@ -53,7 +53,7 @@ pub fn ends_by(m: Match, over: bool) -> bool
     ensures { λ r. ⌜ r ≡ endsBy m over ⌝ }
 {
     let s = m.setting;
-    let ticks = s.ticks;
+    let ticks = s.max_ticks;
     !over & has_reached(ticks, count_on(m.moves))
 }
 
@@ -115,6 +115,6 @@ pub fn put_end(out: &mut [u8], m: Match) -> usize
 {
     let n = snakes_of(m);
     let deaths = m.deaths;
-    let all = places(deaths, n);
-    put_places(out, all, n)
+    let all = placings(deaths, n);
+    put_placings(out, all, n)
 }

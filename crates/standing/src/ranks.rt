@@ -3,7 +3,7 @@ use lists::more_if;
 ghost use mathlib.Core.Path.{_≡_};
 ghost use Prim.Native.Nat.{_<_, _≤_};
 ghost use Rattle.lists.specs.Below.{countBelow};
-ghost use Rattle.standing.specs.Places.{outlives, outlasts, placeOf, placesOf};
+ghost use Rattle.standing.specs.Placings.{outlives, outlasts, placingOf, placingsOf};
 
 // Whether a snake is alive, or died on a later move than d.
 fn does_outlive(d: u64, x: u64) -> bool
@@ -27,7 +27,7 @@ fn outlast_count(deaths: [u64; 8], n: usize, i: usize) -> usize
 
 fn place_of(deaths: [u64; 8], n: usize, i: usize) -> u64
     requires { ⌜ (n ≤ 8) × (i < 8) ⌝ }
-    ensures { λ r. ⌜ r ≡ placeOf n deaths i ⌝ }
+    ensures { λ r. ⌜ r ≡ placingOf n deaths i ⌝ }
 {
     if deaths[i] == 0 {
         return 1;
@@ -37,9 +37,9 @@ fn place_of(deaths: [u64; 8], n: usize, i: usize) -> u64
 }
 
 // The places of n snakes, by the moves on which they died, 0 for the living.
-pub fn places(deaths: [u64; 8], n: usize) -> [u64; 8]
+pub fn placings(deaths: [u64; 8], n: usize) -> [u64; 8]
     requires { ⌜ n ≤ 8 ⌝ }
-    ensures { λ r. ⌜ r ≡ placesOf n deaths ⌝ }
+    ensures { λ r. ⌜ r ≡ placingsOf n deaths ⌝ }
 {
     let mut out = [0u64; 8];
     let mut i = 0;

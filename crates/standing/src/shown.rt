@@ -1,8 +1,8 @@
 // An output line of the words of an image. Words past its end read as 0, so that nothing is asked of the image.
-use letters::put;
-use letters::put_body;
-use letters::put_events;
-use letters::put_head;
+use printing::put;
+use printing::put_body;
+use printing::put_events;
+use printing::put_head;
 use lists::word_at;
 use rules::Event;
 ghost use mathlib.Core.Path.{_≡_};
@@ -10,7 +10,7 @@ ghost use Prim.Native.Nat.{_+_, _*_, _<_, _≤_};
 ghost use lib.ListN.{length};
 ghost use Rattle.lists.specs.Below.{concatBelow};
 ghost use Rattle.rules.specs.Image.{word};
-ghost use Rattle.letters.specs.Text.{Wrote};
+ghost use Rattle.printing.specs.Text.{Wrote};
 ghost use Rattle.standing.specs.Shown.{snakeShown, snakeShownBy, lineShown};
 
 // The first word of the body of snake i.

@@ -10,7 +10,7 @@ use Rattle.lists.specs.Below.{someBelow, countBelow, concatBelow}
 use Rattle.lists.specs.Lists.{keep, member}
 use Rattle.lists.proofs.Below.{count-next, concat-next}
 use Rattle.lists.proofs.Lists.{member-append}
-use Rattle.writers.specs.Writers.{left}
+use Rattle.cells.specs.Writers.{left}
 use Rattle.rules.specs.Step.{eatenBy}
 use Rattle.consequences.specs.declared.after.After.{After}
 use Rattle.consequences.specs.After.{cells, eating}

@@ -1,4 +1,4 @@
-use Rattle.reader.specs.Room.{Ready}
+use Rattle.stream.specs.Room.{Ready}
 use lib.ListN.{length}
 use mathlib.Core.Path.{_≡_}
 use borrow.Author.Needs.{needs}

@@ -16,19 +16,19 @@ use Rattle.setting.proofs.write_state.Tie as tie
 mul-words : tie.Need-mul-words
 mul-words c =
     let s = c .before .before .args .setting in
-    let m : s .snakes ≤ 8 = accepts s (c .before .before .pre .0) .snakes-max in
+    let m : s .«num_snakes» ≤ 8 = accepts s (c .before .before .pre .0) .snakes-max in
     omega arith
 
 add-words : tie.Need-add-words
 add-words c =
     let s = c .before .before .args .setting in
-    let m : s .snakes ≤ 8 = accepts s (c .before .before .pre .0) .snakes-max in
+    let m : s .«num_snakes» ≤ 8 = accepts s (c .before .before .pre .0) .snakes-max in
     omega arith
 
 add-words-2 : tie.Need-add-words-2
 add-words-2 c =
     let s = c .before .before .args .setting in
-    let m : s .snakes ≤ 8 = accepts s (c .before .before .pre .0) .snakes-max in
+    let m : s .«num_snakes» ≤ 8 = accepts s (c .before .before .pre .0) .snakes-max in
     let l : length (now (c .before .before .args .cells)) ≡ length (startCells s) = ap length (c .before .before .pre .1) in
     record { fits = omega (arith, l, total-is s (c .before .before .pre .0), total-most s (c .before .before .pre .0)) }
 
@@ -44,7 +44,7 @@ write-start-requires : tie.Need-write-start-requires
 write-start-requires c κs =
     let b = c .before .before .before .before .before .before in
     let s = b .args .setting in
-    let e : toZ w32 (ofZ w32 (s .grid)) ≡ s .grid = search needs in
+    let e : toZ w32 (ofZ w32 (s .«grid_size»)) ≡ s .«grid_size» = search needs in
     fits s (b .pre .0) (now (b .args .cells)) (now (b .args .out)) (c .before .side-of .result) (b .pre .1) (c .before .side-of .ensures ∙ ap sideOf e) (c .before .before .before .if1 .left)
 
 same-length : tie.Need-same-length
@@ -54,7 +54,7 @@ returns-2 : tie.Need-returns-2
 returns-2 c =
     let b = c .before .before .before .before .before .before .before .before .before in
     let s = b .args .setting in
-    let e : toZ w32 (ofZ w32 (s .grid)) ≡ s .grid = search needs in
+    let e : toZ w32 (ofZ w32 (s .«grid_size»)) ≡ s .«grid_size» = search needs in
     let g = c .before .before .before .before .side-of in
     starts-done s (b .pre .0) (now (b .args .out)) (now (b .args .cells)) (b .pre .1) (c .before .before .write-start .last .0) (g .result) (g .ensures ∙ ap sideOf e) (c .before .before .before .before .before .before .if1 .left) (c .before .before .write-start .ensures)
 

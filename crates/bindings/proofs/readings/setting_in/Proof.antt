@@ -14,7 +14,7 @@ limit-in-requires-2 c κs = search needs
 returns : tie.Need-returns
 returns c =
     let a = c .before .before .before .args in
-    let z : toZ w32 (ofZ w32 (a .s .grid)) ≡ a .s .grid = search needs in
+    let z : toZ w32 (ofZ w32 (a .s .«grid_size»)) ≡ a .s .«grid_size» = search needs in
     rw (z, c .before .before .limit-in .ensures, c .before .limit-in2 .ensures)
 
 pub setting-in-spec : {M : Type 1} → statement M

@@ -3,7 +3,7 @@ use native.Mathlib.Omega.{arith}
 use Prim.Native.Nat.{ℕ, _-_}
 use mathlib.Core.Path.{ap, _∙_}
 use lib.ListN.{length}
-use Rattle.odds.specs.Marks.{unmarked}
+use Rattle.outcomes.specs.Marks.{unmarked}
 use Rattle.chance.proofs.Bounds.{unmarked-few}
 use borrow.Author.Needs.{needs}
 use Rattle.chance.proofs.next.draw_list.Statement.{statement}

@@ -5,7 +5,7 @@ use native.Mathlib.Omega.{arith}
 use Prim.Native.Nat.{_+_, _-_, _≤_, _<_}
 use mathlib.Core.Path.{_≡_, refl, sym, ap, _∙_}
 use lib.ListN.{length, getD, drop, length-set}
-use Rattle.odds.specs.Marks.{unmarked}
+use Rattle.outcomes.specs.Marks.{unmarked}
 use Rattle.lists.specs.Products.{falling}
 use Rattle.rules.specs.Chance.{rankIn}
 use Rattle.chance.specs.Ranking.{inTurn}

@@ -5,7 +5,7 @@ use lib.ListN.{length}
 use Rattle.lists.proofs.Boards.{board-blank}
 use Rattle.rules.specs.Image.{stateOf}
 use Rattle.rules.specs.Chance.{rankOf}
-use Rattle.odds.proofs.Marking.{count-over, count-in}
+use Rattle.outcomes.proofs.Marking.{count-over, count-in}
 use Rattle.chance.proofs.Bounds.{size-le, count-fits}
 use Rattle.chance.proofs.Horner.{wrong-length, can-rank}
 use borrow.Author.Needs.{needs}

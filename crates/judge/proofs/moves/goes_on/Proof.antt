@@ -3,7 +3,7 @@ use mathlib.Core.Path.{sym, ap, _∙_}
 use denote.Ref.{now}
 use borrow.Author.Needs.{needs}
 use Rattle.rules.specs.Image.{word, sideIn}
-use Rattle.rules.specs.Places.{ahead}
+use Rattle.rules.specs.Grid.{ahead}
 use Rattle.judge.proofs.Moving.{near-cell, goes-by}
 use Rattle.judge.proofs.moves.goes_on.Statement.{statement}
 use Rattle.judge.proofs.moves.goes_on.Tie as tie

@@ -2,7 +2,7 @@ use native.Mathlib.Omega.{arith}
 use mathlib.Core.Path.{ap, _∙_}
 use borrow.Author.Needs.{needs}
 use Rattle.rules.specs.Headings.{turned}
-use Rattle.places.proofs.Actions.{action-last}
+use Rattle.grid.proofs.Actions.{action-last}
 use Rattle.judge.proofs.moves.turned_by.Statement.{statement}
 use Rattle.judge.proofs.moves.turned_by.Tie as tie
 

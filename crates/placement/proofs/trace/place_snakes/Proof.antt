@@ -3,7 +3,7 @@ use native.Mathlib.Omega.{arith}
 use mathlib.Core.Path.{ap, _∙_}
 use denote.Ref.{now}
 use lib.IntN.{pos}
-use Rattle.rules.specs.Places.{inside}
+use Rattle.rules.specs.Grid.{inside}
 use Rattle.rules.specs.declared.Place.{Place}
 use Rattle.rules.proofs.Starts.{start-inside}
 use Rattle.placement.proofs.Laying.{Laying, laying-start, laying-room, laying-long, laying-count, laying-short, laying-on, laying-end}

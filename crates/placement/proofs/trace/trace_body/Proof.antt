@@ -1,7 +1,7 @@
 use mathlib.Core.Bool.{true}
 use lib.IntN.{pos}
 use lib.ListN.{length, length-set}
-use Rattle.rules.specs.Places.{inside}
+use Rattle.rules.specs.Grid.{inside}
 use Prim.Native.Nat.{_+_, _-_, _≤_}
 use native.Mathlib.Omega.{arith}
 use mathlib.Core.Path.{_≡_}

@@ -7,7 +7,7 @@ use mathlib.Core.Bool.{true, false}
 use lib.IntN.{pos}
 use lib.ListN.{drop, getD}
 use borrow.Author.Needs.{needs}
-use Rattle.rules.specs.Places.{ahead, inside}
+use Rattle.rules.specs.Grid.{ahead, inside}
 use Rattle.rules.specs.Placement.{tracing, unblocked}
 use Rattle.rules.specs.declared.Heading.{Heading}
 use Rattle.rules.specs.declared.Heading.the-variants.{Up}

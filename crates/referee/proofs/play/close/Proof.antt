@@ -1,4 +1,4 @@
-use Rattle.letters.proofs.Writing.{wider}
+use Rattle.printing.proofs.Writing.{wider}
 use Rattle.referee.proofs.Playing.{close-begun, close-new}
 use native.Mathlib.Omega.{arith}
 use borrow.Author.Needs.{needs}

@@ -1,7 +1,7 @@
 use Rattle.standing.specs.Standing.{snakesOf}
 use Rattle.referee.proofs.Playing.{turn-over, turn-on, refused-line}
 use lib.ListN.{length}
-use Rattle.text.specs.Lines.{readLater}
+use Rattle.parsing.specs.Lines.{readLater}
 use mathlib.Core.Path.{_≡_, ap, _∙_}
 use denote.Ref.{now}
 use Prim.Native.Nat.{ℕ}

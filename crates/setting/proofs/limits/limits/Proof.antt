@@ -48,7 +48,7 @@ returns-5 c =
     let f = c .before in
     let z = f .before .before in
     let b = z .before .before in
-    let g = b .before .before .before .args .setting .grid in
+    let g = b .before .before .before .args .setting .«grid_size» in
     let e : toZ w32 (ofZ w32 g) ≡ g = search needs in
     let h : ltZ (pos 32) g ≡ true = rw e at (c .if5 .taken) in
     simp (b .before .if1 .left, ne-eqb _ _ (b .if2 .left), sym (z .before .is-zero .ensures) ∙ z .if3 .left, ← f .before .is-set .ensures, f .if4 .left, h)
@@ -59,7 +59,7 @@ side-of-requires c κs = search needs
 crowded-requires : tie.Need-crowded-requires
 crowded-requires c κs =
     let f = c .before .before in
-    let g = f .before .before .before .before .before .before .before .args .setting .grid in
+    let g = f .before .before .before .before .before .before .before .args .setting .«grid_size» in
     let e : toZ w32 (ofZ w32 g) ≡ g = search needs in
     let h : ltZ (pos 32) g ≡ false = rw e at (c .before .if5 .left) in
     rw (c .side-of .ensures ∙ ap sideOf e) (side-small g h)
@@ -71,11 +71,11 @@ returns-6 c =
     let z = f .before .before in
     let b = z .before .before in
     let a = b .before .before .before .args in
-    let g = a .setting .grid in
+    let g = a .setting .«grid_size» in
     let e : toZ w32 (ofZ w32 g) ≡ g = search needs in
     let h : ltZ (pos 32) g ≡ false = rw e at (c .before .before .if5 .left) in
     simp (b .before .if1 .left, ne-eqb _ _ (b .if2 .left), sym (z .before .is-zero .ensures) ∙ z .if3 .left, ← f .before .is-set .ensures, f .if4 .left, h)
-    (c .crowded .ensures ∙ ap (λ (k : ℕ). crowdCheck (a .setting .snakes) k (a .setting .food)) (c .before .side-of .ensures ∙ ap sideOf e))
+    (c .crowded .ensures ∙ ap (λ (k : ℕ). crowdCheck (a .setting .«num_snakes») k (a .setting .«initial_food_count»)) (c .before .side-of .ensures ∙ ap sideOf e))
 
 pub limits-spec : {M : Type 1} → statement M
 limits-spec =

@@ -23,9 +23,9 @@ returns c =
     let b = c .before .before .before .before in
     let s = b .args .setting in
     let p = b .pre .0 in
-    let e : toZ w32 (ofZ w32 (s .grid)) ≡ s .grid = search needs in
-    let h : ltZ (s .grid) (pos 2) ≡ true = rw e at (c .before .if1 .taken) in
-    judge-small _ (s .size) 1 _ _ _ _ (small-less (s .snakes) (s .food) (p .snakes-min) (p .snakes-max) (s .grid) (s .size) (p .size-min) h) (c .beyond .ensures)
+    let e : toZ w32 (ofZ w32 (s .«grid_size»)) ≡ s .«grid_size» = search needs in
+    let h : ltZ (s .«grid_size») (pos 2) ≡ true = rw e at (c .before .if1 .taken) in
+    judge-small _ (s .«initial_length») 1 _ _ _ _ (small-less (s .«num_snakes») (s .«initial_food_count») (p .snakes-min) (p .snakes-max) (s .«grid_size») (s .«initial_length») (p .size-min) h) (c .beyond .ensures)
 
 beyond-requires-2 : tie.Need-beyond-requires-2
 beyond-requires-2 c κs = search needs
@@ -35,10 +35,10 @@ returns-2 c =
     let b = c .before .before .before .before .before in
     let s = b .args .setting in
     let p = b .pre .0 in
-    let e : toZ w32 (ofZ w32 (s .grid)) ≡ s .grid = search needs in
-    let h : ltZ (s .grid) (pos 2) ≡ false = rw e at (c .before .before .if1 .left) in
-    let k : ltZ (s .grid) (pos 3) ≡ true = rw e at (c .before .if2 .taken) in
-    judge-small _ (s .size) 3 _ _ _ _ (small-two (s .snakes) (s .food) (p .snakes-min) (p .snakes-max) (s .grid) (s .size) (p .size-min) (grid-two (s .grid) h k)) (c .beyond2 .ensures)
+    let e : toZ w32 (ofZ w32 (s .«grid_size»)) ≡ s .«grid_size» = search needs in
+    let h : ltZ (s .«grid_size») (pos 2) ≡ false = rw e at (c .before .before .if1 .left) in
+    let k : ltZ (s .«grid_size») (pos 3) ≡ true = rw e at (c .before .if2 .taken) in
+    judge-small _ (s .«initial_length») 3 _ _ _ _ (small-two (s .«num_snakes») (s .«initial_food_count») (p .snakes-min) (p .snakes-max) (s .«grid_size») (s .«initial_length») (p .size-min) (grid-two (s .«grid_size») h k)) (c .beyond2 .ensures)
 
 cast-n : tie.Need-cast-n
 cast-n c = search needs
@@ -47,27 +47,27 @@ plain-requires : tie.Need-plain-requires
 plain-requires c κs =
     let b = c .before .before .before .before .before .before in
     let s = b .args .setting in
-    let e : toZ w32 (ofZ w32 (s .grid)) ≡ s .grid = search needs in
-    let k : ltZ (s .grid) (pos 3) ≡ false = rw e at (c .before .before .if2 .left) in
-    rw e (record { positive = side-plain-three (s .grid) k; small = omega (arith, side-abs (s .grid) k, side-small (s .grid) (b .pre .0 .grid-max)) })
+    let e : toZ w32 (ofZ w32 (s .«grid_size»)) ≡ s .«grid_size» = search needs in
+    let k : ltZ (s .«grid_size») (pos 3) ≡ false = rw e at (c .before .before .if2 .left) in
+    rw e (record { positive = side-plain-three (s .«grid_size») k; small = omega (arith, side-abs (s .«grid_size») k, side-small (s .«grid_size») (b .pre .0 .grid-max)) })
 
 judge-requires : tie.Need-judge-requires
 judge-requires c κs =
     let b = c .before .before .before .before .before .before .before in
     let s = b .args .setting in
     let p = b .pre .0 in
-    let e : toZ w32 (ofZ w32 (s .grid)) ≡ s .grid = search needs in
-    let k : ltZ (s .grid) (pos 3) ≡ false = rw e at (c .before .before .before .if2 .left) in
-    let m : c .plain .result ≡ sideOf (s .grid) = c .plain .ensures ∙ ap natAbs e ∙ side-abs (s .grid) k in (
+    let e : toZ w32 (ofZ w32 (s .«grid_size»)) ≡ s .«grid_size» = search needs in
+    let k : ltZ (s .«grid_size») (pos 3) ≡ false = rw e at (c .before .before .before .if2 .left) in
+    let m : c .plain .result ≡ sideOf (s .«grid_size») = c .plain .ensures ∙ ap natAbs e ∙ side-abs (s .«grid_size») k in (
       record {
-        side-min = omega (arith, m, side-three (s .grid) k);
-        side-max = omega (arith, m, side-small (s .grid) (p .grid-max));
+        side-min = omega (arith, m, side-three (s .«grid_size») k);
+        side-max = omega (arith, m, side-small (s .«grid_size») (p .grid-max));
         snakes-min = p .snakes-min;
         snakes-max = p .snakes-max;
         size-min = p .size-min;
         room = b .pre .1;
       },
-      omega (arith, p .food-max, square-le (sideOf (s .grid)) (side-small (s .grid) (p .grid-max))),
+      omega (arith, p .food-max, square-le (sideOf (s .«grid_size»)) (side-small (s .«grid_size») (p .grid-max))),
     )
 
 same-length : tie.Need-same-length
@@ -77,10 +77,10 @@ returns-3 : tie.Need-returns-3
 returns-3 c =
     let b = c .before .before .before .before .before .before .before .before .before .before in
     let s = b .args .setting in
-    let e : toZ w32 (ofZ w32 (s .grid)) ≡ s .grid = search needs in
-    let k : ltZ (s .grid) (pos 3) ≡ false = rw e at (c .before .before .before .before .before .before .if2 .left) in
-    let m : c .before .before .before .plain .result ≡ sideOf (s .grid) = c .before .before .before .plain .ensures ∙ ap natAbs e ∙ side-abs (s .grid) k in
-    judge-side (s .grid) _ (s .snakes) (s .size) (s .food) (now (b .args .cells)) _ _ m (grid-side (s .grid) k) (c .before .before .judge .ensures)
+    let e : toZ w32 (ofZ w32 (s .«grid_size»)) ≡ s .«grid_size» = search needs in
+    let k : ltZ (s .«grid_size») (pos 3) ≡ false = rw e at (c .before .before .before .before .before .before .if2 .left) in
+    let m : c .before .before .before .plain .result ≡ sideOf (s .«grid_size») = c .before .before .before .plain .ensures ∙ ap natAbs e ∙ side-abs (s .«grid_size») k in
+    judge-side (s .«grid_size») _ (s .«num_snakes») (s .«initial_length») (s .«initial_food_count») (now (b .args .cells)) _ _ m (grid-side (s .«grid_size») k) (c .before .before .judge .ensures)
 
 pub place-check-spec : {M : Type 1} → statement M
 place-check-spec =

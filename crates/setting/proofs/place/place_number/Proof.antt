@@ -17,7 +17,7 @@ span-requires : tie.Need-span-requires
 span-requires c κs =
     let b = c .before .before in
     let s = b .args .setting in
-    let e : toZ w32 (ofZ w32 (s .grid)) ≡ s .grid = search needs in
+    let e : toZ w32 (ofZ w32 (s .«grid_size»)) ≡ s .«grid_size» = search needs in
     (apart-side s (b .pre) _ (c .side-of .ensures ∙ ap sideOf e), b .pre .snakes-max)
 
 mul-full : tie.Need-mul-full
@@ -25,30 +25,30 @@ mul-full c =
     let b = c .before .before .before .before in
     let s = b .args .setting in
     let d = c .before .before .side-of in
-    let e : toZ w32 (ofZ w32 (s .grid)) ≡ s .grid = search needs in
+    let e : toZ w32 (ofZ w32 (s .«grid_size»)) ≡ s .«grid_size» = search needs in
     record { fits = omega (arith, square-le (d .result) (apart-side s (b .pre) _ (d .ensures ∙ ap sideOf e))) }
 
 mul-full-2 : tie.Need-mul-full-2
 mul-full-2 c =
     let b = c .before .before .before .before in
     let s = b .args .setting in
-    let e : toZ w32 (ofZ w32 (s .grid)) ≡ s .grid = search needs in
+    let e : toZ w32 (ofZ w32 (s .«grid_size»)) ≡ s .«grid_size» = search needs in
     record { fits = omega (arith, apart-total s (b .pre) _ (c .before .before .side-of .ensures ∙ ap sideOf e) _ (c .before .span .ensures) (omega (arith, c .if1 .taken))) }
 
 full-requires : tie.Need-full-requires
 full-requires c κs =
     let b = c .before .before .before .before in
     let s = b .args .setting in
-    let e : toZ w32 (ofZ w32 (s .grid)) ≡ s .grid = search needs in (
+    let e : toZ w32 (ofZ w32 (s .«grid_size»)) ≡ s .«grid_size» = search needs in (
       apart-total s (b .pre) _ (c .before .before .side-of .ensures ∙ ap sideOf e) _ (c .before .span .ensures) (omega (arith, c .if1 .taken)),
-      omega (arith, b .pre .food-max, square-le (sideOf (s .grid)) (side-small (s .grid) (b .pre .grid-max))),
+      omega (arith, b .pre .food-max, square-le (sideOf (s .«grid_size»)) (side-small (s .«grid_size») (b .pre .grid-max))),
     )
 
 returns : tie.Need-returns
 returns c =
     let b = c .before .before .before .before .before in
     let s = b .args .setting in
-    let e : toZ w32 (ofZ w32 (s .grid)) ≡ s .grid = search needs in
+    let e : toZ w32 (ofZ w32 (s .«grid_size»)) ≡ s .«grid_size» = search needs in
     c .full .ensures ∙ apart-check s (b .pre) _ (c .before .before .before .side-of .ensures ∙ ap sideOf e) _ (c .before .before .span .ensures) (c .before .if1 .taken)
 
 slice-aggregate-place-check : tie.Need-slice-aggregate-place-check

@@ -15,7 +15,7 @@ has-reached-requires c κs = search needs
 returns : tie.Need-returns
 returns c =
     let a = c .before .before .before .args in
-    ap (λ (x : Bool). not (a .over) && x) (c .has-reached .ensures ∙ ap (λ (k : ℕ). reached (a .m .setting .ticks) k) (c .before .count-on .ensures))
+    ap (λ (x : Bool). not (a .over) && x) (c .has-reached .ensures ∙ ap (λ (k : ℕ). reached (a .m .setting .«max_ticks») k) (c .before .count-on .ensures))
 
 pub ends-by-spec : {M : Type 1} → statement M
 ends-by-spec = tie.close (tie.spec count-on-requires has-reached-requires returns)

@@ -1,7 +1,7 @@
 use Prim.Native.Nat.{ℕ, _-_, _≤_}
 use mathlib.Core.Path.{_≡_, sym, ap, _∙_}
 use Rattle.lists.specs.Below.{countBelow}
-use Rattle.standing.specs.Places.{outlasts}
+use Rattle.standing.specs.Placings.{outlasts}
 use Rattle.lists.proofs.Below.{count-none, count-next, count-le}
 use native.Mathlib.Omega.{arith}
 use borrow.Author.Needs.{needs}

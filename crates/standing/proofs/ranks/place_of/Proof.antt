@@ -1,7 +1,7 @@
 use native.Mathlib.Omega.{arith}
 use Prim.Native.Nat.{ℕ, _+_, _-_}
 use mathlib.Core.Path.{ap, _∙_}
-use Rattle.standing.specs.Places.{placeOf, outlasts}
+use Rattle.standing.specs.Placings.{placingOf, outlasts}
 use Rattle.lists.proofs.Below.{count-le}
 use borrow.Author.Tests.{eq-eqb, ne-eqb}
 use borrow.Author.Needs.{needs}
@@ -15,7 +15,7 @@ array-read-if1 : tie.Need-array-read-if1
 array-read-if1 c = search needs
 
 returns : tie.Need-returns
-unfolding placeOf
+unfolding placingOf
 returns c = rw (eq-eqb _ _ (c .if1 .taken))
 
 outlast-count-requires : tie.Need-outlast-count-requires
@@ -25,7 +25,7 @@ add-result : tie.Need-add-result
 add-result c = omega (arith, c .outlast-count .ensures, count-le (outlasts (c .before .before .args .t1) (c .before .before .args .i)) (c .before .before .args .n))
 
 returns-2 : tie.Need-returns-2
-unfolding placeOf
+unfolding placingOf
 returns-2 c = ap (λ (k : ℕ). 1 + k) (c .outlast-count .ensures) ∙ rw (ne-eqb _ _ (c .before .if1 .left))
 
 pub place-of-spec : {M : Type 1} → statement M

@@ -1,6 +1,6 @@
 use native.Mathlib.Omega.{arith}
 use Rattle.standing.specs.Shown.{lineShown}
-use Rattle.letters.proofs.Writing.{both}
+use Rattle.printing.proofs.Writing.{both}
 use borrow.Author.Needs.{needs}
 use Rattle.standing.proofs.shown.put_line.Statement.{statement}
 use Rattle.standing.proofs.shown.put_line.Tie as tie

@@ -3,7 +3,7 @@ use Prim.Native.Nat.{ℕ}
 use mathlib.Core.Path.{ap}
 use lib.Dec.{eqb}
 use Rattle.standing.specs.Shown.{snakeShown}
-use Rattle.letters.proofs.Writing.{both}
+use Rattle.printing.proofs.Writing.{both}
 use borrow.Author.Needs.{needs}
 use Rattle.standing.proofs.shown.put_snake.Statement.{statement}
 use Rattle.standing.proofs.shown.put_snake.Tie as tie

@@ -5,8 +5,8 @@ use native.Mathlib.Omega.{arith}
 use borrow.Author.Needs.{needs}
 use Rattle.lists.specs.Below.{concatBelow}
 use Rattle.lists.proofs.Below.{concat-none, concat-next}
-use Rattle.letters.proofs.Writing.{both, wider, nothing}
-use Rattle.letters.specs.Text.{Wrote}
+use Rattle.printing.proofs.Writing.{both, wider, nothing}
+use Rattle.printing.specs.Text.{Wrote}
 use Rattle.standing.specs.Shown.{snakeShownBy}
 use Rattle.standing.proofs.shown.put_snakes.Statement.{statement}
 use Rattle.standing.proofs.shown.put_snakes.Tie as tie

@@ -6,7 +6,7 @@ use lib.ListN.{getD}
 use mir.Syntax.{w32}
 use mir.Val.{toZ, ofZ}
 use denote.Ref.{now}
-use Rattle.rules.specs.Places.{sameZ}
+use Rattle.rules.specs.Grid.{sameZ}
 use borrow.Author.Needs.{needs}
 use Rattle.step.proofs.gate.is_other.Statement.{statement}
 use Rattle.step.proofs.gate.is_other.Tie as tie
@@ -31,8 +31,8 @@ returns c =
     let a = c .before .before .before .before .before .before .before .args in
     let z = c .before .before .signed in
     let r : toZ w32 (ofZ w32 (z .result)) ≡ z .result = search needs in
-    let g : toZ w32 (ofZ w32 (a .setting .grid)) ≡ a .setting .grid = search needs in
-    ap (λ (b : Bool). not (eqb (getD (now (a .image)) 0 0) (a .setting .snakes)) || not b) (c .equal .ensures ∙ ap₂ sameZ (r ∙ z .ensures) g)
+    let g : toZ w32 (ofZ w32 (a .setting .«grid_size»)) ≡ a .setting .«grid_size» = search needs in
+    ap (λ (b : Bool). not (eqb (getD (now (a .image)) 0 0) (a .setting .«num_snakes»)) || not b) (c .equal .ensures ∙ ap₂ sameZ (r ∙ z .ensures) g)
 
 pub is-other-spec : {M : Type 1} → statement M
 is-other-spec =

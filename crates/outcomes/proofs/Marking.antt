@@ -1,0 +1,68 @@
+-- The board shows the free cells of an image's state, and the numbers that a draw starts from. Assumes nothing.
+use mathlib.Core.Path.{_≡_, sym, ap, ap₂, _∙_}
+use mathlib.Core.Bool.{true, false}
+use mathlib.Core.List.{List}
+use Prim.Native.Nat.{ℕ, _-_, _<_, _^_, min}
+use native.Mathlib.Omega.{arith}
+use lib.Dec.{eqb, ltb}
+use lib.ListN.{length, take, drop}
+use Rattle.lists.specs.Choice.{_if_else_}
+use Rattle.lists.specs.Boards.{Under}
+use Rattle.lists.specs.Products.{falling, fitted}
+use Rattle.lists.proofs.Boards.{rest-under}
+use Rattle.lists.proofs.Lists.{rest-is}
+use Rattle.rules.proofs.Parts.{area-min}
+use Rattle.lists.proofs.Products.{falling-pos}
+use Rattle.lists.proofs.Fitted.{fitted-over, fitted-in, fitted-is}
+use Rattle.rules.specs.State.{State}
+use Rattle.rules.specs.Image.{front, snakesIn, dueIn, birthIn, areaIn, stateOf}
+use Rattle.rules.specs.Facts.{Sound}
+use Rattle.rules.specs.Chance.{free, drawSize, outcomes}
+use Rattle.rules.proofs.TakenWords.{free-words}
+use Rattle.outcomes.specs.Marks.{unmarked, Marks}
+use Rattle.outcomes.specs.Odds.{Stands}
+use Rattle.outcomes.specs.declared.odds.Odds.{Odds}
+
+pub outcomes-some : (t : State) → 0 < outcomes t
+unfolding outcomes
+outcomes-some t = falling-pos (length (free t)) (drawSize t) (omega arith)
+
+-- ---- the words past the records
+
+module _ (w : List ℕ) (s : Sound w) where
+  pub words-under : Under (areaIn w) (take (length w - front (snakesIn w)) (drop (front (snakesIn w)) w))
+  words-under k = rw (rest-is w (front (snakesIn w))) (rest-under w (areaIn w) (front (snakesIn w)) (area-min w s) (s .cells) k)
+
+  module _ (board : List ℕ) (r : Odds)
+      (m : Marks (take (length w - front (snakesIn w)) (drop (front (snakesIn w)) w)) (areaIn w) board (r .free))
+      (k : r .size ≡ min (1 if eqb (birthIn w) 1 else dueIn w) (r .free))
+      (p : r .count ≡ fitted (falling (r .free) (r .size))) where
+    shown : unmarked board (areaIn w) ≡ free (stateOf w)
+    shown = rw (rest-is w (front (snakesIn w))) at (m .shows) ∙ free-words w s
+
+    left : r .free ≡ length (free (stateOf w))
+    left = m .left ∙ ap length shown
+
+    taken : r .size ≡ drawSize (stateOf w)
+    unfolding stateOf
+    taken = k ∙ ap (min (1 if eqb (birthIn w) 1 else dueIn w)) left
+
+    counted : r .count ≡ fitted (outcomes (stateOf w))
+    unfolding outcomes
+    counted = p ∙ ap₂ (λ (n j : ℕ). fitted (falling n j)) left taken
+
+    pub stands : Stands w board r
+    stands = record { size = m .size; shows = shown; free-is = left; size-is = taken; count-is = counted }
+
+-- ---- a count that fits
+
+module _ (w board : List ℕ) (r : Odds) (o : Stands w board r) where
+  pub count-over : r .count ≡ 0 → ltb (2 ^ 64 - 1) (outcomes (stateOf w)) ≡ true
+  count-over e = fitted-over (outcomes (stateOf w)) (outcomes-some (stateOf w)) (sym (o .count-is) ∙ e)
+
+  module _ (n : r .count ≡ 0 → ⊥) where
+    pub count-in : ltb (2 ^ 64 - 1) (outcomes (stateOf w)) ≡ false
+    count-in = fitted-in (outcomes (stateOf w)) (λ e. n (o .count-is ∙ e))
+
+    pub count-eq : r .count ≡ outcomes (stateOf w)
+    count-eq = o .count-is ∙ fitted-is (outcomes (stateOf w)) count-in

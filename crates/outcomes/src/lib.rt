@@ -1,0 +1,11 @@
+// What a draw starts from: the free cells on a board, how many outcomes it has, and the digits of an index.
+mod board;
+mod index;
+mod odds;
+
+pub use board::free_below;
+pub use board::pick_cells;
+pub use index::split;
+pub use outcomes::Odds;
+pub use outcomes::count_due;
+pub use outcomes::odds_of;
