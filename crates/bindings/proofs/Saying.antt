@@ -8,7 +8,7 @@ use borrow.Author.Tests.{lt-ltb, le-ltb}
 use lib.ListN.{length, getD}
 use Rattle.lists.specs.Choice.{_if_else_}
 use Rattle.lists.specs.Lists.{overFront}
-use Rattle.lists.specs.Tables.{Table}
+use Rattle.rules.specs.Tables.{Table}
 use Rattle.rules.specs.State.{State}
 use Rattle.rules.specs.Events.{eight}
 use Rattle.rules.specs.Image.{imageOf, stateOf}

@@ -11,9 +11,9 @@ use lib.Ieee.{Float}
 use lib.ListN.{getD}
 use Rattle.lists.specs.Choice.{_if_else_}
 use Rattle.lists.specs.Lists.{every, all}
-use Rattle.lists.specs.Tables.{Table}
+use Rattle.rules.specs.Tables.{Table}
 use Rattle.lists.proofs.Tests.{and-left, and-right, every-at}
-use Rattle.lists.proofs.Tables.{numbered}
+use Rattle.rules.proofs.Tables.{numbered}
 use Rattle.rules.specs.State.{snakeOf}
 use Rattle.rules.specs.Image.{stateOf}
 use Rattle.rules.specs.Step.{Transition, stepped}

@@ -20,7 +20,10 @@ pub fn event_number(e: Event) -> u16
     ensures { λ r. ⌜ r ≡ eventNumber e ⌝ }
 {
     let cause = e.death_cause;
-    let low = marked(e.ate_food, 1) + marked(e.died, 2) + marked(e.killed_opponent, 4) + marked(e.won, 8);
+    let low = marked(e.ate_food, 1)
+        + marked(e.died, 2)
+        + marked(e.killed_opponent, 4)
+        + marked(e.won, 8);
     let high = marked(e.lost, 16) + marked(e.drew, 32) + marked(e.survived_to_max_ticks, 64);
     low + high + 256 * cause_number(cause)
 }

@@ -3,25 +3,25 @@ mod parts;
 mod table;
 mod words;
 
+pub use cells::count_left;
+pub use cells::put_all;
+pub use cells::write_body;
+pub use cells::write_left;
 pub use lists::Found;
 pub use parts::body;
 pub use parts::find_in;
 pub use parts::food_of;
 pub use parts::holds_in;
 use rules::Heading;
-pub use wellformed::stamps_once;
-pub use wellformed::well_formed;
 pub use table::record_at;
 pub use table::records;
+pub use wellformed::stamps_once;
+pub use wellformed::well_formed;
 pub use words::flag;
 pub use words::heading_of;
 pub use words::number_of;
 pub use words::write_contents;
 pub use words::write_record;
-pub use cells::count_left;
-pub use cells::put_all;
-pub use cells::write_body;
-pub use cells::write_left;
 
 // A snake's four words, read.
 pub struct SnakeRecord {

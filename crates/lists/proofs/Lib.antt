@@ -24,4 +24,3 @@ pub mod Runs
 pub mod Distinct
 pub mod Insert
 pub mod Repeats
-pub mod Tables

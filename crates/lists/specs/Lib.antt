@@ -6,4 +6,3 @@ pub mod Search
 pub mod Equal
 pub mod Boards
 pub mod Written
-pub mod Tables

@@ -1,8 +1,8 @@
 // The parts of calls, read from a line's fields: numbers, words and events.
 use events::cause_in;
-use rules::Event;
 use parsing::Num;
 use parsing::next_number;
+use rules::Event;
 
 // Where a part is none, as the words of a call that has none.
 pub const NOWHERE: usize = 18446744073709551615;

@@ -4,12 +4,12 @@ use crate::writing::letter_line;
 use crate::writing::put;
 use crate::writing::put_number;
 use crate::writing::refuse;
+use grid::action_of;
 use image::heading_of;
 use image::number_of;
-use grid::action_of;
-use rules::Space;
 use parsing::Grid;
 use parsing::grid_in;
+use rules::Space;
 
 fn put_space(text: &mut [u8], at: usize, space: Space) -> usize {
     match space {

@@ -13,13 +13,13 @@ use crate::writing::put_number;
 use crate::writing::put_words;
 use crate::writing::refuse;
 use image::flag;
+use parsing::First;
+use parsing::read_first;
+use parsing::start_of;
 use rules::Answer;
 use rules::Setting;
 use rules::Stepped;
 use rules::Verdict;
-use parsing::First;
-use parsing::read_first;
-use parsing::start_of;
 
 // `v S`
 pub fn validate_line(s: &[u8], text: &mut [u8], at: usize) -> usize {

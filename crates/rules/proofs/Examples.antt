@@ -13,7 +13,7 @@ use Rattle.rules.specs.View.{plane, viewOf, view}
 use Rattle.rules.specs.LengthKey.{sorted, folded, lengthKey}
 use Rattle.rules.specs.Reward.{rewardOf}
 use Rattle.rules.specs.Examples.{EachHolds, numbersOf, planesOf, theTwelve, theOthers}
-use Rattle.lists.specs.Tables.{fault}
+use Rattle.rules.specs.Tables.{fault}
 
 pub examples-hold : EachHolds theTwelve
 unfolding allBelow someBelow countBelow eachBelow concatBelow lowestFrom any keep member insert without place falling unblocked trail placed badCell settingCheck causeOf transitionOf stepped freeFrom free outcomes digits pick drawnFrom drawn rankIn rankOf sorted folded lengthKey theTwelve fault

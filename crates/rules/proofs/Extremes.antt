@@ -11,7 +11,7 @@ use Rattle.rules.specs.Setting.{badCell, settingCheck}
 use Rattle.rules.specs.declared.Setting.{Setting}
 use Rattle.rules.specs.declared.Limit.{Limit}
 use Rattle.rules.specs.declared.Limit.the-variants.{Unset, Is}
-use Rattle.lists.specs.Tables.{fault}
+use Rattle.rules.specs.Tables.{fault}
 
 -- snakes, grid, length, lead, food
 abbrev asked : ℕ → ℤ → ℕ → Limit → ℕ → Setting

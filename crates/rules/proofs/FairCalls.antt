@@ -14,7 +14,7 @@ use Rattle.lists.specs.Equal.{sameList}
 use Rattle.lists.specs.Products.{falling, factorial}
 use Rattle.lists.proofs.Below.{count-ext}
 use Rattle.lists.proofs.Insert.{over-take}
-use Rattle.lists.proofs.Tables.{row-out}
+use Rattle.rules.proofs.Tables.{row-out}
 use Rattle.rules.specs.State.{State}
 use Rattle.rules.specs.Image.{dueIn, imageOf, stateOf, wellFormed}
 use Rattle.rules.specs.Chance.{free, drawSize, outcomes, drawn, withFood, afterDraw, rankOf, canRank}

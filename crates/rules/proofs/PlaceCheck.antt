@@ -26,7 +26,7 @@ use Rattle.rules.proofs.Grid.{cell-below}
 use Rattle.rules.proofs.Placement.{traced-short, traced-inside, traced-reach}
 use Rattle.rules.proofs.Starts.{start-inside}
 use Rattle.rules.proofs.Taken.{bad-repeats}
-use Rattle.lists.specs.Tables.{fault}
+use Rattle.rules.specs.Tables.{fault}
 
 -- the cells of places inside are below the area
 cells-below : (g : ℕ) (ps : List Place) → 1 ≤ g → all (inside (pos g)) ps ≡ true → (j : ℕ) → getD (map (cellOf g) ps) j 0 < g * g

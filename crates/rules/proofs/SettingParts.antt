@@ -8,8 +8,8 @@ use lib.ListN.{getD}
 use borrow.Author.Tests.{ltb-false, eqb-false}
 use Rattle.lists.specs.Choice.{firstOf}
 use Rattle.lists.specs.Lists.{all}
-use Rattle.lists.specs.Tables.{noneHold}
-use Rattle.lists.proofs.Tables.{fault-both, fault-none, row-out}
+use Rattle.rules.specs.Tables.{by, noneHold}
+use Rattle.rules.proofs.Tables.{fault-both, fault-none, row-out}
 use Rattle.lists.proofs.Tests.{or-false-left, or-false-right, first-none, first-then}
 use Rattle.rules.specs.Setting.{isSet, isZero, sideOf, areaOf, worst, limitsOrder, placesOrder, settingCheck}
 use Rattle.rules.specs.SettingParts.{limitsCheck, Limited, placeCheck}
@@ -33,7 +33,7 @@ module _ (s : Setting) (e : limitsCheck s ≡ 0) where
   none = fault-none (limitsOrder s) refl e
 
   -- the test of number k + 1 does not hold
-  out : (k : ℕ) → getD (limitsOrder s) k (0, false) .1 ≡ false
+  out : (k : ℕ) → getD (limitsOrder s) k (by 0, false) .1 ≡ false
   out k = row-out (limitsOrder s) k none
 
   pub limited : Limited s
@@ -56,3 +56,7 @@ module _ (s : Setting) (e : limitsCheck s ≡ 0) where
 
   pub worst-most : worst (s .«num_snakes») (sideOf (s .«grid_size»)) (s .«initial_food_count») ≤ 2 ^ 53
   worst-most = ltb-false (2 ^ 53) (worst (s .«num_snakes») (sideOf (s .«grid_size»)) (s .«initial_food_count»)) (out 7)
+
+-- the first half found nothing
+pub limited-by : (s : Setting) (k : ℕ) → k ≡ limitsCheck s → k ≡ 0 → Limited s
+limited-by s k e z = limited s (sym e ∙ z)

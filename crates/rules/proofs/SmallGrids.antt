@@ -20,7 +20,7 @@ use Rattle.rules.specs.SettingParts.{placeCheck}
 use Rattle.rules.specs.declared.Place.{Place}
 use Rattle.rules.specs.declared.Heading.{Heading}
 use Rattle.rules.proofs.Placement.{none-left, shut-first, trail-shut}
-use Rattle.lists.specs.Tables.{fault}
+use Rattle.rules.specs.Tables.{fault}
 
 -- 9 by a body that is short
 short-nine : (g : ℤ) (n k f i : ℕ) → i < n → length (placed g n k i) < k → placeCheck g n k f ≡ 9

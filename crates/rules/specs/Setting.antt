@@ -9,7 +9,7 @@ use lib.Signed.{ltZ}
 use Rattle.lists.specs.Below.{someBelow, eachBelow, concatBelow}
 use Rattle.lists.specs.Lists.{any}
 use Rattle.lists.specs.Products.{falling}
-use Rattle.lists.specs.Tables.{Table, fault}
+use Rattle.rules.specs.Tables.{Table, by, fault}
 use Rattle.rules.specs.Grid.{inside, same, cellOf}
 use Rattle.rules.specs.Placement.{placed, startHeading}
 use Rattle.rules.specs.State.{Snake, State}
@@ -54,25 +54,25 @@ badCell g before (p ∷ ps) = let r = badCell g (p ∷ before) ps in cond (insid
 
 -- 6 'food above g² (0 when g < 0)', 7 'food above 10,000', 8 'product .. above 2^53': f food for n snakes on side g
 abbrev pub crowdOrder : ℕ → ℕ → ℕ → Table
-crowdOrder n g f = (6, ltb (g * g) f) ∷ (7, ltb 10000 f) ∷ (8, ltb (2 ^ 53) (worst n g f)) ∷ []
+crowdOrder n g f = (by 6, ltb (g * g) f) ∷ (by 7, ltb 10000 f) ∷ (by 8, ltb (2 ^ 53) (worst n g f)) ∷ []
 
 -- 1 'snakes not 2..8', 2 'initial length 0', 3 'food lead 0', 4 'food lead set, snakes not 2', 5 'grid above 32', and 6 to 8: the numbers of a setting
 abbrev pub limitsOrder : Setting → Table
 limitsOrder s =
-    (1, ltb (s .«num_snakes») 2 || ltb 8 (s .«num_snakes»))
-    ∷ (2, eqb (s .«initial_length») 0)
-    ∷ (3, isZero (s .«win_food_lead»))
-    ∷ (4, isSet (s .«win_food_lead») && not (eqb (s .«num_snakes») 2))
-    ∷ (5, ltZ (pos 32) (s .«grid_size»))
+    (by 1, ltb (s .«num_snakes») 2 || ltb 8 (s .«num_snakes»))
+    ∷ (by 2, eqb (s .«initial_length») 0)
+    ∷ (by 3, isZero (s .«win_food_lead»))
+    ∷ (by 4, isSet (s .«win_food_lead») && not (eqb (s .«num_snakes») 2))
+    ∷ (by 5, ltZ (pos 32) (s .«grid_size»))
     ∷ crowdOrder (s .«num_snakes») (sideOf (s .«grid_size»)) (s .«initial_food_count»)
 
 -- 9 'some body cannot be traced to its length', 10 / 11 'first bad cell', 12 'food above the free cells': the places of n bodies of k, for f food
 abbrev pub placesOrder : ℤ → ℕ → ℕ → ℕ → Table
 placesOrder g n k f =
-    (9, someShort g n k)
-    ∷ (10, eqb (badCell g [] (allPlaced g n k)) 10)
-    ∷ (11, eqb (badCell g [] (allPlaced g n k)) 11)
-    ∷ (12, ltb (sideOf g * sideOf g - length (allPlaced g n k)) f)
+    (by 9, someShort g n k)
+    ∷ (by 10, eqb (badCell g [] (allPlaced g n k)) 10)
+    ∷ (by 11, eqb (badCell g [] (allPlaced g n k)) 11)
+    ∷ (by 12, ltb (sideOf g * sideOf g - length (allPlaced g n k)) f)
     ∷ []
 
 -- 'Setting: 1 to 12 as listed'

@@ -8,7 +8,7 @@ use lib.IntN.{ℤ, pos}
 use lib.Signed.{ltZ}
 use Rattle.lists.specs.Choice.{bit}
 use Rattle.lists.specs.Below.{concatBelow}
-use Rattle.lists.specs.Tables.{fault}
+use Rattle.rules.specs.Tables.{fault}
 use Rattle.rules.specs.Grid.{cellOf}
 use Rattle.rules.specs.Headings.{numberOf}
 use Rattle.rules.specs.Image.{front}

@@ -69,17 +69,22 @@ pub struct Weights {
     pub survival: f64,
 }
 
-// ---- answers; Refused always holds the paper's number
+// ---- answers
+
+// Why a call refuses: the paper's number.
+pub struct Refusal {
+    pub number: u8,
+}
 
 pub enum Verdict {
     Accepted,
-    Refused(u8),
+    Refused(Refusal),
 }
 
 // How many words or numbers were written.
 pub enum Answer {
     Done(usize),
-    Refused(u8),
+    Refused(Refusal),
 }
 
 // A step's answer; on a refusal the match is not over and every event is blank.
@@ -98,36 +103,36 @@ pub struct Drawn {
 // A count of outcomes, or an index.
 pub enum Number {
     Value(u64),
-    Refused(u8),
+    Refused(Refusal),
 }
 
 pub enum LengthCell {
     Key(u64),
     NoKey,
-    Refused(u8),
+    Refused(Refusal),
 }
 
 pub enum Actor {
     Chance,
     Simultaneous,
-    Refused(u8),
+    Refused(Refusal),
 }
 
 // Actions 0, 1 and 2, or none.
 pub enum Legal {
     AnyAction,
     NoAction,
-    Refused(u8),
+    Refused(Refusal),
 }
 
 pub enum Truncated {
     Marked(Event),
-    Refused(u8),
+    Refused(Refusal),
 }
 
 pub enum Reward {
     Sum(f64),
-    Refused(u8),
+    Refused(Refusal),
 }
 
 pub enum Space {
@@ -139,5 +144,5 @@ pub enum Space {
         high: f32,
     },
     Discrete(usize),
-    Refused(u8),
+    Refused(Refusal),
 }

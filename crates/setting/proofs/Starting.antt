@@ -19,29 +19,32 @@ use Rattle.rules.specs.Image.{imageOf}
 use Rattle.rules.specs.Calls.{initialSays}
 use Rattle.rules.specs.Promises.{Starts}
 use Rattle.rules.specs.Says.{refuses, gives, first, seen, lent, says}
+use Rattle.rules.specs.Tables.{by}
 use Rattle.rules.specs.Setting.{sideOf, settingCheck, initialState}
 use Rattle.rules.specs.SettingParts.{cellsOf, startCells, startRecord, startContents}
 use Rattle.rules.specs.declared.Answer.{Answer}
 use Rattle.rules.specs.declared.Answer.the-variants.{Done, Refused}
 use Rattle.rules.specs.declared.Setting.{Setting}
+use Rattle.rules.specs.declared.Refusal.{Refusal}
 use Rattle.rules.proofs.Tables.{startFor, initial-says, first-refuses}
 use Rattle.rules.proofs.Facts.{square-le}
 use Rattle.rules.proofs.InitialFacts.{cells-long, start-image}
 use Rattle.rules.proofs.SettingFacts.{accepts}
 use Rattle.setting.specs.Starts.{Room}
+use Rattle.setting.specs.Tested.{Tested}
 
 module _ (s : Setting) (old : List ℕ) where
-  refused : (new : List ℕ) (r : Answer) (k : ℕ) → initialSays s (length old) ≡ refuses k → new ≡ old → r ≡ Refused k → Starts s old new r
+  refused : (new : List ℕ) (r : Answer) (k : ℕ) → initialSays s (length old) ≡ refuses (by k) → new ≡ old → r ≡ Refused (by k) → Starts s old new r
   refused new r k e n q =
       record {
         answer = ap says q ∙ sym (ap (seen (λ t. length (imageOf t))) e);
         words = n ∙ sym (ap (lent imageOf old) e);
       }
 
-  pub starts-refused : (k : ℕ) → k ≡ settingCheck s → (k ≡ 0 → ⊥) → Starts s old old (Refused k)
-  starts-refused k e h =
+  pub starts-refused : (k : ℕ) (cells kept left : List ℕ) → Tested (settingCheck s) cells kept left k → (k ≡ 0 → ⊥) → (x : Refusal) → x ≡ by k → Starts s old old (Refused x)
+  starts-refused k cells kept left t h x q =
       let r = startFor s (length old) in
-      refused old (Refused k) k (initial-says s (length old) ∙ ap (λ (j : ℕ). first j r) (sym e) ∙ first-refuses k r h) refl refl
+      refused old (Refused x) k (initial-says s (length old) ∙ ap (λ (j : ℕ). first j r) (sym (t .says)) ∙ first-refuses k r h) refl (ap Refused q)
 
 module _ (s : Setting) (e : settingCheck s ≡ 0) where
   pub total-is : length (startCells s) ≡ s .«num_snakes» * s .«initial_length»
@@ -84,11 +87,11 @@ module _ (s : Setting) (e : settingCheck s ≡ 0) where
     count-is : 5 + 4 * s .«num_snakes» + length cells ≡ length (imageOf (initialState s))
     count-is = ap (λ (l : List ℕ). 5 + 4 * s .«num_snakes» + length l) c ∙ sym image-long
 
-    pub starts-short : length old < 5 + 4 * s .«num_snakes» + length cells → Starts s old old (Refused 29)
-    starts-short h =
-        refused s old old (Refused 29) 29
+    pub starts-short : length old < 5 + 4 * s .«num_snakes» + length cells → (x : Refusal) → x ≡ by 29 → Starts s old old (Refused x)
+    starts-short h x q =
+        refused s old old (Refused x) 29
         (rw (initial-says s (length old), e, lt-ltb (length old) (length (imageOf (initialState s))) (omega (arith, count-is))))
-        refl refl
+        refl (ap Refused q)
 
     given : 5 + 4 * s .«num_snakes» + length cells ≤ length old → initialSays s (length old) ≡ gives (initialState s)
     given h = rw (initial-says s (length old), e, le-ltb (length old) (length (imageOf (initialState s))) (omega (arith, count-is)))

@@ -1,9 +1,9 @@
 // An output line of the words of an image. Words past its end read as 0, so that nothing is asked of the image.
+use lists::word_at;
 use printing::put;
 use printing::put_body;
 use printing::put_events;
 use printing::put_head;
-use lists::word_at;
 use rules::Event;
 ghost use mathlib.Core.Path.{_≡_};
 ghost use Prim.Native.Nat.{_+_, _*_, _<_, _≤_};

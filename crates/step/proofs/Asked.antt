@@ -10,9 +10,9 @@ use borrow.Author.Tests.{eqb-true, not-false}
 use Rattle.lists.specs.Choice.{firstOf}
 use Rattle.lists.specs.Below.{someBelow}
 use Rattle.lists.specs.Lists.{all}
-use Rattle.lists.specs.Tables.{Table, fault}
+use Rattle.rules.specs.Tables.{Table, fault}
 use Rattle.lists.proofs.Below.{some-ext}
-use Rattle.lists.proofs.Tables.{fault-both, fault-none, row-out}
+use Rattle.rules.proofs.Tables.{fault-both, fault-none, row-out}
 use Rattle.lists.proofs.Tests.{first-some, first-then}
 use Rattle.rules.specs.Setting.{settingOrder, settingCheck}
 use Rattle.rules.specs.State.{Snake, snakeOf}

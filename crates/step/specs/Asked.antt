@@ -4,7 +4,7 @@ use mathlib.Core.Path.{_≡_}
 use mathlib.Core.Bool.{false}
 use mathlib.Core.List.{List}
 use lib.ListN.{replicate}
-use Rattle.lists.specs.Tables.{fault}
+use Rattle.rules.specs.Tables.{fault}
 use Rattle.rules.specs.Events.{blank}
 use Rattle.rules.specs.Orders.{askedRows, askedOrder}
 use Rattle.rules.specs.declared.Setting.{Setting}

@@ -31,7 +31,8 @@ fn is_other(setting: Setting, image: &[u16]) -> bool
     requires { ⌜ Sound (now image) ⌝ }
     ensures { λ r. ⌜ r ≡ differs setting (now (image .entry)) ⌝ }
 {
-    (image[0] as u64 != setting.num_snakes) | !grid::equal(grid::signed(image[1]), setting.grid_size)
+    (image[0] as u64 != setting.num_snakes)
+        | !grid::equal(grid::signed(image[1]), setting.grid_size)
 }
 
 // 25: a living snake's action above 2.

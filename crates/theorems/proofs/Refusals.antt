@@ -10,7 +10,7 @@ use lib.Ieee.{Float}
 use lib.ListN.{length, drop}
 use lib.Seq.{drop-append-seam}
 use Rattle.lists.specs.Lists.{overFront}
-use Rattle.lists.specs.Tables.{Table, FirstRow}
+use Rattle.rules.specs.Tables.{Table, FirstRow}
 use Rattle.rules.specs.State.{snakeOf}
 use Rattle.rules.specs.Image.{imageOf, stateOf}
 use Rattle.rules.specs.Setting.{sideOf, settingOrder, initialState}

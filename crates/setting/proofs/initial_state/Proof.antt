@@ -14,9 +14,7 @@ check-requires : tie.Need-check-requires
 check-requires c κs = search needs
 
 returns : tie.Need-returns
-returns c =
-    let b = c .before .before .before .before .before in
-    starts-refused (b .args .setting) (now (b .args .out)) _ (c .before .before .check .ensures .says) (c .if1 .taken)
+returns c = search starts-refused
 
 mul-total : tie.Need-mul-total
 mul-total c =
@@ -57,6 +55,7 @@ initial-state-spec =
     (tie.spec
     slice-aggregate-check
     check-requires
+    (λ c κs. search needs)
     returns
     mul-total
     sub-write-state

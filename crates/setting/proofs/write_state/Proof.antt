@@ -34,8 +34,9 @@ add-words-2 c =
 
 returns : tie.Need-returns
 returns c =
-    let b = c .before .before .before in
-    starts-short (b .args .setting) (b .pre .0) (now (b .args .out)) (now (b .args .cells)) (b .pre .1) (c .if1 .taken)
+    let b : tie.Start = search in
+    let t : tie.Then1 = search in
+    starts-short (b .args .setting) (b .pre .0) (now (b .args .out)) (now (b .args .cells)) (b .pre .1) (t .if1 .taken) _ (c .by .ensures)
 
 side-of-requires : tie.Need-side-of-requires
 side-of-requires c κs = search needs
@@ -65,6 +66,7 @@ write-state-spec =
     mul-words
     add-words
     add-words-2
+    (λ c κs. search needs)
     returns
     side-of-requires
     write-start-requires

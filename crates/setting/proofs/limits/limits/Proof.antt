@@ -7,7 +7,7 @@ use mir.Syntax.{w32}
 use mir.Val.{toZ, ofZ}
 use borrow.Author.Tests.{eq-eqb, ne-eqb}
 use borrow.Author.Needs.{needs}
-use Rattle.lists.specs.Tables.{fault}
+use Rattle.rules.specs.Tables.{fault}
 use Rattle.rules.specs.Setting.{sideOf}
 use Rattle.rules.specs.SettingParts.{limitsCheck}
 use Rattle.rules.proofs.Starts.{side-small}
