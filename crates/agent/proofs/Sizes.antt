@@ -7,15 +7,16 @@ use lib.IntN.{ℤ, pos, negsuc, natAbs}
 use lib.Signed.{ltZ, nonNeg}
 use borrow.Author.Tests.{ltb-false}
 use Rattle.rules.specs.View.{lit}
+use Rattle.rules.specs.Tables.{by}
 use Rattle.rules.specs.Says.{refuses, gives, box, byTable}
 use Rattle.rules.specs.Calls.{spaceSays}
 
 module _ (g : ℤ) where
-  pub space-high : ltZ (pos 32) g ≡ true → refuses 5 ≡ spaceSays g
+  pub space-high : ltZ (pos 32) g ≡ true → refuses (by 5) ≡ spaceSays g
   unfolding spaceSays byTable
   space-high h = rw h
 
-  pub space-low : ltZ (pos 32) g ≡ false → ltZ g (pos 1) ≡ true → refuses 5 ≡ spaceSays g
+  pub space-low : ltZ (pos 32) g ≡ false → ltZ g (pos 1) ≡ true → refuses (by 5) ≡ spaceSays g
   unfolding spaceSays byTable
   space-low h l = rw (h, l)
 

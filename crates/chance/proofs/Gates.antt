@@ -11,6 +11,7 @@ use Rattle.rules.specs.Image.{dueIn, stateOf, wellFormed}
 use Rattle.rules.specs.Chance.{outcomes, rankOf, canRank}
 use Rattle.rules.specs.Calls.{countSays, drawSays, rankSays}
 use Rattle.rules.specs.Promises.{Draws, Checks}
+use Rattle.rules.specs.Tables.{by}
 use Rattle.rules.specs.Says.{refuses, gives, byTable}
 use Rattle.rules.specs.declared.Drawn.{Drawn}
 use Rattle.chance.specs.Answers.{dueSays, Answers, Refuses}
@@ -24,37 +25,37 @@ module _ (w : List ℕ) (b : Bool) (e : Checks w b) where
   good t = sym (e .answer) ∙ not-false b t
 
 module _ (w : List ℕ) where
-  pub count-bad : wellFormed w ≡ false → refuses 20 ≡ countSays w
+  pub count-bad : wellFormed w ≡ false → refuses (by 20) ≡ countSays w
   unfolding countSays byTable
   count-bad e = rw e
 
-  pub rank-bad : (l : List ℕ) → wellFormed w ≡ false → refuses 20 ≡ rankSays w l
+  pub rank-bad : (l : List ℕ) → wellFormed w ≡ false → refuses (by 20) ≡ rankSays w l
   unfolding rankSays byTable
   rank-bad l e = rw e
 
-  draw-bad : (i room more : ℕ) → wellFormed w ≡ false → drawSays w i room more ≡ refuses 20
+  draw-bad : (i room more : ℕ) → wellFormed w ≡ false → drawSays w i room more ≡ refuses (by 20)
   unfolding drawSays byTable
   draw-bad i room more e = rw e
 
   module _ (e : wellFormed w ≡ true) where
-    pub count-none : dueIn w ≡ 0 → refuses 23 ≡ countSays w
+    pub count-none : dueIn w ≡ 0 → refuses (by 23) ≡ countSays w
     unfolding countSays byTable
     count-none z = rw (e, eq-eqb (dueIn w) 0 z)
 
-    pub rank-none : (l : List ℕ) → dueIn w ≡ 0 → refuses 23 ≡ rankSays w l
+    pub rank-none : (l : List ℕ) → dueIn w ≡ 0 → refuses (by 23) ≡ rankSays w l
     unfolding rankSays byTable
     rank-none l z = rw (e, eq-eqb (dueIn w) 0 z)
 
-    draw-none : (i room more : ℕ) → dueIn w ≡ 0 → drawSays w i room more ≡ refuses 23
+    draw-none : (i room more : ℕ) → dueIn w ≡ 0 → drawSays w i room more ≡ refuses (by 23)
     unfolding drawSays byTable
     draw-none i room more z = rw (e, eq-eqb (dueIn w) 0 z)
 
     module _ (n : dueIn w ≡ 0 → ⊥) where
-      pub count-some : (refuses 28 if ltb (2 ^ 64 - 1) (outcomes (stateOf w)) else gives (outcomes (stateOf w))) ≡ countSays w
+      pub count-some : (refuses (by 28) if ltb (2 ^ 64 - 1) (outcomes (stateOf w)) else gives (outcomes (stateOf w))) ≡ countSays w
       unfolding countSays byTable
       count-some = rw (e, ne-eqb (dueIn w) 0 n)
 
-      pub rank-some : (l : List ℕ) → (refuses 28 if ltb (2 ^ 64 - 1) (outcomes (stateOf w)) else (refuses 30 if not (canRank (stateOf w) l) else gives (rankOf (stateOf w) l))) ≡ rankSays w l
+      pub rank-some : (l : List ℕ) → (refuses (by 28) if ltb (2 ^ 64 - 1) (outcomes (stateOf w)) else (refuses (by 30) if not (canRank (stateOf w) l) else gives (rankOf (stateOf w) l))) ≡ rankSays w l
       unfolding rankSays byTable
       rank-some l = rw (e, ne-eqb (dueIn w) 0 n)
 

@@ -11,6 +11,7 @@ use Rattle.rules.specs.Image.{imageOf, stateOf}
 use Rattle.rules.specs.Facts.{Sound}
 use Rattle.rules.specs.Chance.{outcomes, drawn, afterDraw}
 use Rattle.rules.specs.Calls.{Draw}
+use Rattle.rules.specs.Tables.{by}
 use Rattle.rules.specs.Says.{Says, refuses, gives}
 use Rattle.rules.specs.declared.Drawn.{Drawn}
 use Rattle.rules.proofs.FreeCells.{free-short}
@@ -44,12 +45,12 @@ module _ (w board : List ℕ) (r : Odds) (s : Sound w) (o : Stands w board r) (i
       let d = o .free-is in
       omega arith
 
-  pub says-over : r .count ≡ 0 → dueSays w i room listRoom ≡ refuses 28
+  pub says-over : r .count ≡ 0 → dueSays w i room listRoom ≡ refuses (by 28)
   unfolding dueSays
   says-over e = rw (count-over w board r o e)
 
   module _ (n : r .count ≡ 0 → ⊥) where
-    pub says-past : r .count ≤ i → dueSays w i room listRoom ≡ refuses 27
+    pub says-past : r .count ≤ i → dueSays w i room listRoom ≡ refuses (by 27)
     unfolding dueSays
     says-past h = rw (count-in w board r o n, le-ltb i (outcomes (stateOf w)) (let e = count-eq w board r o n in omega arith))
 
@@ -60,7 +61,7 @@ module _ (w board : List ℕ) (r : Odds) (s : Sound w) (o : Stands w board r) (i
       long : length (imageOf (afterDraw (stateOf w) i)) ≡ length w + r .size
       long = next-long w s i below-count ∙ ap (λ (k : ℕ). length w + k) (sym (o .size-is))
 
-      pub says-short : room < length w + r .size → dueSays w i room listRoom ≡ refuses 29
+      pub says-short : room < length w + r .size → dueSays w i room listRoom ≡ refuses (by 29)
       unfolding dueSays
       says-short l =
           rw (count-in w board r o n, lt-ltb i (outcomes (stateOf w)) below-count, lt-ltb room (length (imageOf (afterDraw (stateOf w) i))) (let e = long in omega arith))
@@ -69,7 +70,7 @@ module _ (w board : List ℕ) (r : Odds) (s : Sound w) (o : Stands w board r) (i
         fits : ltb room (length (imageOf (afterDraw (stateOf w) i))) ≡ false
         fits = le-ltb room (length (imageOf (afterDraw (stateOf w) i))) (let e = long in omega arith)
 
-        pub says-list : listRoom < r .size → dueSays w i room listRoom ≡ refuses 29
+        pub says-list : listRoom < r .size → dueSays w i room listRoom ≡ refuses (by 29)
         unfolding dueSays
         says-list l =
             rw (count-in w board r o n, lt-ltb i (outcomes (stateOf w)) below-count, fits, lt-ltb listRoom (length (drawn (stateOf w) i)) (let e = cells-long w board r s o i below-count in omega arith))

@@ -9,6 +9,7 @@ use Rattle.lists.specs.Choice.{_if_else_}
 use Rattle.rules.specs.Image.{imageOf, stateOf}
 use Rattle.rules.specs.Chance.{outcomes, drawn, afterDraw}
 use Rattle.rules.specs.Calls.{Draw}
+use Rattle.rules.specs.Tables.{by}
 use Rattle.rules.specs.Says.{Says, refuses, gives, seen, beside, lent, says}
 use Rattle.rules.specs.declared.Drawn.{Drawn}
 
@@ -17,9 +18,9 @@ drawOf w i = record { next = afterDraw (stateOf w) i; cells = drawn (stateOf w) 
 
 unfoldable pub dueSays : List ℕ → ℕ → ℕ → ℕ → Says Draw
 dueSays w i room listRoom =
-    refuses 28 if ltb (2 ^ 64 - 1) (outcomes (stateOf w)) else
-    refuses 27 if not (ltb i (outcomes (stateOf w))) else
-    refuses 29 if ltb room (length (imageOf (drawOf w i .next))) || ltb listRoom (length (drawOf w i .cells)) else
+    refuses (by 28) if ltb (2 ^ 64 - 1) (outcomes (stateOf w)) else
+    refuses (by 27) if not (ltb i (outcomes (stateOf w))) else
+    refuses (by 29) if ltb room (length (imageOf (drawOf w i .next))) || ltb listRoom (length (drawOf w i .cells)) else
     gives (drawOf w i)
 
 -- every word of both buffers, by what the draw says

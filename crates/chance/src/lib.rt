@@ -16,10 +16,10 @@ pub fn count(image: &[u16]) -> Number
     ensures { λ r. ⌜ Counts (now (image .entry)) r ⌝ }
 {
     if !well_formed(image) {
-        return Number::Refused(20);
+        return Number::Refused(refusals::by(20));
     }
     if image[2] == 0 {
-        return Number::Refused(23);
+        return Number::Refused(refusals::by(23));
     }
     count_due(image)
 }
@@ -42,10 +42,10 @@ pub fn rank(image: &[u16], list: &[u16]) -> Number
     ensures { λ r. ⌜ Ranks (now (image .entry)) (now (list .entry)) r ⌝ }
 {
     if !well_formed(image) {
-        return Number::Refused(20);
+        return Number::Refused(refusals::by(20));
     }
     if image[2] == 0 {
-        return Number::Refused(23);
+        return Number::Refused(refusals::by(23));
     }
     rank_due(image, list)
 }

@@ -27,10 +27,10 @@ fn rank_cells(list: &[u16], area: usize, free: usize, board: &mut [u8; 1024]) ->
     while j < list.len() {
         let c = list[j] as usize;
         if area <= c {
-            return Number::Refused(30);
+            return Number::Refused(refusals::by(30));
         }
         if board[c] != 0 {
-            return Number::Refused(30);
+            return Number::Refused(refusals::by(30));
         }
         rank = rank * (free - j) as u64 + free_below(board, c) as u64;
         board[c] = 1;
@@ -47,10 +47,10 @@ pub fn rank_due(image: &[u16], list: &[u16]) -> Number
     let mut board = [0u8; 1024];
     let found = odds_of(image, &mut board);
     if found.count == 0 {
-        return Number::Refused(28);
+        return Number::Refused(refusals::by(28));
     }
     if list.len() != found.size {
-        return Number::Refused(30);
+        return Number::Refused(refusals::by(30));
     }
     let g = image[1] as usize;
     rank_cells(list, g * g, found.free, &mut board)

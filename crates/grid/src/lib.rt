@@ -8,6 +8,7 @@ ghost use lib.IntN.{pos, sucℤ, predℤ, natAbs};
 ghost use lib.Signed.{mag};
 ghost use Rattle.rules.specs.Headings.{clockwise, counterclockwise, actionOf};
 ghost use Rattle.rules.specs.Grid.{ahead, inside, sameZ, same, cellOf, placeOf};
+ghost use Rattle.rules.specs.Promises.{Turns};
 ghost use Rattle.grid.specs.Near.{Near, Plain};
 
 fn more(x: i32) -> i32
@@ -56,6 +57,17 @@ pub fn action_of(number: u64) -> RelativeAction
         0 => RelativeAction::Forward,
         1 => RelativeAction::TurnLeft,
         _ => RelativeAction::TurnRight,
+    }
+}
+
+// A snake's action as a heading.
+pub fn relative_to_absolute(heading: Heading, action: RelativeAction) -> Heading
+    ensures { λ r. ⌜ Turns heading action r ⌝ }
+{
+    match action {
+        RelativeAction::Forward => heading,
+        RelativeAction::TurnLeft => counterclockwise(heading),
+        RelativeAction::TurnRight => clockwise(heading),
     }
 }
 

@@ -56,7 +56,7 @@ pub fn count_due(image: &[u16]) -> Number
     let mut board = [0u8; 1024];
     let found = odds_of(image, &mut board);
     if found.count == 0 {
-        return Number::Refused(28);
+        return Number::Refused(refusals::by(28));
     }
     Number::Value(found.count)
 }

@@ -13,6 +13,7 @@ use Rattle.lists.proofs.Insert.{over-take}
 use Rattle.lists.proofs.Writes.{write-front}
 use Rattle.rules.specs.State.{State, count}
 use Rattle.rules.specs.Image.{imageOf, snakesIn}
+use Rattle.rules.specs.Tables.{by}
 use Rattle.rules.specs.Says.{Says, refuses, gives, seen, lent}
 use Rattle.rules.specs.Step.{Transition}
 use Rattle.rules.specs.Events.{blank, eight}
@@ -94,13 +95,13 @@ refused-line m k old out exit r s = record { more = s .more; game = s .game; wor
 
 -- '33 comes before 32'
 module _ (m : Match) (w line : List ℕ) (room cells : ℕ) where
-  pub turn-over : m .over ≡ true → turnSays m w line room cells ≡ refuses 33
+  pub turn-over : m .over ≡ true → turnSays m w line room cells ≡ refuses (by 33)
   unfolding turnSays
-  turn-over e = ap (λ (b : Bool). refuses 33 if b else asked m w room cells (readLater (snakesOf m) line)) e
+  turn-over e = ap (λ (b : Bool). refuses (by 33) if b else asked m w room cells (readLater (snakesOf m) line)) e
 
   pub turn-on : m .over ≡ false → turnSays m w line room cells ≡ asked m w room cells (readLater (snakesOf m) line)
   unfolding turnSays
-  turn-on e = ap (λ (b : Bool). refuses 33 if b else asked m w room cells (readLater (snakesOf m) line)) e
+  turn-on e = ap (λ (b : Bool). refuses (by 33) if b else asked m w room cells (readLater (snakesOf m) line)) e
 
 -- ---- the image of a desk takes the place of the one before it
 

@@ -11,6 +11,7 @@ use Rattle.rules.specs.Image.{imageOf, snakesIn}
 use Rattle.rules.specs.Step.{Transition}
 use Rattle.rules.specs.Events.{blank, eight}
 use Rattle.rules.specs.Turns.{truncated}
+use Rattle.rules.specs.Tables.{by}
 use Rattle.rules.specs.Says.{Says, refuses, gives, seen, beside, lent}
 use Rattle.rules.specs.Calls.{initialSays, stepSays, Draw, drawSays}
 use Rattle.rules.specs.declared.Setting.{Setting}
@@ -50,7 +51,7 @@ opened s t = record {
 
 -- '32 before the call's own'; room is the length of the lent buffer
 abbrev pub openedBy : First → ℕ → Says Turn
-openedBy NoFirst room = refuses 32
+openedBy NoFirst room = refuses (by 32)
 openedBy (Opens s) room = seen (opened s) (initialSays s room)
 
 unfoldable pub beginSays : List ℕ → ℕ → Says Turn
@@ -87,7 +88,7 @@ eventsShown m over w es = filled (markShown w es) (snakesIn w) 8 blank if endsBy
 -- ---- a line after the first: '33 comes before 32, 32 before the call's own'
 
 abbrev pub askedBy : Match → List ℕ → ℕ → ℕ → Line → List ℕ → Says Turn
-askedBy m w room cells NoLine acts = refuses 32
+askedBy m w room cells NoLine acts = refuses (by 32)
 askedBy m w room cells (DrawLine i) acts = seen (drawnTurn m) (drawSays w i room cells)
 askedBy m w room cells MoveLine acts = seen (movedTurn m) (stepSays (m .setting) w (take (snakesOf m) acts) room)
 
@@ -96,7 +97,7 @@ asked m w room cells e = askedBy m w room cells (e .line) (e .acts)
 
 -- w is the image; room and cells are the lengths of the lent buffers of the next image and of the cells drawn
 unfoldable pub turnSays : Match → List ℕ → List ℕ → ℕ → ℕ → Says Turn
-turnSays m w line room cells = refuses 33 if m .over else asked m w room cells (readLater (snakesOf m) line)
+turnSays m w line room cells = refuses (by 33) if m .over else asked m w room cells (readLater (snakesOf m) line)
 
 -- what a line prints: a refusal its number
 abbrev pub said : Says Turn → List ℕ

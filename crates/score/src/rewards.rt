@@ -50,7 +50,7 @@ pub fn reward(weights: Weights, event: Event) -> Reward
     ensures { λ r. ⌜ Rewards weights event r ⌝ }
 {
     if !all_finite(weights) {
-        return Reward::Refused(31);
+        return Reward::Refused(refusals::by(31));
     }
     if event.died {
         return Reward::Sum(of_dead(weights, event));

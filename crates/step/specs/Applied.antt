@@ -9,6 +9,7 @@ use Rattle.lists.specs.Choice.{_if_else_}
 use Rattle.rules.specs.declared.Stepped.{Stepped}
 use Rattle.rules.specs.Events.{blank, eight}
 use Rattle.rules.specs.Image.{snakesIn, sideIn, imageOf}
+use Rattle.rules.specs.Tables.{by}
 use Rattle.rules.specs.Says.{Says, refuses, gives, seen, beside, lent, says}
 use Rattle.rules.specs.Step.{causeOf, Transition}
 use Rattle.judge.specs.declared.Judged.{Judged}
@@ -22,7 +23,7 @@ pub record Ready (w : List ℕ) (js : List Judged) : Type 0 where
 
 -- 29 is the last refusal of a step
 abbrev pub roomFor : Transition → ℕ → Says Transition
-roomFor o room = refuses 29 if ltb room (length (imageOf (o .next))) else gives o
+roomFor o room = refuses (by 29) if ltb room (length (imageOf (o .next))) else gives o
 
 pub record Applied (o : Transition) (old new : List ℕ) (r : Stepped) : Type 0 where
   pub answer : says (r .answer) ≡ seen (λ o. length (imageOf (o .next))) (roomFor o (length old))

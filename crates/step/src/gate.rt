@@ -88,7 +88,7 @@ fn refused(number: u8) -> Stepped
     ensures { λ r. ⌜ RefusedBy number r ⌝ }
 {
     Stepped {
-        answer: Answer::Refused(number),
+        answer: Answer::Refused(refusals::by(number)),
         terminal: false,
         events: no_events(),
     }
