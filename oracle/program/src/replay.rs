@@ -43,7 +43,8 @@ fn read_line(line: &[u8], n: usize) -> Option<Line> {
     Some(read)
 }
 
-fn letters(e: &StepEvent) -> String {
+/// An event's letters.
+pub fn letters(e: &StepEvent) -> String {
     let cause = match e.death_cause {
         None => ' ',
         Some(DeathCause::Wall) => 'W',
