@@ -3,7 +3,7 @@ use Prim.Native.Nat.{ℕ, zero, suc, _+_, _-_, _^_, _<_, _≤_, min}
 use native.Mathlib.Nat.{le-refl, le-trans, not-suc-le-zero, le-of-suc-le-suc}
 use native.Mathlib.Omega.{arith}
 use mathlib.Core.Path.{_≡_, refl, sym, ap, subst, _∙_}
-use mathlib.Core.Bool.{true, false}
+use mathlib.Core.Bool.{Bool, true, false, not}
 use mathlib.Core.List.{List, [], _++_}
 use lib.Dec.{ltb, eqb}
 use lib.ListN.{length, take, drop}
@@ -31,11 +31,12 @@ use Rattle.rules.specs.declared.Drawn.{Drawn}
 use Rattle.rules.specs.declared.Answer.the-variants.{Done}
 use Rattle.rules.proofs.Answers.{answer-one, number-one}
 use Rattle.rules.proofs.Facts.{sound}
-use Rattle.rules.proofs.Tables.{table-gives, table-given, seen-none}
+use Rattle.rules.proofs.Tables.{table-gives, table-given, table-seen}
 use Rattle.rules.proofs.Image.{state-back}
 use Rattle.rules.proofs.Parts.{state-food}
 use Rattle.rules.proofs.DrawFacts.{after-due, next-long}
-use Rattle.rules.proofs.Fairness.{fair, settled}
+use Rattle.rules.proofs.Fairness.{fair, settled, birth-count, born, born-full}
+use Rattle.rules.proofs.Again.{draw-again}
 use Rattle.rules.proofs.Births.{chain-ends}
 
 pub fair-image : (w : List ℕ) → wellFormed w ≡ true → Fair (stateOf w)
@@ -122,14 +123,15 @@ module _ (w : List ℕ) (i : ℕ) (old new list cells : List ℕ) (r : Drawn) (p
       let f : Draw → ℕ = λ d. length (imageOf (d .next)) in
       let t = stateOf w in
       let e : seen f (drawSays w i (length old) (length list)) ≡ gives n = sym (p .answer) ∙ ap says done in
-      let none = seen-none f rows drawing n e in
+      let given = table-given rows (f drawing) n (sym (table-seen f rows drawing) ∙ e) in
+      let none = given .0 in
       let q : drawSays w i (length old) (length list) ≡ gives drawing = table-gives rows (gives drawing) none in
       record {
         counted = countable w (drop 3 rows) none;
         below = ltb-true i (outcomes t) (not-false (ltb i (outcomes t)) (row-out rows 3 none));
         words = p .words ∙ ap (lent (λ (d : Draw). imageOf (d .next)) old) q;
         drawn-list = p .list ∙ ap (lent (λ (d : Draw). d .cells) list) q;
-        long = let z : seen f (gives drawing) ≡ gives n = sym (ap (seen f) q) ∙ e in cc;
+        long = sym (given .1);
         many = p .cells ∙ ap (beside (λ (d : Draw). length (d .cells)) 0) q;
       }
 
@@ -232,19 +234,45 @@ module _ (w : List ℕ) (ok : wellFormed w ≡ true) where
       (λ i l. ap (λ (t : State). sameList (t .food) (withFood (stateOf w .food) s)) (written-state w i (image i) (list i) (d i l)))
       ∙ fair-image w ok .sets s h
 
-pub draw-changes : (w : List ℕ) (i : ℕ) (image list : List ℕ) → stateOf w .birth ≡ false → DrawWrote w i image list → Changed w image list
-draw-changes w i image list b d =
-    let e = written-state w i image list d in
-    let s = settled (stateOf w) i b in
-    record {
-      side = ap (λ (t : State). t .side) e ∙ s .side;
-      snakes = ap (λ (t : State). t .snakes) e ∙ s .snakes;
-      birth = ap (λ (t : State). t .birth) e ∙ s .birth ∙ sym b;
-      due = ap (λ (t : State). t .due) e ∙ s .due;
-      food = ap (λ (t : State). t .food) e ∙ s .food ∙ ap (withFood (stateOf w .food)) (sym (written-list w i image list d));
-    }
+module _ (w : List ℕ) (i : ℕ) (image list : List ℕ) (d : DrawWrote w i image list) where
+  changed : (due : ℕ) (birth : Bool) → afterDraw (stateOf w) i .due ≡ due → afterDraw (stateOf w) i .birth ≡ birth → Changed w image list due birth
+  unfolding afterDraw
+  changed due birth x y =
+      let e = written-state w i image list d in
+      record {
+        side = ap (λ (t : State). t .side) e;
+        snakes = ap (λ (t : State). t .snakes) e;
+        food = ap (λ (t : State). t .food) e ∙ ap (withFood (stateOf w .food)) (sym (written-list w i image list d));
+        due-is = ap (λ (t : State). t .due) e ∙ x;
+        birth-is = ap (λ (t : State). t .birth) e ∙ y;
+      }
+
+  -- a draw that is not at birth leaves nothing due
+  pub draw-changes : stateOf w .birth ≡ false → Changed w image list 0 false
+  draw-changes b = let s = settled (stateOf w) i b in changed 0 false (s .due) (s .birth)
+
+  -- 'A birth draw takes 1 from due, or sets it to 0 when n = 0; birth stays unless due was 1 or n was 0'
+  pub birth-changes : stateOf w .birth ≡ true → 0 < length (free (stateOf w)) → Changed w image list (stateOf w .due - 1) (not (eqb (stateOf w .due) 1))
+  birth-changes b some =
+      let t = stateOf w in
+      let s = born t b i (rw (birth-count t b some) at (written-below w i image list d)) in
+      changed (t .due - 1) (not (eqb (t .due) 1)) (s .due) (s .birth)
+
+  pub full-changes : stateOf w .birth ≡ true → length (free (stateOf w)) ≡ 0 → Changed w image list 0 false
+  full-changes b none = let s = born-full (stateOf w) b i none .0 in changed 0 false (s .due) (s .birth)
+
+  -- what it wrote is well-formed again
+  pub written-again : wellFormed image ≡ true
+  written-again = ap wellFormed (written-image w i image list d) ∙ draw-again w i (answered w i image list d .counted .formed) (written-below w i image list d)
 
 -- ---- a chain of draws at birth: image j + 1 is what draw j wrote, and each draw with food due is answered
+
+-- as it is with room, and one of the chain where the next image is what it wrote
+pub chain-draw : (image : ℕ → List ℕ) (index : ℕ → ℕ) (j : ℕ) (old new list cells : List ℕ) (r : Drawn) → Draws (image j) (index j) old new list cells r
+    → Drawable (image j) (index j) old list → image (suc j) ≡ take (length (image j) + drawSize (stateOf (image j))) new → Drawing image index j
+chain-draw image index j old new list cells r p q e =
+    let k = drawSize (stateOf (image j)) in
+    record { list = take k cells; writes = subst (λ (w : List ℕ). DrawWrote (image j) (index j) w (take k cells)) (sym e) (draw-wrote (image j) (index j) old new list cells r p q) }
 
 module _ (image : ℕ → List ℕ) (index : ℕ → ℕ) (draws : (j : ℕ) → 0 < stateOf (image j) .due → Drawing image index j) where
   drawn-next : (j : ℕ) → 0 < stateOf (image j) .due → stateOf (image (suc j)) ≡ afterDraw (stateOf (image j)) (index j)

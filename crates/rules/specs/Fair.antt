@@ -1,7 +1,7 @@
 -- What it says that a draw is fair (01, demand 3): of the definitions, and of the words that a draw wrote. Assumes nothing.
 use Prim.Native.Nat.{ℕ, suc, _+_, _-_, _^_, _<_, _≤_}
 use mathlib.Core.Path.{_≡_}
-use mathlib.Core.Bool.{true, false, not}
+use mathlib.Core.Bool.{Bool, true, false, not}
 use mathlib.Core.List.{List, [], _∷_}
 use lib.Dec.{eqb}
 use lib.ListN.{length, getD, take}
@@ -26,7 +26,7 @@ pub record Fair (t : State) : Type 0 where
   pub free-once : distinct (free t) ≡ true
   -- the count: k factors from n downward
   pub count : outcomes t ≡ falling (length (free t)) (drawSize t)
-  -- each index draws k different free cells
+  -- each index below the count draws k different free cells
   pub long : (i : ℕ) → i < outcomes t → length (drawn t i) ≡ drawSize t
   pub among : (i : ℕ) → i < outcomes t → (c : ℕ) → member c (drawn t i) ≡ true → member c (free t) ≡ true
   pub once : (i : ℕ) → i < outcomes t → distinct (drawn t i) ≡ true
@@ -36,7 +36,7 @@ pub record Fair (t : State) : Type 0 where
   -- each list of k different free cells is drawn by one index, its rank
   pub ranks : (l : List ℕ) → canRank t l ≡ true → rankOf t l < outcomes t
   pub forth : (l : List ℕ) → canRank t l ≡ true → drawn t (rankOf t l) ≡ l
-  -- each set of k free cells is the food that comes for exactly k! indices
+  -- each set of k free cells is the food that comes for exactly k! of these indices
   pub sets : (s : List ℕ) → canRank t s ≡ true
       → countBelow (outcomes t) (λ i. sameList (afterDraw t i .food) (withFood (t .food) s)) ≡ factorial (drawSize t)
 
@@ -94,13 +94,13 @@ pub record RanksAsOne (w l : List ℕ) (r : Number) : Type 0 where
   pub lists : (image list : List ℕ) → DrawWrote w index image list → list ≡ l
   pub alone : (i : ℕ) (image : List ℕ) → DrawWrote w i image l → i ≡ index
 
--- nothing changes but the food and what is due, which becomes 0; the food is the old food and the cells drawn
-pub record Changed (w image list : List ℕ) : Type 0 where
+-- nothing changes but the food, which is the old food and the cells drawn, and what is due and whether it is birth, which then are due and birth
+pub record Changed (w image list : List ℕ) (due : ℕ) (birth : Bool) : Type 0 where
   pub side : stateOf image .side ≡ stateOf w .side
   pub snakes : stateOf image .snakes ≡ stateOf w .snakes
-  pub birth : stateOf image .birth ≡ stateOf w .birth
-  pub due : stateOf image .due ≡ 0
   pub food : stateOf image .food ≡ withFood (stateOf w .food) list
+  pub due-is : stateOf image .due ≡ due
+  pub birth-is : stateOf image .birth ≡ birth
 
 -- draw j of a chain: image j + 1 is what it wrote
 pub record Drawing (image : ℕ → List ℕ) (index : ℕ → ℕ) (j : ℕ) : Type 0 where
