@@ -1,8 +1,9 @@
--- What it says that a step or a draw answers its definition. Assumes nothing.
+-- What it says that a call refuses by its table, and that a step or a draw answers its definition. Assumes nothing.
 use Prim.Native.Nat.{ℕ}
 use mathlib.Core.Path.{_≡_}
 use mathlib.Core.List.{List}
 use lib.ListN.{length, take}
+use Rattle.lists.specs.Tables.{Table, FirstRow}
 use Rattle.rules.specs.Events.{eight}
 use Rattle.rules.specs.State.{State}
 use Rattle.rules.specs.Image.{imageOf}
@@ -11,6 +12,11 @@ use Rattle.rules.specs.Chance.{drawn, afterDraw}
 use Rattle.rules.specs.declared.Stepped.{Stepped}
 use Rattle.rules.specs.declared.Drawn.{Drawn}
 use Rattle.rules.specs.declared.Answer.the-variants.{Done}
+
+-- refused by k if and only if k is the number of the table's first row that holds
+pub record RefusedBy {R : Type 0} (refusal : ℕ → R) (t : Table) (r : R) : Type 0 where
+  pub number : (k : ℕ) → r ≡ refusal k → FirstRow t k
+  pub refused : (k : ℕ) → FirstRow t k → r ≡ refusal k
 
 -- a step: the next image, the events, and whether it is terminal
 pub record StepIs (o : Transition) (new : List ℕ) (r : Stepped) : Type 0 where
