@@ -15,12 +15,12 @@ use Rattle.rules.specs.Tables.{by}
 use Rattle.rules.specs.Says.{Says, refuses, gives}
 use Rattle.rules.specs.declared.Drawn.{Drawn}
 use Rattle.rules.proofs.FreeCells.{free-short}
+use Rattle.rules.proofs.DrawFacts.{next-long}
 use Rattle.outcomes.specs.Odds.{Stands}
 use Rattle.outcomes.specs.declared.odds.Odds.{Odds}
 use Rattle.outcomes.proofs.Marking.{count-over, count-in, count-eq}
 use Rattle.chance.specs.Answers.{drawOf, dueSays, Answers, Refuses}
 use Rattle.chance.proofs.Bounds.{size-le}
-use Rattle.chance.proofs.NextImage.{next-long}
 use Rattle.chance.proofs.Drawing.{cells-long}
 
 -- a refusal leaves both buffers as they were

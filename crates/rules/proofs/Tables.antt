@@ -108,14 +108,14 @@ module _ {A : Type 0} where
     given-is = table-given t a b e .1
 
   -- the same, where what is given is seen through f
-  pub seen-none : {B : Type 0} (f : A → B) (t : Table) (a : A) (n : B) → seen f (byTable t (gives a)) ≡ gives n → noneHold t ≡ true
-  unfolding byTable all
-  seen-none f [] a n h = refl
-  seen-none f (e ∷ es) a n h = go (e .0) (e .1) (λ q. seen-none f es a n q) h
+  pub table-seen : {B : Type 0} (f : A → B) (t : Table) (a : A) → seen f (byTable t (gives a)) ≡ byTable t (gives (f a))
+  unfolding byTable
+  table-seen f [] a = refl
+  table-seen f (e ∷ es) a = go (e .0) (e .1) (table-seen f es a)
     where
-      go : (k : Refusal) (c : Bool) → (seen f (byTable es (gives a)) ≡ gives n → noneHold es ≡ true) → seen f (refuses k if c else byTable es (gives a)) ≡ gives n → (not c && noneHold es) ≡ true
-      go k true later q = let z : _≡_ {A = ℕ} 0 1 = cc in absurd (omega arith)
-      go k false later q = later q
+      go : (n : Refusal) (c : Bool) → seen f (byTable es (gives a)) ≡ byTable es (gives (f a)) → seen f (refuses n if c else byTable es (gives a)) ≡ (refuses n if c else byTable es (gives (f a)))
+      go n true q = refl
+      go n false q = q
 
   -- of two tables in a row, the second is asked where the first finds nothing
   pub table-then : (t u : Table) (r : Says A) → numbered t ≡ true → byTable (t ++ u) r ≡ first (fault t) (byTable u r)

@@ -4,8 +4,9 @@ use mathlib.Core.Path.{sym, ap, _∙_}
 use lib.ListN.{length}
 use Rattle.rules.specs.Image.{stateOf}
 use Rattle.rules.specs.Says.{gives}
+use Rattle.rules.proofs.DrawFacts.{next-long}
 use Rattle.chance.proofs.Drawing.{cells-long, cells-few, part-few, list-part, list-after, due-small, due-next, birth-next, words-next}
-use Rattle.chance.proofs.NextImage.{next-long, drawn-fresh}
+use Rattle.chance.proofs.NextImage.{drawn-fresh}
 use borrow.Author.Needs.{needs}
 use Rattle.chance.proofs.next.draw_into.Statement.{statement}
 use Rattle.chance.proofs.next.draw_into.Tie as tie
