@@ -5,7 +5,7 @@ use Rattle.lists.specs.Below.{allBelow, someBelow, countBelow, eachBelow, conca
 use Rattle.lists.specs.Lists.{any, keep, member, insert, without, place}
 use Rattle.lists.specs.Products.{falling}
 use Rattle.rules.specs.Placement.{unblocked, trail, placed}
-use Rattle.rules.specs.Setting.{badCell, settingCheck, initialState}
+use Rattle.rules.specs.Setting.{badCell, settingCheck}
 use Rattle.rules.specs.Step.{causeOf, transitionOf, stepped}
 use Rattle.rules.specs.Chance.{freeFrom, free, outcomes, digits, pick, drawnFrom, drawn, rankIn, rankOf}
 use Rattle.rules.specs.LengthKey.{sorted, folded, lengthKey}
@@ -19,5 +19,5 @@ examples-hold =
     ((refl, refl), (refl, ((refl, refl), (refl, (refl, (refl, (refl, ((refl, refl, refl, refl), ((refl, refl, refl, refl), (refl, (refl, (refl, (refl, (refl, tt))))))))))))))
 
 pub more-hold : EachHolds theOthers
-unfolding allBelow someBelow countBelow eachBelow lowestFrom keep member without unblocked trail placed settingCheck initialState causeOf transitionOf stepped rewardOf ofBits ofInt add theOthers fault
-more-hold = (refl, (refl, (refl, (refl, (refl, (refl, (refl, tt)))))))
+unfolding someBelow countBelow eachBelow lowestFrom keep member causeOf transitionOf stepped rewardOf ofBits ofInt add theOthers
+more-hold = (refl, (refl, (refl, (refl, (refl, tt)))))

@@ -9,7 +9,7 @@ use lib.IntN.{ℤ, pos, negℤ}
 use lib.Ieee.{Float, binary64, ofInt}
 use Rattle.lists.specs.Below.{eachBelow}
 use Rattle.rules.specs.State.{Snake, State}
-use Rattle.rules.specs.Setting.{sideOf, settingCheck, worst, initialState}
+use Rattle.rules.specs.Setting.{sideOf, settingCheck, worst}
 use Rattle.rules.specs.Step.{Transition, stepped}
 use Rattle.rules.specs.Chance.{free, outcomes, drawn, rankOf}
 use Rattle.rules.specs.View.{shows}
@@ -33,13 +33,11 @@ pub data Example : Type 0 where
   move : Setting → State → List ℕ → List Event → Example
   key : State → ℕ → Example
   -- of the second table alone
-  starts : Setting → State → Example
   steps : Setting → State → List ℕ → Transition → Example
   pays : Weights → Event → ℤ → Example
 
 -- an accepted setting and its product; a refused one and its number; the free cells, the count, and what an index draws, which ranks as that index; a place,
--- a heading and the place where it shows; a step's events; the length cell. Then: the state at the start; all that comes of a step; the reward of an event, a
--- whole number
+-- a heading and the place where it shows; a step's events; the length cell. Then: all that comes of a step; the reward of an event, a whole number
 abbrev pub Holds : Example → Type 0
 Holds (accepted s p) = (settingCheck s ≡ 0) × (worst (s .«num_snakes») (sideOf (s .«grid_size»)) (s .«initial_food_count») ≡ p)
 Holds (refused s k) = settingCheck s ≡ k
@@ -47,7 +45,6 @@ Holds (draw t cells p i list) = (free t ≡ cells) × (outcomes t ≡ p) × (dra
 Holds (turn g r c h r′ c′) = shows g h r c ≡ (r′, c′)
 Holds (move s t acts es) = stepped s t acts .events ≡ es
 Holds (key t k) = lengthKey t ≡ some k
-Holds (starts s t) = initialState s ≡ t
 Holds (steps s t acts o) = stepped s t acts ≡ o
 Holds (pays w e x) = rewardOf w e ≡ ofInt binary64 x
 
@@ -130,12 +127,8 @@ flagged = record { «ate_food» = true; died = false; «death_cause» = NoCause;
 -- each row is what a must-fail edit of this crate contradicts
 unfoldable pub theOthers : List Example
 theOthers =
-    -- 'food above g² (0 when g < 0)'
-    refused (record { «num_snakes» = 2; «grid_size» = negℤ (pos (2 ^ 31)); «initial_length» = 1; «play_to_last» = false; «win_food_lead» = Unset; «initial_food_count» = 1; «max_ticks» = Unset }) 6
-    -- 'At start food due = food, birth = food > 0'
-    ∷ starts (plain 3 8 1 0) (arena 8 0 (living Right (18 ∷ []) ∷ living Left (38 ∷ []) ∷ living Right (50 ∷ []) ∷ []) [])
     -- 'Actions 0 forward, 1 left, 2 right'; 'The dying lose their head cell': an eater that dies turns, keeps its tail, and leaves its apple
-    ∷ steps (plain 3 4 1 0) (arena 4 0 (living Up (9 ∷ 13 ∷ []) ∷ living Up (6 ∷ 10 ∷ 14 ∷ []) ∷ living Left (15 ∷ []) ∷ []) (10 ∷ [])) (2 ∷ 0 ∷ 0 ∷ [])
+    steps (plain 3 4 1 0) (arena 4 0 (living Up (9 ∷ 13 ∷ []) ∷ living Up (6 ∷ 10 ∷ 14 ∷ []) ∷ living Left (15 ∷ []) ∷ []) (10 ∷ [])) (2 ∷ 0 ∷ 0 ∷ [])
     (comes false (arena 4 0 (dead Right (9 ∷ 13 ∷ []) ∷ living Up (2 ∷ 6 ∷ 10 ∷ []) ∷ living Left (14 ∷ []) ∷ []) (10 ∷ [])) (lostBy OppBody ∷ kill ∷ blank ∷ []))
     -- 'HeadOn (two moved heads equal, even off the grid)'
     ∷ steps (plain 2 4 1 0) (arena 4 0 (living Up (0 ∷ []) ∷ living Up (0 ∷ []) ∷ []) []) (0 ∷ 0 ∷ [])
