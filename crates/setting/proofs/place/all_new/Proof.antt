@@ -6,8 +6,5 @@ use Rattle.setting.proofs.place.all_new.Tie as tie
 stamps-once-requires : tie.Need-stamps-once-requires
 stamps-once-requires c κs = (search needs, board-blank)
 
-returns : tie.Need-returns
-returns c = search needs
-
 pub all-new-spec : {M : Type 1} → statement M
-all-new-spec = tie.close (tie.spec stamps-once-requires returns)
+all-new-spec = tie.close (tie.spec stamps-once-requires (λ c. search needs))

@@ -21,37 +21,24 @@ abbrev μ-loop : tie.MeasureT-loop
 loop-holds : tie.Need-loop-holds Inv-loop μ-loop
 loop-holds c = (omega arith, refl, paste-zero (now (c .args .obs)) 0 (replicate (c .args .n) dark))
 
-mul-obs : tie.Need-mul-obs Inv-loop μ-loop
-mul-obs c = search needs
-
-slice-write-obs : tie.Need-slice-write-obs Inv-loop μ-loop
-slice-write-obs c = search needs
-
-add-j : tie.Need-add-j Inv-loop μ-loop
-add-j c = search needs
-
-loop-less : tie.Need-loop-less Inv-loop μ-loop
-loop-less c = search needs
-
 loop-again : tie.Need-loop-again Inv-loop μ-loop
 loop-again c =
+    let start : tie.Start Inv-loop μ-loop = search in
     let at = c .before .loop in
-    let n = c .before .before .args .n in
-    let d = now (c .before .before .args .obs) in
+    let n = start .args .n in
+    let d = now (start .args .obs) in
     let z = replicate n dark in
     let k : at .j < length z = rw (length-replicate n dark) (omega arith) in
     let e : getD z (at .j) dark ≡ dark = getD-replicate n (at .j) dark dark (omega arith) in
     let f : at .j ≡ 0 + at .j = omega arith in
     (omega arith, simp length-set (at .inv .1), ap (λ (l : List Float). set l (at .j) dark) (at .inv .2) ∙ ap (λ (i : ℕ). set (paste d 0 z (at .j)) i dark) f ∙ (rw e at (paste-more d 0 z (at .j) dark (omega arith) k)))
 
-same-length : tie.Need-same-length Inv-loop μ-loop
-same-length c = search needs
-
 returns : tie.Need-returns Inv-loop μ-loop
 returns c =
+    let start : tie.Start Inv-loop μ-loop = search in
     let at = c .before .loop in
-    let n = c .before .before .args .n in
-    let d = now (c .before .before .args .obs) in
+    let n = start .args .n in
+    let d = now (start .args .obs) in
     let z = replicate n dark in
     let e : at .j ≡ length z = rw (length-replicate n dark) (omega arith) in
     at .inv .2 ∙ ap (paste d 0 z) e ∙ paste-all d 0 z ∙ write-front d z
@@ -63,10 +50,7 @@ clear-spec =
     Inv-loop
     μ-loop
     loop-holds
-    mul-obs
-    slice-write-obs
-    add-j
-    loop-less
+    (λ c. search needs) (λ c. search needs) (λ c. search needs) (λ c. search needs)
     loop-again
-    same-length
+    (λ c. search needs)
     returns)

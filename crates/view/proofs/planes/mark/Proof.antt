@@ -23,52 +23,50 @@ abbrev μ-loop : tie.MeasureT-loop
 loop-holds : tie.Need-loop-holds Inv-loop μ-loop
 loop-holds c = (omega arith, refl, refl)
 
-mul-turned : tie.Need-mul-turned Inv-loop μ-loop
-mul-turned c = search needs
-
-shared-slice-read-turned : tie.Need-shared-slice-read-turned Inv-loop μ-loop
-shared-slice-read-turned c = search needs
-
 cast-turned : tie.Need-cast-turned Inv-loop μ-loop
-cast-turned c = omega (arith, c .shared-slice-known2 .given (c .before .before .loop .i))
+cast-turned c =
+    let at-loop : tie.At-loop Inv-loop μ-loop = search in
+    omega (arith, c .shared-slice-known2 .given (at-loop .loop .i))
 
 turned-requires : tie.Need-turned-requires Inv-loop μ-loop
 turned-requires c κs =
-    let s = c .before .before .before .before .before .args in
-    let p = c .before .before .before .before .before .pre in
-    let at = c .before .before .loop in
+    let at-loop : tie.At-loop Inv-loop μ-loop = search in
+    let start : tie.Start Inv-loop μ-loop = search in
+    let s = start .args in
+    let p = start .pre in
+    let at = at-loop .loop in
     (p .0, p .2 (at .i) (omega arith))
 
 cast-plane : tie.Need-cast-plane Inv-loop μ-loop
-cast-plane c = omega (arith, square-le _ (c .before .before .before .before .before .before .pre .0), c .turned .ensures .1)
+cast-plane c =
+    let start : tie.Start Inv-loop μ-loop = search in
+    omega (arith, square-le _ (start .pre .0), c .turned .ensures .1)
 
 mul-plane : tie.Need-mul-plane Inv-loop μ-loop
-mul-plane c = omega (arith, square-le _ (c .before .before .before .before .before .before .pre .0), c .turned .ensures .1)
+mul-plane c =
+    let start : tie.Start Inv-loop μ-loop = search in
+    omega (arith, square-le _ (start .pre .0), c .turned .ensures .1)
 
 slice-write-plane : tie.Need-slice-write-plane Inv-loop μ-loop
-slice-write-plane c = omega (arith, c .before .before .before .before .before .before .pre .1, c .turned .ensures .1)
-
-add-i : tie.Need-add-i Inv-loop μ-loop
-add-i c = search needs
-
-loop-less : tie.Need-loop-less Inv-loop μ-loop
-loop-less c = search needs
+slice-write-plane c =
+    let start : tie.Start Inv-loop μ-loop = search in
+    omega (arith, start .pre .1, c .turned .ensures .1)
 
 loop-again : tie.Need-loop-again Inv-loop μ-loop
 loop-again c =
-    let s = c .before .before .before .before .before .before .args in
-    let p = c .before .before .before .before .before .before .pre in
-    let at = c .before .before .before .loop in
+    let at-loop : tie.At-loop Inv-loop μ-loop = search in
+    let start : tie.Start Inv-loop μ-loop = search in
+    let s = start .args in
+    let p = start .pre in
+    let at = at-loop .loop in
     let u = marks-next (turnedCell (s .g) (s .heading)) (s .cells .now) (at .i) (at .plane) (omega arith) in
     (omega arith, simp length-set (at .inv .1), rw (c .turned .ensures .0) (sym u ∙ at .inv .2))
 
-same-length : tie.Need-same-length Inv-loop μ-loop
-same-length c = search needs
-
 returns : tie.Need-returns Inv-loop μ-loop
 returns c =
-    let s = c .before .before .before .before .args in
-    let p = c .before .before .before .before .pre in
+    let start : tie.Start Inv-loop μ-loop = search in
+    let s = start .args in
+    let p = start .pre in
     let at = c .before .loop in
     sym (marks-end (turnedCell (s .g) (s .heading)) (s .cells .now) (at .i) (at .plane) (omega arith)) ∙ at .inv .2
 
@@ -79,15 +77,13 @@ mark-spec =
     Inv-loop
     μ-loop
     loop-holds
-    mul-turned
-    shared-slice-read-turned
+    (λ c. search needs) (λ c. search needs)
     cast-turned
     turned-requires
     cast-plane
     mul-plane
     slice-write-plane
-    add-i
-    loop-less
+    (λ c. search needs) (λ c. search needs)
     loop-again
-    same-length
+    (λ c. search needs)
     returns)
