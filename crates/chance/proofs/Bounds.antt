@@ -8,8 +8,8 @@ use borrow.Author.Tests.{ltb-false}
 use Rattle.lists.specs.Products.{falling}
 use Rattle.rules.specs.Image.{stateOf}
 use Rattle.rules.specs.Chance.{outcomes, digits, pick, drawnFrom}
-use Rattle.rules.proofs.FreeCells.{from-few}
-use Rattle.outcomes.specs.Marks.{marked, unmarked, Open}
+use Rattle.boards.proofs.Free.{from-few}
+use Rattle.boards.specs.Marks.{marked, unmarked, Open}
 use Rattle.outcomes.specs.Odds.{Stands}
 use Rattle.outcomes.specs.declared.odds.Odds.{Odds}
 use Rattle.outcomes.proofs.Marking.{count-in}

@@ -17,7 +17,7 @@ use Rattle.rules.specs.Chance.{free, outcomes, drawnFrom, drawn, afterDraw}
 use Rattle.rules.proofs.DrawFacts.{drawn-due}
 use Rattle.rules.proofs.Fairness.{listed}
 use Rattle.rules.proofs.FreeCells.{free-short}
-use Rattle.outcomes.specs.Marks.{unmarked, Open}
+use Rattle.boards.specs.Marks.{unmarked, Open}
 use Rattle.outcomes.specs.declared.odds.Odds.{Odds}
 use Rattle.chance.specs.Next.{nextWords, Growing}
 use Rattle.chance.specs.Answers.{drawOf, Ready, Answers}

@@ -22,11 +22,12 @@ use Rattle.rules.specs.Says.{refuses, gives}
 use Rattle.rules.specs.declared.Refusal.{Refusal}
 use Rattle.rules.specs.declared.Number.the-variants.{Value, Refused}
 use Rattle.rules.specs.Chance.{free, drawSize, rankIn, canRank}
-use Rattle.rules.proofs.FreeCells.{place-scan, of-from, free-distinct}
+use Rattle.boards.proofs.Free.{place-scan, of-from}
+use Rattle.rules.proofs.FreeCells.{free-distinct}
 use Rattle.rules.proofs.Draws.{InTurn, in-turn, turn-among, turn-distinct}
 use Rattle.rules.proofs.Fairness.{ranked-listed, listed-ranked}
-use Rattle.outcomes.specs.Marks.{marked, unmarked}
-use Rattle.outcomes.proofs.Scans.{mark-yes, mark-no, open-member, unmarked-set}
+use Rattle.boards.specs.Marks.{marked, unmarked}
+use Rattle.boards.proofs.Scans.{mark-yes, mark-no, open-member, unmarked-set}
 use Rattle.chance.specs.Ranking.{inTurn, rankLeft, Rankable, Ranked, RankedTo}
 
 -- ---- the test

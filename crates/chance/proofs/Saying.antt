@@ -25,7 +25,7 @@ use Rattle.rules.specs.declared.Number.the-variants.{Refused}
 use Rattle.rules.specs.declared.Refusal.{Refusal}
 use Rattle.rules.proofs.FreeCells.{free-short}
 use Rattle.rules.proofs.Fairness.{listed}
-use Rattle.outcomes.specs.Marks.{unmarked}
+use Rattle.boards.specs.Marks.{unmarked}
 use Rattle.outcomes.specs.Odds.{Stands}
 use Rattle.outcomes.specs.declared.odds.Odds.{Odds}
 use Rattle.outcomes.proofs.Marking.{count-eq}

@@ -11,7 +11,7 @@ use Rattle.rules.specs.Tables.{by}
 use Rattle.rules.specs.Chance.{rankIn}
 use Rattle.rules.specs.Says.{refuses, gives, saysNumber}
 use Rattle.rules.specs.declared.Number.{Number}
-use Rattle.outcomes.specs.Marks.{unmarked, Open}
+use Rattle.boards.specs.Marks.{unmarked, Open}
 
 -- each cell of the list is there when its turn comes
 unfoldable pub inTurn : List ℕ → List ℕ → Bool

@@ -19,7 +19,7 @@ ghost use Rattle.rules.specs.Facts.{Sound};
 ghost use Rattle.rules.specs.Chance.{drawnFrom};
 ghost use Rattle.rules.specs.Says.{gives};
 ghost use Rattle.rules.specs.Promises.{Draws};
-ghost use Rattle.outcomes.specs.Marks.{unmarked, Open};
+ghost use Rattle.boards.specs.Marks.{unmarked, Open};
 ghost use Rattle.chance.specs.Next.{nextWords, Growing};
 ghost use Rattle.chance.specs.Answers.{drawOf, Ready, Answers, Refuses};
 

@@ -1,10 +1,10 @@
 // The rank of a list: each cell's place among the cells still free is a digit.
-use outcomes::free_below;
+use boards::free_below;
 use outcomes::odds_of;
 use rules::Number;
 ghost use Rattle.rules.specs.Facts.{Sound};
 ghost use Rattle.rules.specs.Promises.{Ranks};
-ghost use Rattle.outcomes.specs.Marks.{unmarked};
+ghost use Rattle.boards.specs.Marks.{unmarked};
 ghost use Rattle.chance.specs.Ranking.{Rankable, Ranked};
 
 // Refusal 30, for a cell that is not free or stood in the list before: it has a mark then.

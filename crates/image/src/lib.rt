@@ -15,7 +15,6 @@ pub use parts::holds_in;
 use rules::Heading;
 pub use table::record_at;
 pub use table::records;
-pub use wellformed::stamps_once;
 pub use wellformed::well_formed;
 pub use words::flag;
 pub use words::heading_of;

@@ -6,10 +6,11 @@ use Prim.Native.Nat.{ℕ, _+_, _-_, _*_, _<_, _^_, min}
 use native.Mathlib.Omega.{arith}
 use lib.Dec.{eqb, ltb}
 use lib.ListN.{length, take, drop}
+use borrow.Author.Tests.{eq-eqb, ne-eqb}
 use Rattle.lists.specs.Choice.{_if_else_}
-use Rattle.lists.specs.Boards.{Under}
+use Rattle.boards.specs.Boards.{Under}
 use Rattle.lists.specs.Products.{falling, fitted}
-use Rattle.lists.proofs.Boards.{rest-under}
+use Rattle.boards.proofs.Boards.{rest-under}
 use Rattle.lists.proofs.Lists.{rest-is}
 use Rattle.rules.proofs.Parts.{area-min}
 use Rattle.lists.proofs.Products.{falling-pos}
@@ -19,13 +20,22 @@ use Rattle.rules.specs.Image.{front, snakesIn, dueIn, birthIn, areaIn, stateOf}
 use Rattle.rules.specs.Facts.{Sound}
 use Rattle.rules.specs.Chance.{free, drawSize, outcomes}
 use Rattle.rules.proofs.TakenWords.{free-words}
-use Rattle.outcomes.specs.Marks.{unmarked, Marks}
+use Rattle.boards.specs.Marks.{unmarked, Marks}
 use Rattle.outcomes.specs.Odds.{Stands}
 use Rattle.outcomes.specs.declared.odds.Odds.{Odds}
 
 pub outcomes-some : (t : State) → 0 < outcomes t
 unfolding outcomes
 outcomes-some t = falling-pos (length (free t)) (drawSize t) (omega arith)
+
+-- ---- how many cells a draw takes
+
+module _ (birth due left r : ℕ) where
+  pub size-birth : birth ≡ 1 → r ≡ min 1 left → r ≡ min (1 if eqb birth 1 else due) left
+  size-birth e q = rw (eq-eqb birth 1 e) q
+
+  pub size-due : (birth ≡ 1 → ⊥) → r ≡ min due left → r ≡ min (1 if eqb birth 1 else due) left
+  size-due n q = rw (ne-eqb birth 1 n) q
 
 -- ---- the words from k on, past the records
 

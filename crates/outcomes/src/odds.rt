@@ -1,5 +1,5 @@
 // What every call starts from: the free cells of a checked image, how many a draw takes, and the count (`chance_node`).
-use crate::board::mark_taken;
+use boards::mark_taken;
 use layout::front;
 use lists::product;
 use lists::smaller;
@@ -8,7 +8,7 @@ ghost use mathlib.Core.Path.{_≡_};
 ghost use Prim.Native.Nat.{min};
 ghost use lib.Dec.{eqb};
 ghost use Rattle.lists.specs.Choice.{_if_else_};
-ghost use Rattle.lists.specs.Boards.{Board};
+ghost use Rattle.boards.specs.Boards.{Board};
 ghost use Rattle.rules.specs.Facts.{Sound};
 ghost use Rattle.rules.specs.Promises.{Counts};
 ghost use Rattle.outcomes.specs.Odds.{Stands};

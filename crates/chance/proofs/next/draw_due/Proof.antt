@@ -1,7 +1,7 @@
 -- `chance::draw_due` meets its contract: the board stands as `odds_of` leaves it, and each `return` is one law of `Saying`, by the tests that led there.
 -- Assumes nothing.
 use borrow.Author.Needs.{needs}
-use Rattle.lists.proofs.Boards.{board-blank}
+use Rattle.boards.proofs.Boards.{board-blank}
 use Rattle.chance.proofs.Saying.{words-fit, draw-23, draw-28, draw-27, draw-29, list-29, draw-ready, draw-gives}
 use Rattle.chance.proofs.next.draw_due.Statement.{statement}
 use Rattle.chance.proofs.next.draw_due.Tie as tie

@@ -1,7 +1,7 @@
 -- `chance::rank_due` meets its contract: the board stands as `odds_of` leaves it, and each `return` is one law of `Saying`, by the tests that led there.
 -- Assumes nothing.
 use borrow.Author.Needs.{needs}
-use Rattle.lists.proofs.Boards.{board-blank}
+use Rattle.boards.proofs.Boards.{board-blank}
 use Rattle.chance.proofs.Saying.{rank-23, rank-28, rank-30, rankable, rank-says}
 use Rattle.chance.proofs.ranks.rank_due.Statement.{statement}
 use Rattle.chance.proofs.ranks.rank_due.Tie as tie

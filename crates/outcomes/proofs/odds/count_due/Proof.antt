@@ -1,7 +1,7 @@
 -- `outcomes::count_due` meets its contract: the board stands as `odds_of` leaves it, and each `return` is one law of `Rows`, by the tests that led there.
 -- Assumes nothing.
 use borrow.Author.Needs.{needs}
-use Rattle.lists.proofs.Boards.{board-blank}
+use Rattle.boards.proofs.Boards.{board-blank}
 use Rattle.outcomes.proofs.Rows.{count-23, count-28, count-gives}
 use Rattle.outcomes.proofs.odds.count_due.Statement.{statement}
 use Rattle.outcomes.proofs.odds.count_due.Tie as tie

@@ -6,7 +6,7 @@ use mathlib.Core.Path.{_≡_}
 use lib.Dec.{eqb}
 use lib.ListN.{length, getD}
 use Rattle.lists.specs.Lists.{member}
-use Rattle.rules.specs.Chance.{freeFrom}
+use Rattle.boards.specs.Free.{freeFrom}
 
 -- square c has a mark
 unfoldable pub marked : List ℕ → ℕ → Bool
