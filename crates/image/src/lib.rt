@@ -14,7 +14,6 @@ pub use parts::food_of;
 pub use parts::holds_in;
 use rules::Heading;
 pub use table::record_at;
-pub use wellformed::stamps_once;
 pub use wellformed::well_formed;
 pub use words::flag;
 pub use words::heading_of;

@@ -13,9 +13,7 @@ pub mod Fitted
 pub mod Order
 pub mod Equal
 pub mod Lowest
-pub mod Boards
 pub mod Flags
-pub mod Squares
 pub mod Parts
 pub mod Insertion
 pub mod Shorter

@@ -1,3 +1,4 @@
-pub mod Scans
+pub mod Picks
 pub mod Radix
 pub mod Marking
+pub mod Rows

@@ -2,14 +2,15 @@
 use mathlib.Core.Path.{_≡_, sym, ap, ap₂, _∙_}
 use mathlib.Core.Bool.{true, false}
 use mathlib.Core.List.{List}
-use Prim.Native.Nat.{ℕ, _-_, _<_, _^_, min}
+use Prim.Native.Nat.{ℕ, _+_, _-_, _*_, _<_, _^_, min}
 use native.Mathlib.Omega.{arith}
 use lib.Dec.{eqb, ltb}
 use lib.ListN.{length, take, drop}
+use borrow.Author.Tests.{eq-eqb, ne-eqb}
 use Rattle.lists.specs.Choice.{_if_else_}
-use Rattle.lists.specs.Boards.{Under}
+use Rattle.boards.specs.Boards.{Under}
 use Rattle.lists.specs.Products.{falling, fitted}
-use Rattle.lists.proofs.Boards.{rest-under}
+use Rattle.boards.proofs.Boards.{rest-under}
 use Rattle.lists.proofs.Lists.{rest-is}
 use Rattle.rules.proofs.Parts.{area-min}
 use Rattle.lists.proofs.Products.{falling-pos}
@@ -19,7 +20,7 @@ use Rattle.rules.specs.Image.{front, snakesIn, dueIn, birthIn, areaIn, stateOf}
 use Rattle.rules.specs.Facts.{Sound}
 use Rattle.rules.specs.Chance.{free, drawSize, outcomes}
 use Rattle.rules.proofs.TakenWords.{free-words}
-use Rattle.outcomes.specs.Marks.{unmarked, Marks}
+use Rattle.boards.specs.Marks.{unmarked, Marks}
 use Rattle.outcomes.specs.Odds.{Stands}
 use Rattle.outcomes.specs.declared.odds.Odds.{Odds}
 
@@ -27,32 +28,44 @@ pub outcomes-some : (t : State) → 0 < outcomes t
 unfolding outcomes
 outcomes-some t = falling-pos (length (free t)) (drawSize t) (omega arith)
 
--- ---- the words past the records
+-- ---- how many cells a draw takes
 
-module _ (w : List ℕ) (s : Sound w) where
-  pub words-under : Under (areaIn w) (take (length w - front (snakesIn w)) (drop (front (snakesIn w)) w))
-  words-under k = rw (rest-is w (front (snakesIn w))) (rest-under w (areaIn w) (front (snakesIn w)) (area-min w s) (s .cells) k)
+module _ (birth due left r : ℕ) where
+  pub size-birth : birth ≡ 1 → r ≡ min 1 left → r ≡ min (1 if eqb birth 1 else due) left
+  size-birth e q = rw (eq-eqb birth 1 e) q
 
-  module _ (board : List ℕ) (r : Odds)
-      (m : Marks (take (length w - front (snakesIn w)) (drop (front (snakesIn w)) w)) (areaIn w) board (r .free))
-      (k : r .size ≡ min (1 if eqb (birthIn w) 1 else dueIn w) (r .free))
-      (p : r .count ≡ fitted (falling (r .free) (r .size))) where
+  pub size-due : (birth ≡ 1 → ⊥) → r ≡ min due left → r ≡ min (1 if eqb birth 1 else due) left
+  size-due n q = rw (ne-eqb birth 1 n) q
+
+-- ---- the words from k on, past the records
+
+module _ (w : List ℕ) (s : Sound w) (k : ℕ) (e : k ≡ 5 + 4 * snakesIn w) where
+  past : take (length w - k) (drop k w) ≡ drop (front (snakesIn w)) w
+  past = rest-is w k ∙ ap (λ (j : ℕ). drop j w) e
+
+  pub words-under : Under (areaIn w) (take (length w - k) (drop k w))
+  words-under j = rw past (rest-under w (areaIn w) (front (snakesIn w)) (area-min w s) (s .cells) j)
+
+  module _ (board : List ℕ) (left size count : ℕ)
+      (m : Marks (take (length w - k) (drop k w)) (areaIn w) board left)
+      (d : size ≡ min (1 if eqb (birthIn w) 1 else dueIn w) left)
+      (p : count ≡ fitted (falling left size)) where
     shown : unmarked board (areaIn w) ≡ free (stateOf w)
-    shown = rw (rest-is w (front (snakesIn w))) at (m .shows) ∙ free-words w s
+    shown = rw past at (m .shows) ∙ free-words w s
 
-    left : r .free ≡ length (free (stateOf w))
-    left = m .left ∙ ap length shown
+    free-all : left ≡ length (free (stateOf w))
+    free-all = m .left ∙ ap length shown
 
-    taken : r .size ≡ drawSize (stateOf w)
+    taken : size ≡ drawSize (stateOf w)
     unfolding stateOf
-    taken = k ∙ ap (min (1 if eqb (birthIn w) 1 else dueIn w)) left
+    taken = d ∙ ap (min (1 if eqb (birthIn w) 1 else dueIn w)) free-all
 
-    counted : r .count ≡ fitted (outcomes (stateOf w))
+    counted : count ≡ fitted (outcomes (stateOf w))
     unfolding outcomes
-    counted = p ∙ ap₂ (λ (n j : ℕ). fitted (falling n j)) left taken
+    counted = p ∙ ap₂ (λ (n j : ℕ). fitted (falling n j)) free-all taken
 
-    pub stands : Stands w board r
-    stands = record { size = m .size; shows = shown; free-is = left; size-is = taken; count-is = counted }
+    pub stands : Stands w board (record { free = left; size = size; count = count })
+    stands = record { size = m .size; shows = shown; free-is = free-all; size-is = taken; count-is = counted }
 
 -- ---- a count that fits
 

@@ -6,7 +6,7 @@ use lib.ListN.{length}
 use Rattle.lists.specs.Products.{fitted}
 use Rattle.rules.specs.Image.{areaIn, stateOf}
 use Rattle.rules.specs.Chance.{free, drawSize, outcomes}
-use Rattle.outcomes.specs.Marks.{unmarked}
+use Rattle.boards.specs.Marks.{unmarked}
 use Rattle.outcomes.specs.declared.odds.Odds.{Odds}
 
 -- the board shows the free cells of the image's state; how many there are, how many a draw takes, and the count

@@ -1,10 +1,8 @@
 // What a draw starts from: the free cells on a board, how many outcomes it has, and the digits of an index.
-mod board;
 mod index;
 mod odds;
 
-pub use board::free_below;
-pub use board::pick_cells;
+pub use index::pick_cells;
 pub use index::split;
 pub use odds::Odds;
 pub use odds::count_due;

@@ -10,7 +10,7 @@ use lib.Signed.{nonNeg}
 use borrow.Author.Tests.{le-leb, ltb-true, lt-ltb, eqb-true, eq-eqb}
 use Rattle.lists.proofs.Tests.{and-left, and-right, both}
 use Rattle.lists.proofs.Members.{agree}
-use Rattle.lists.proofs.Squares.{row-of, col-of}
+use Rattle.boards.proofs.Squares.{row-of, col-of}
 use Rattle.rules.specs.Grid.{within, inside, sameZ, same, cellOf}
 use Rattle.rules.specs.declared.Place.{Place}
 

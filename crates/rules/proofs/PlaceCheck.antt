@@ -11,7 +11,7 @@ use lib.ListN.{length, getD}
 use borrow.Author.Tests.{ltb-false}
 use Rattle.lists.specs.Choice.{_if_else_}
 use Rattle.lists.specs.Below.{concatBelow}
-use Rattle.lists.specs.Boards.{Under}
+use Rattle.boards.specs.Boards.{Under}
 use Rattle.lists.specs.Lists.{all, distinct}
 use Rattle.lists.proofs.Tests.{and-left, and-right}
 use Rattle.lists.proofs.Repeats.{map-concat, all-concat, sum-same}

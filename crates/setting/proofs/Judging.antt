@@ -12,7 +12,7 @@ use lib.Seq.{take-append-seam}
 use borrow.Author.Tests.{not-true, not-false, lt-ltb, le-ltb}
 use Rattle.lists.specs.Choice.{_if_else_, firstOf}
 use Rattle.lists.specs.Below.{concatBelow}
-use Rattle.lists.specs.Boards.{Under}
+use Rattle.boards.specs.Boards.{Under}
 use Rattle.lists.specs.Lists.{writeAt, overFront, distinct}
 use Rattle.lists.proofs.Tests.{ordered, less, more, first-some}
 use Rattle.lists.proofs.Writes.{write-front}

@@ -10,7 +10,7 @@ ghost use lib.ListN.{length};
 ghost use Rattle.lists.specs.Choice.{_if_else_};
 ghost use Prim.Native.Nat.{_-_, _≤_};
 ghost use Rattle.lists.specs.Below.{concatBelow};
-ghost use Rattle.lists.specs.Boards.{Under};
+ghost use Rattle.boards.specs.Boards.{Under};
 ghost use Rattle.lists.specs.Lists.{distinct};
 ghost use Rattle.rules.specs.SettingParts.{placeCheck, cellsOf, startCells, Limited};
 ghost use Rattle.placement.specs.Traces.{Traceable};
@@ -22,7 +22,7 @@ fn all_new(cells: &[u16]) -> bool
     ensures { λ r. ⌜ r ≡ distinct (now (cells .entry)) ⌝ }
 {
     let mut board = [0u8; 1024];
-    image::stamps_once(cells, &mut board, 1)
+    boards::stamps_once(cells, &mut board, 1)
 }
 
 // Refusal 12: what the bodies leave of the area is less than the food.

@@ -14,7 +14,7 @@ use Rattle.lists.proofs.Tests.{every-at, and-left, and-right}
 use Rattle.lists.proofs.Below.{all-at, all-next, sum-le}
 use Rattle.lists.proofs.Lists.{all-cells}
 use Rattle.lists.proofs.Flags.{every-four}
-use Rattle.lists.proofs.Boards.{part-under}
+use Rattle.boards.proofs.Boards.{part-under}
 use Rattle.rules.specs.Image.{word, front, snakesIn, sideIn, areaIn, dueIn, birthIn, foodCountIn, startAt, lengthAt, headingAt, aliveAt, startDue, foodStart, between, longEnough, contentsFit, recordFits, rangesFit, startsFit, cellsFit}
 use Rattle.rules.proofs.Facts.{square-le, start-next, start-mono}
 use Rattle.wellformed.specs.Checked.{Long, Ranged, Laid, OnBoard}

@@ -2,7 +2,7 @@
 use Prim.Native.Nat.{ℕ, _+_, _<_, _≤_}
 use mathlib.Core.List.{List}
 use lib.ListN.{length}
-use Rattle.lists.specs.Boards.{Under}
+use Rattle.boards.specs.Boards.{Under}
 use Rattle.rules.specs.Image.{front, snakesIn, sideIn, areaIn, startAt, lengthAt, foodStart, bodyAt, startsFit}
 use Rattle.wellformed.specs.declared.contents.Layout.{Layout}
 

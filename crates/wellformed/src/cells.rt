@@ -3,7 +3,6 @@ ghost use mathlib.Core.Path.{_≡_};
 ghost use mathlib.Core.List.{[], _∷_};
 ghost use lib.Dec.{ltb};
 ghost use Rattle.lists.specs.Lists.{every, all, ascending};
-ghost use Rattle.lists.specs.Boards.{Under, Board, Stamped};
 ghost use Rattle.rules.specs.Image.{foodStart, cellsFit, bodiesFit, foodFits};
 ghost use Rattle.wellformed.specs.Checked.{Ranged, Laid, OnBoard};
 
@@ -20,24 +19,6 @@ fn cells_below(cells: &[u16], area: u16) -> bool
     below
 }
 
-// No cell twice: each leaves the body's stamp on the board, where no earlier body left it.
-pub fn stamps_once(body: &[u16], board: &mut [u8; 1024], stamp: u8) -> bool
-    requires { ⌜ Under 1024 (now body) ⌝ }
-    requires { ⌜ Board stamp (now board) ⌝ }
-    ensures { λ r. ⌜ Stamped (now (body .entry)) stamp r (now (board .exit)) ⌝ }
-{
-    let mut i = 0;
-    while i < body.len() {
-        let c = body[i] as usize;
-        if board[c] == stamp {
-            return false;
-        }
-        board[c] = stamp;
-        i += 1;
-    }
-    true
-}
-
 // One board for all bodies, never cleared: the stamps tell them apart.
 fn bodies_fit(image: &[u16]) -> bool
     requires { ⌜ OnBoard (now image) ⌝ }
@@ -50,7 +31,7 @@ fn bodies_fit(image: &[u16]) -> bool
         let start = image[5 + 4 * i] as usize;
         let len = image[6 + 4 * i] as usize;
         let stamp = (i + 1) as u8;
-        if !stamps_once(&image[start..start + len], &mut board, stamp) {
+        if !boards::stamps_once(&image[start..start + len], &mut board, stamp) {
             return false;
         }
         i += 1;

@@ -3,5 +3,4 @@ mod cells;
 mod check;
 mod contents;
 
-pub use cells::stamps_once;
 pub use check::well_formed;

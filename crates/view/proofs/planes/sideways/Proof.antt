@@ -1,7 +1,7 @@
 use native.Mathlib.Omega.{arith}
 use Prim.Native.Nat.{_-_, _/_, _%_}
 use mathlib.Core.Path.{refl}
-use Rattle.lists.proofs.Squares.{side-pos, row-lt, col-lt, cell-lt}
+use Rattle.boards.proofs.Squares.{side-pos, row-lt, col-lt, cell-lt}
 use Rattle.rules.proofs.View.{shows-lt}
 use Rattle.rules.proofs.Facts.{square-le}
 use Rattle.rules.specs.declared.Heading.the-variants.{Right}

@@ -7,10 +7,10 @@ use mathlib.Core.Path.{_≡_, sym, ap, _∙_}
 use native.Mathlib.Omega.{arith}
 use Prim.Native.Nat.{_+_, _*_, _-_, _≤_}
 use Rattle.lists.specs.Below.{allBelow}
-use Rattle.lists.specs.Boards.{Board}
+use Rattle.boards.specs.Boards.{Board}
 use Rattle.lists.specs.Lists.{distinct}
 use Rattle.lists.proofs.Below.{all-none, all-more, all-fails, all-done}
-use Rattle.lists.proofs.Boards.{board-blank}
+use Rattle.boards.proofs.Boards.{board-blank}
 use Rattle.lists.proofs.Lists.{part-is}
 use Rattle.rules.specs.Image.{snakesIn, startAt, lengthAt, bodyAt, bodiesFit}
 use Rattle.wellformed.proofs.cells.bodies_fit.Statement.{statement}

@@ -1,15 +1,14 @@
-// The board of taken cells: marked in one pass over all bodies and the food, then read by scans.
+// Marks: taken squares are marked in one pass over a list, and the others are then counted and found by scans.
 ghost use mathlib.Core.Path.{_≡_};
-ghost use Prim.Native.Nat.{_+_, _≤_, _<_};
+ghost use Prim.Native.Nat.{_≤_};
 ghost use lib.Dec.{eqb};
 ghost use lib.ListN.{length, getD};
 ghost use Rattle.lists.specs.Choice.{bit};
-ghost use Rattle.lists.specs.Boards.{Under, Board};
-ghost use Rattle.rules.specs.Chance.{pick};
-ghost use Rattle.outcomes.specs.Marks.{unmarked, Marks};
+ghost use Rattle.boards.specs.Boards.{Under, Board};
+ghost use Rattle.boards.specs.Marks.{unmarked, Marks};
 
 // 1 for a square without a mark.
-pub fn open_square(mark: u8) -> usize
+fn open_square(mark: u8) -> usize
     ensures { λ r. ⌜ r ≡ bit (eqb mark 0) ⌝ }
 {
     if mark == 0 { 1 } else { 0 }
@@ -65,18 +64,4 @@ pub fn free_below(board: &[u8; 1024], c: usize) -> usize
         k += 1;
     }
     n
-}
-
-// Each digit gives way to the cell that it picks among those still free.
-pub fn pick_cells(list: &mut [u16], area: usize, board: &mut [u8; 1024])
-    requires { ⌜ (area ≤ 1024) × (length (now board) ≡ 1024) ⌝ }
-    ensures { λ _. ⌜ now (list .exit) ≡ pick (unmarked (now (board .entry)) area) (now (list .entry)) ⌝ }
-{
-    let mut j = 0;
-    while j < list.len() {
-        let cell = nth_free(board, area, list[j] as usize);
-        board[cell] = 1;
-        list[j] = cell as u16;
-        j += 1;
-    }
 }

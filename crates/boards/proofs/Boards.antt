@@ -2,7 +2,7 @@
 use Prim.Native.Nat.{ℕ, zero, suc, _+_, _<_, _≤_}
 use native.Mathlib.Numerals.{add-one}
 use native.Mathlib.Omega.{arith}
-use mathlib.Core.Bool.{Bool, true, false, not, _&&_, and-true, false≢true}
+use mathlib.Core.Bool.{Bool, true, false, not, _&&_, and-true}
 use mathlib.Core.List.{List, [], _∷_}
 use mathlib.Core.Path.{_≡_, refl, sym, _∙_}
 use lib.Dec.{eqb}
@@ -10,9 +10,9 @@ use native.Mathlib.Nat.{le-trans, min-le-left}
 use lib.ListN.{length, getD, set, take, drop, replicate, length-set, length-replicate, length-take, drop-of-length-le, List·getD-eq-default}
 use lib.Seq.{getD-set-same, getD-set-other, getD-take, getD-drop, drop-cons}
 use borrow.Author.Tests.{eq-eqb, ne-eqb}
 use Rattle.lists.specs.Lists.{member, distinct}
-use Rattle.lists.specs.Boards.{Under, Board}
+use Rattle.boards.specs.Boards.{Under, Board, Stamped}
 use Rattle.lists.proofs.Tests.{compared, same, other, ordered, less, more, gather}
 
 -- the pass: no cell of the list has the stamp when its turn comes
 unfoldable pub fresh : ℕ → List ℕ → List ℕ → Bool
@@ -52,20 +52,20 @@ none s b [] h = refl
 none s b (x ∷ xs) h = let g = h x in rw (ne-eqb (getD b x 0) s (λ e. omega arith), none s b xs h)
 
 -- where the stamp is new to the board, the pass is the test
-pub pass-new : (s : ℕ) (b l : List ℕ) → Under 1024 l → Board s b → fresh s b l ≡ distinct l
+pass-new : (s : ℕ) (b l : List ℕ) → Under 1024 l → Board s b → fresh s b l ≡ distinct l
 pass-new s b l h n = rw (pass s b l (λ k. rw (n .size) (h k)), none s b l (n .new)) (and-true (distinct l))
 
 -- what a loop that has passed the first i cells goes by
 module _ (l : List ℕ) (i s : ℕ) (b : List ℕ) where
-  pub pass-end : length l ≤ i → fresh s b (drop i l) ≡ true
+  pass-end : length l ≤ i → fresh s b (drop i l) ≡ true
   unfolding fresh
   pass-end h = rw (drop-of-length-le l h)
 
-  pub pass-stop : i < length l → getD b (getD l i 0) 0 ≡ s → fresh s b (drop i l) ≡ false
+  pass-stop : i < length l → getD b (getD l i 0) 0 ≡ s → fresh s b (drop i l) ≡ false
   unfolding fresh
   pass-stop h e = rw (drop-cons l i 0 h, eq-eqb (getD b (getD l i 0) 0) s e)
 
-  pub pass-on : i < length l → (getD b (getD l i 0) 0 ≡ s → ⊥) → fresh s b (drop i l) ≡ fresh s (set b (getD l i 0) s) (drop (i + 1) l)
+  pass-on : i < length l → (getD b (getD l i 0) 0 ≡ s → ⊥) → fresh s b (drop i l) ≡ fresh s (set b (getD l i 0) s) (drop (i + 1) l)
   unfolding fresh
   pass-on h e = rw (drop-cons l i 0 h, ne-eqb (getD b (getD l i 0) 0) s e, add-one)
 
@@ -76,11 +76,40 @@ under-set s x b l h k = elim (compared k x) [
   | other n t ↦ rw (getD-set-other b x k s 0 n) (h k)
 ]
 
-pub board-set : (s x : ℕ) (b : List ℕ) → x < 1024 → Board (s + 1) b → Board (s + 1) (set b x s)
+board-set : (s x : ℕ) (b : List ℕ) → x < 1024 → Board (s + 1) b → Board (s + 1) (set b x s)
 board-set s x b l h = record { size = length-set b x s ∙ h .size; new = under-set s x b (rw (h .size) l) (h .new) }
 
-pub board-more : {s : ℕ} {b : List ℕ} → Board s b → Board (s + 1) b
+board-more : {s : ℕ} {b : List ℕ} → Board s b → Board (s + 1) b
 board-more h = record { size = h .size; new = λ k. let g = h .new k in omega arith }
+
+-- ---- the loop: the pass over what is left, on the board as it is now, gives the whole answer
+
+pub record Stamping (l : List ℕ) (stamp : ℕ) (board : List ℕ) (i : ℕ) : Type 0 where
+  pub within : i ≤ length l
+  pub rest : fresh stamp board (drop i l) ≡ distinct l
+  pub next : Board (stamp + 1) board
+
+pub square-in : (l : List ℕ) (i : ℕ) → Under 1024 l → getD l i 0 < 1024
+square-in l i u = u i
+
+module _ (l : List ℕ) (s : ℕ) (b : List ℕ) where
+  pub stamp-none : Under 1024 l → Board s b → Stamping l s b 0
+  stamp-none u n = record { within = omega arith; rest = pass-new s b l u n; next = board-more n }
+
+  module _ (i : ℕ) (v : Stamping l s b i) where
+    pub stamp-all : length l ≤ i → Stamped l s true b
+    stamp-all h = record { says = sym (pass-end l i s b h) ∙ v .rest; next = v .next }
+
+    module _ (h : i < length l) where
+      pub stamp-twice : getD b (getD l i 0) 0 ≡ s → Stamped l s false b
+      stamp-twice e = record { says = sym (pass-stop l i s b h e) ∙ v .rest; next = v .next }
+
+      pub stamp-next : Under 1024 l → (getD b (getD l i 0) 0 ≡ s → ⊥) → Stamping l s (set b (getD l i 0) s) (i + 1)
+      stamp-next u n = record {
+        within = omega arith;
+        rest = sym (pass-on l i s b h n) ∙ v .rest;
+        next = board-set s (getD l i 0) b (u i) (v .next);
+      }
 
 under-blank : (n : ℕ) → Under 1 (replicate n 0)
 under-blank zero k = omega arith
@@ -102,13 +131,4 @@ pub rest-under : (l : List ℕ) (m a : ℕ) → 0 < m → ((k : ℕ) → a ≤ k
 rest-under l m a z h k = elim (ordered (a + k) (length l)) [
   | less q t ↦ rw (getD-drop a l k 0) (h (a + k) (omega arith) q)
   | more q t ↦ rw (getD-drop a l k 0, List·getD-eq-default l 0 {n = a + k} q) z
-]
-
--- a number of a list is below what all are below
-pub member-under : (m x : ℕ) (l : List ℕ) → Under m l → member x l ≡ true → x < m
-unfolding member
-member-under m x [] h t = absurd (false≢true t)
-member-under m x (y ∷ l) h t = elim (compared x y) [
-  | same e q ↦ rw e (h 0)
-  | other n q ↦ member-under m x l (λ k. h (suc k)) (rw q at t)
 ]
