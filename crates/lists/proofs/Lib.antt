@@ -22,3 +22,4 @@ pub mod Runs
 pub mod Distinct
 pub mod Insert
 pub mod Repeats
+pub mod Fits
