@@ -1,10 +1,13 @@
--- What bounds a draw: the squares of the board, the free cells, 64 bits. Assumes nothing.
+-- What bounds a draw: the squares of the board, the free cells, 64 bits; and what stays due after it. Assumes nothing.
 use mathlib.Core.Path.{_≡_, ap, _∙_}
+use mathlib.Core.Bool.{Bool, true, false, not, _&&_}
 use mathlib.Core.List.{List}
 use Prim.Native.Nat.{ℕ, _-_, _≤_, _<_, _^_}
 use native.Mathlib.Omega.{arith}
+use lib.Dec.{eqb}
 use lib.ListN.{length}
-use borrow.Author.Tests.{ltb-false}
+use borrow.Author.Tests.{ltb-false, not-true, not-false, eq-eqb, ne-eqb}
+use Rattle.lists.specs.Choice.{_if_else_}
 use Rattle.lists.specs.Products.{falling}
 use Rattle.rules.specs.Image.{stateOf}
 use Rattle.rules.specs.Chance.{outcomes, digits, pick, drawnFrom}
@@ -34,3 +37,16 @@ module _ (w board : List ℕ) (r : Odds) (o : Stands w board r) where
   pub count-fits : (r .count ≡ 0 → ⊥) → falling (r .free) (r .size) < 2 ^ 64
   unfolding outcomes
   count-fits n = rw (o .free-is, o .size-is) (let l = ltb-false (2 ^ 64 - 1) (outcomes (stateOf w)) (count-in w board r o n) in omega arith)
+
+-- ---- what stays due after a draw
+
+module _ (b : Bool) (due left : ℕ) where
+  pub due-none : not b ≡ true → 0 ≡ (due - 1 if b && not (eqb left 0) else 0)
+  due-none t = rw (not-true b t)
+
+  module _ (t : not b ≡ false) where
+    pub due-full : left ≡ 0 → 0 ≡ (due - 1 if b && not (eqb left 0) else 0)
+    due-full e = rw (not-false b t, eq-eqb left 0 e)
+
+    pub due-less : (left ≡ 0 → ⊥) → due - 1 ≡ (due - 1 if b && not (eqb left 0) else 0)
+    due-less n = rw (not-false b t, ne-eqb left 0 n)

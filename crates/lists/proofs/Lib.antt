@@ -23,3 +23,4 @@ pub mod Distinct
 pub mod Insert
 pub mod Repeats
 pub mod Casts
+pub mod Fits

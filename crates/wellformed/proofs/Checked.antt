@@ -19,27 +19,9 @@ use Rattle.rules.specs.Image.{word, front, snakesIn, sideIn, areaIn, dueIn, bir
 use Rattle.rules.proofs.Facts.{square-le, start-next, start-mono}
 use Rattle.wellformed.specs.Checked.{Long, Ranged, Laid, OnBoard}
 
--- a word's square fits a usize
-pub square-fits : (g : ℕ) → g < 65536 → g * g < 18446744073709551616
-square-fits g h = let k : g ≤ 65535 = omega arith in let m = mul-le-mul k k in omega arith
-
 module _ (w : List ℕ) where
-  pub record-fits-by : (i a : ℕ) → a ≡ areaIn w
-      → (((leb (lengthAt w i) a && leb (headingAt w i) 3) && leb (aliveAt w i) 1) && (not (eqb (aliveAt w i) 1) || leb 1 (lengthAt w i))) ≡ recordFits w i
-  record-fits-by i a e = rw e (every-four (leb (lengthAt w i) (areaIn w)) (leb (headingAt w i) 3) (leb (aliveAt w i) 1) (not (eqb (aliveAt w i) 1) || leb 1 (lengthAt w i)))
-
-  -- ---- a loop that adds up the lengths, and has come to snake i
-
   abbrev pub startFits : ℕ → Bool
   startFits k = eqb (startAt w k) (startDue w k)
-
-  pub starts-next : (i due : ℕ) (fits : Bool) → due ≡ startDue w i → fits ≡ allBelow i startFits → (fits && eqb (startAt w i) due) ≡ allBelow (i + 1) startFits
-  starts-next i due fits e q = ap₂ (λ (a : Bool) (d : ℕ). a && eqb (startAt w i) d) q e ∙ sym (all-next startFits i)
-
-  pub due-next : (i due : ℕ) → due ≡ startDue w i → due + lengthAt w i ≡ startDue w (i + 1)
-  due-next i due e = let n = start-next w i in omega arith
-
-  -- ---- what each test tells
 
   pub long-of : longEnough w ≡ true → Long w
   unfolding longEnough
@@ -79,4 +61,4 @@ module _ (w : List ℕ) where
       let e : f + (k - f) ≡ k = omega arith in
       let c = ltb-true (getD (drop f w) (k - f) 0) (areaIn w) (all-cells (λ c. ltb c (areaIn w)) (drop f w) 0 (k - f) t (omega (arith, length-drop f w))) in
       omega (arith, rw (getD-drop f w (k - f) 0, e) at c) in
-      record { laid = l; cells = λ i h. part-under w 1024 (startAt w i) (lengthAt w i) (omega arith) (λ k a b. cell k (omega (arith, l .bodies-from i h)) (omega (arith, l .bodies-in i h))) }
+      record { laid = l; cells = λ i h. part-under w 1024 (startAt w i) (lengthAt w i) (omega arith) (λ k a b. cell k (omega (arith, l .bodies-from i h)) (omega (arith, l .bodies-in i h, l .food-in))) }

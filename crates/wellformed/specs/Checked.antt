@@ -1,7 +1,11 @@
 -- What the tests of an image have shown so far, as facts for the tests that come after them. Assumes nothing.
 use Prim.Native.Nat.{ℕ, _+_, _<_, _≤_}
 use mathlib.Core.List.{List}
+use mathlib.Core.Path.{_≡_}
+use mathlib.Core.Bool.{Bool}
+use lib.Dec.{ltb}
 use lib.ListN.{length}
+use Rattle.lists.specs.Lists.{all}
 use Rattle.boards.specs.Boards.{Under}
 use Rattle.rules.specs.Image.{front, snakesIn, sideIn, areaIn, startAt, lengthAt, foodStart, bodyAt, startsFit}
 use Rattle.wellformed.specs.declared.contents.Layout.{Layout}
@@ -24,7 +28,7 @@ pub record Laid (w : List ℕ) : Type 0 where
   pub ranged : Ranged w
   pub food-in : foodStart w ≤ length w
   pub bodies-from : (i : ℕ) → i < snakesIn w → front (snakesIn w) ≤ startAt w i
-  pub bodies-in : (i : ℕ) → i < snakesIn w → startAt w i + lengthAt w i ≤ length w
+  pub bodies-in : (i : ℕ) → i < snakesIn w → startAt w i + lengthAt w i ≤ foodStart w
 
 -- and every cell of a body has a square of the board
 pub record OnBoard (w : List ℕ) : Type 0 where
@@ -32,5 +36,10 @@ pub record OnBoard (w : List ℕ) : Type 0 where
   pub cells : (i : ℕ) → i < snakesIn w → Under 1024 (bodyAt w i)
 
 -- whether the starts fit, and where the food starts
-abbrev pub layoutOf : List ℕ → Layout
-layoutOf w = record { fits = startsFit w; food = foodStart w }
+pub record Adds (w : List ℕ) (r : Layout) : Type 0 where
+  pub starts : r .fits ≡ startsFit w
+  pub food-is : r .food ≡ foodStart w
+
+-- whether all cells of a list are below the area
+pub record Below (l : List ℕ) (area : ℕ) (r : Bool) : Type 0 where
+  pub says : r ≡ all (λ c. ltb c area) l

@@ -1,14 +1,18 @@
 // The tests of an image's cells, once it is known where each part is: all below g², no cell twice in one body, food ascending.
+use layout::front;
+use layout::length_at;
+use layout::start_at;
 ghost use mathlib.Core.Path.{_≡_};
 ghost use mathlib.Core.List.{[], _∷_};
-ghost use lib.Dec.{ltb};
-ghost use Rattle.lists.specs.Lists.{every, all, ascending};
-ghost use Rattle.rules.specs.Image.{foodStart, cellsFit, bodiesFit, foodFits};
-ghost use Rattle.wellformed.specs.Checked.{Ranged, Laid, OnBoard};
+ghost use Prim.Native.Nat.{_+_, _<_};
+ghost use Rattle.lists.specs.Lists.{every, ascending};
+ghost use Rattle.boards.specs.Boards.{Board, Stamped};
+ghost use Rattle.rules.specs.Image.{snakesIn, bodyAt, foodStart, cellsFit, bodiesFit, foodFits};
+ghost use Rattle.wellformed.specs.Checked.{Ranged, Laid, OnBoard, Below};
 
 // It reads all cells, since without an exit the loop runs on vectors.
 fn cells_below(cells: &[u16], area: u16) -> bool
-    ensures { λ r. ⌜ r ≡ all (λ c. ltb c area) (now (cells .entry)) ⌝ }
+    ensures { λ r. ⌜ Below (now (cells .entry)) area r ⌝ }
 {
     let mut below = true;
     let mut k = 0;
@@ -17,6 +21,17 @@ fn cells_below(cells: &[u16], area: u16) -> bool
         k += 1;
     }
     below
+}
+
+// No cell of the i-th body twice, by its own stamp.
+fn body_once(image: &[u16], i: usize, board: &mut [u8; 1024]) -> bool
+    requires { ⌜ OnBoard (now image) × (i < snakesIn (now image)) ⌝ }
+    requires { ⌜ Board (i + 1) (now board) ⌝ }
+    ensures { λ r. ⌜ Stamped (bodyAt (now (image .entry)) i) (i + 1) r (now (board .exit)) ⌝ }
+{
+    let start = image[start_at(i)] as usize;
+    let len = image[length_at(i)] as usize;
+    boards::stamps_once(&image[start..start + len], board, (i + 1) as u8)
 }
 
 // One board for all bodies, never cleared: the stamps tell them apart.
@@ -28,10 +43,7 @@ fn bodies_fit(image: &[u16]) -> bool
     let mut board = [0u8; 1024];
     let mut i = 0;
     while i < n {
-        let start = image[5 + 4 * i] as usize;
-        let len = image[6 + 4 * i] as usize;
-        let stamp = (i + 1) as u8;
-        if !boards::stamps_once(&image[start..start + len], &mut board, stamp) {
+        if !body_once(image, i, &mut board) {
             return false;
         }
         i += 1;
@@ -71,7 +83,7 @@ fn cells_fit(image: &[u16]) -> bool
     requires { ⌜ Ranged (now image) ⌝ }
     ensures { λ r. ⌜ r ≡ cellsFit (now (image .entry)) ⌝ }
 {
-    let from = 5 + 4 * (image[0] as usize);
+    let from = front(image[0] as usize);
     let g = image[1];
     cells_below(&image[from..], g * g)
 }

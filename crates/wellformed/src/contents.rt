@@ -1,10 +1,15 @@
 // The tests of an image's contents: its length, the ranges, and where each part is due.
+use layout::alive_at;
+use layout::front;
+use layout::heading_at;
+use layout::length_at;
+use layout::start_at;
 ghost use mathlib.Core.Path.{_≡_};
 ghost use Prim.Native.Nat.{_+_, _*_, _<_, _≤_};
 ghost use lib.ListN.{length};
 ghost use Rattle.lists.specs.Below.{allBelow};
 ghost use Rattle.rules.specs.Image.{front, areaIn, longEnough, contentsFit, recordFits, rangesFit};
-ghost use Rattle.wellformed.specs.Checked.{Long, Ranged, layoutOf};
+ghost use Rattle.wellformed.specs.Checked.{Long, Ranged, Adds};
 
 // Whether every body starts where it is due, and where the food is due.
 pub(crate) struct Layout {
@@ -18,7 +23,7 @@ pub(crate) fn long_enough(image: &[u16]) -> bool
     if image.len() < 5 {
         return false;
     }
-    5 + 4 * (image[0] as usize) <= image.len()
+    front(image[0] as usize) <= image.len()
 }
 
 fn contents_fit(image: &[u16]) -> bool
@@ -36,16 +41,16 @@ fn contents_fit(image: &[u16]) -> bool
 }
 
 fn record_fits(image: &[u16], area: usize, i: usize) -> bool
-    requires { ⌜ (8 + 4 * i < length (now image)) × (area ≡ areaIn (now image)) ⌝ }
+    requires { ⌜ (i < 65536) × (8 + 4 * i < length (now image)) × (area ≡ areaIn (now image)) ⌝ }
     ensures { λ r. ⌜ r ≡ recordFits (now (image .entry)) i ⌝ }
 {
-    let len = image[6 + 4 * i] as usize;
-    let alive = image[8 + 4 * i];
-    (len <= area) & (image[7 + 4 * i] <= 3) & (alive <= 1) & ((alive != 1) | (1 <= len))
+    let len = image[length_at(i)] as usize;
+    let alive = image[alive_at(i)];
+    (len <= area) & (image[heading_at(i)] <= 3) & (alive <= 1) & ((alive != 1) | (1 <= len))
 }
 
 fn records_fit(image: &[u16], area: usize, n: usize) -> bool
-    requires { ⌜ (front n ≤ length (now image)) × (area ≡ areaIn (now image)) ⌝ }
+    requires { ⌜ (n < 65536) × (front n ≤ length (now image)) × (area ≡ areaIn (now image)) ⌝ }
     ensures { λ r. ⌜ r ≡ allBelow n (recordFits (now (image .entry))) ⌝ }
 {
     let mut fit = true;
@@ -71,15 +76,15 @@ pub(crate) fn ranges_fit(image: &[u16]) -> bool
 // A running sum: each start is held against the lengths before it.
 pub(crate) fn laid_out(image: &[u16]) -> Layout
     requires { ⌜ Ranged (now image) ⌝ }
-    ensures { λ r. ⌜ r ≡ layoutOf (now (image .entry)) ⌝ }
+    ensures { λ r. ⌜ Adds (now (image .entry)) r ⌝ }
 {
     let n = image[0] as usize;
-    let mut due = 5 + 4 * n;
+    let mut due = front(n);
     let mut fits = true;
     let mut i = 0;
     while i < n {
-        fits = fits & (image[5 + 4 * i] as usize == due);
-        due += image[6 + 4 * i] as usize;
+        fits = fits & (image[start_at(i)] as usize == due);
+        due += image[length_at(i)] as usize;
         i += 1;
     }
     Layout { fits, food: due }

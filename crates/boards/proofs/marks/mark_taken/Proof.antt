@@ -1,7 +1,7 @@
 -- `boards::mark_taken` meets its contract. The invariant: the first i cells have their marks, and so many squares are left (`Marking`).
 -- The measure is how many cells are left. Assumes nothing.
 use borrow.Author.Needs.{needs}
-use native.Mathlib.Omega.{arith}
+use Rattle.lists.proofs.Fits.{word-fits}
 use Prim.Native.Nat.{_-_}
 use lib.ListN.{length}
 use Rattle.boards.proofs.Scans.{Marking, taken-in, marking-none, marking-left, marking-next, marking-all}
@@ -22,7 +22,7 @@ mark-taken-spec =
     μ-loop
     (λ c. search marking-none)
     (λ c. search needs) (λ c. search needs)
-    (λ c. omega (arith, c .shared-slice-known2 .given (c .before .before .loop .i)))
+    (λ c. search word-fits)
     (λ c. search (needs, taken-in))
     (λ c κs. search needs)
     (λ c. search (needs, marking-left))

@@ -1,7 +1,7 @@
 -- `boards::stamps_once` meets its contract. The invariant: the pass over what is left, on the board as it is now, gives the whole answer (`Stamping`);
 -- each way through a turn is one law of `Boards`. The measure is how many numbers are left. Assumes nothing.
 use borrow.Author.Needs.{needs}
-use native.Mathlib.Omega.{arith}
+use Rattle.lists.proofs.Fits.{word-fits}
 use Prim.Native.Nat.{_-_}
 use lib.ListN.{length}
 use Rattle.boards.proofs.Boards.{Stamping, square-in, stamp-none, stamp-twice, stamp-next, stamp-all}
@@ -22,7 +22,7 @@ stamps-once-spec =
     μ-loop
     (λ c. search stamp-none)
     (λ c. search needs) (λ c. search needs)
-    (λ c. omega (arith, c .shared-slice-known .given (c .before .before .loop .i)))
+    (λ c. search word-fits)
     (λ c. search (needs, square-in))
     (λ c. search stamp-twice)
     (λ c. search (needs, square-in))

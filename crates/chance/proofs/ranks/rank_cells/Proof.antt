@@ -1,7 +1,7 @@
 -- `chance::rank_cells` meets its contract. The invariant: the first j cells are ranked and marked (`RankedTo`); each way through a turn is one law of `Horner`.
 -- The measure is how many cells are left. Assumes nothing.
 use borrow.Author.Needs.{needs}
-use native.Mathlib.Omega.{arith}
+use Rattle.lists.proofs.Fits.{word-fits}
 use Prim.Native.Nat.{_-_}
 use lib.ListN.{length}
 use Rattle.chance.specs.Ranking.{RankedTo}
@@ -23,7 +23,7 @@ rank-cells-spec =
     μ-loop
     (λ c. search ranked-none)
     (λ c. search needs) (λ c. search needs)
-    (λ c. omega (arith, c .shared-slice-known2 .given (c .before .before .loop .j)))
+    (λ c. search word-fits)
     (λ c κs. search needs)
     (λ c. search ranked-off)
     (λ c. search needs) (λ c κs. search needs)

@@ -1,7 +1,7 @@
 -- `outcomes::pick_cells` meets its contract. The invariant: j digits have given way to cells, each of which has its mark, and the digits left pick the rest
 -- (`Picking`). The measure is how many digits are left. Assumes nothing.
 use borrow.Author.Needs.{needs}
-use native.Mathlib.Omega.{arith}
+use Rattle.lists.proofs.Fits.{word-fits}
 use Prim.Native.Nat.{_-_}
 use lib.ListN.{length}
 use Rattle.outcomes.proofs.Picks.{Picking, picking-none, picked-in, picked-fits, picking-next, picking-all}
@@ -22,7 +22,7 @@ pick-cells-spec =
     μ-loop
     (λ c. search picking-none)
     (λ c. search needs) (λ c. search needs)
-    (λ c. omega (arith, c .slice-known2 .given (c .before .before .before .loop .j)))
+    (λ c. search word-fits)
     (λ c κs. search needs)
     (λ c. search (needs, picked-in))
     (λ c. search picked-fits)
