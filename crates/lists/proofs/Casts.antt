@@ -3,9 +3,12 @@ use Prim.Native.Nat.{ℕ}
 use mathlib.Core.List.{List}
 use native.Mathlib.Omega.{arith}
 use lib.ListN.{getD}
-use mir.Syntax.{w16, w64}
+use mir.Syntax.{w16, w32, w64}
 use mir.Val.{Fits}
 
--- each word of a slice of u16 is a number of 64 bits
+-- each word of a slice of u16 is a number of 64 bits, and of 32
 pub word-fits : (w : List ℕ) (k : ℕ) → ((j : ℕ) → Fits w16 (getD w j 0)) → Fits w64 (getD w k 0)
 word-fits w k h = record { fits = omega (arith, h k .fits) }
+
+pub word-fits-32 : (w : List ℕ) (k : ℕ) → ((j : ℕ) → Fits w16 (getD w j 0)) → Fits w32 (getD w k 0)
+word-fits-32 w k h = record { fits = omega (arith, h k .fits) }
