@@ -6,8 +6,10 @@ use Prim.Native.Nat.{ℕ, suc, _+_, _-_, _*_, _≤_, _<_, _^_}
 use native.Mathlib.Nat.{le-trans, lt-irrefl, mul-assoc, add-mul, zero-mul, zero-add}
 use native.Mathlib.Numerals.{add-one}
 use native.Mathlib.Omega.{arith}
+use mir.Syntax.{w64}
+use mir.Val.{Fits}
 use lib.Arith.{digits-lt}
-use lib.ListN.{length, getD, set, drop, drop-of-length-le, length-drop}
+use lib.ListN.{length, getD, set, drop, drop-of-length-le, length-drop, length-set}
 use lib.Seq.{drop-cons}
 use Rattle.lists.specs.Lists.{member, without, place}
 use Rattle.lists.specs.Products.{falling}
@@ -15,13 +17,17 @@ use Rattle.lists.proofs.Tests.{both, and-left, and-right}
 use Rattle.lists.proofs.Members.{agree, clash, fails, length-without, place-lt}
 use Rattle.lists.proofs.Products.{falling-next, falling-first, falling-mono, falling-none}
 use Rattle.rules.specs.State.{State}
+use Rattle.rules.specs.Tables.{by}
+use Rattle.rules.specs.Says.{refuses, gives}
+use Rattle.rules.specs.declared.Refusal.{Refusal}
+use Rattle.rules.specs.declared.Number.the-variants.{Value, Refused}
 use Rattle.rules.specs.Chance.{free, drawSize, rankIn, canRank}
 use Rattle.rules.proofs.FreeCells.{place-scan, of-from, free-distinct}
 use Rattle.rules.proofs.Draws.{InTurn, in-turn, turn-among, turn-distinct}
 use Rattle.rules.proofs.Fairness.{ranked-listed, listed-ranked}
 use Rattle.outcomes.specs.Marks.{marked, unmarked}
 use Rattle.outcomes.proofs.Scans.{mark-yes, mark-no, open-member, unmarked-set}
-use Rattle.chance.specs.Ranking.{inTurn}
+use Rattle.chance.specs.Ranking.{inTurn, rankLeft, Rankable, Ranked, RankedTo}
 
 -- ---- the test
 
@@ -73,10 +79,6 @@ module _ (cells l : List ℕ) (j : ℕ) where
       ≡ place (getD l j 0) cells * falling (length (without (getD l j 0) cells)) (length l - (j + 1)) + rankIn (without (getD l j 0) cells) (drop (j + 1) l)
   unfolding rankIn
   rank-left h = rw (drop-cons l j 0 h, add-one j, length-drop (suc j) l)
-
--- the rank so far, r, times what the cells left can do, and their own rank
-abbrev pub rankLeft : List ℕ → List ℕ → ℕ → ℕ → ℕ
-rankLeft cells l j r = r * falling (length cells) (length l - j) + rankIn cells (drop j l)
 
 spread : (r m p f q : ℕ) → (r * m + p) * f + q ≡ r * (m * f) + (p * f + q)
 spread r m p f q = omega (arith, add-mul (r * m) p f, mul-assoc r m f)
@@ -157,3 +159,59 @@ module _ (b l : List ℕ) (area free j r p : ℕ) where
         ap (λ (c : List ℕ). rankLeft c l (j + 1) (r * (free - j) + p)) (unmarked-set b x area k)
         ∙ ap₂ (λ (m q : ℕ). rankLeft (without x (unmarked b area)) l (j + 1) (r * m + q)) m place-is
         ∙ rank-next (unmarked b area) l j r h here
+
+-- ---- the loop that ranks a list, from its first turn to its end
+
+module _ (l : List ℕ) (area free : ℕ) (start : List ℕ) where
+  pub ranked-none : Rankable l area free start → RankedTo l area free start start 0 0
+  ranked-none q = record {
+    within = omega arith;
+    size = q .squares .size;
+    left = omega (arith, q .squares .left-is);
+    turn = refl;
+    rest = rank-start (unmarked start area) l;
+    below = rank-small free;
+  }
+
+  module _ (b : List ℕ) (r j : ℕ) (v : RankedTo l area free start b r j) where
+    pub ranked-all : length l ≤ j → Ranked (unmarked start area) l (Value r)
+    ranked-all h =
+        let e = sym (v .turn) ∙ turn-end (unmarked b area) l j h in
+        record { answer = rw e (ap gives (sym (rank-done (unmarked b area) l j r h) ∙ v .rest)) }
+
+    module _ (h : j < length l) where
+      refused : member (getD l j 0) (unmarked b area) ≡ false → (x : Refusal) → x ≡ by 30 → Ranked (unmarked start area) l (Refused x)
+      refused m x q = let e = sym (v .turn) ∙ turn-fails (unmarked b area) l j h m in record { answer = rw e (ap refuses q) }
+
+      pub ranked-off : area ≤ getD l j 0 → (x : Refusal) → x ≡ by 30 → Ranked (unmarked start area) l (Refused x)
+      ranked-off g = refused (off-board b area (getD l j 0) g)
+
+      pub ranked-taken : (getD b (getD l j 0) 0 ≡ 0 → ⊥) → (x : Refusal) → x ≡ by 30 → Ranked (unmarked start area) l (Refused x)
+      ranked-taken u = refused (taken-square b area (getD l j 0) u)
+
+      module _ (q : Rankable l area free start) where
+        fits : (p : ℕ) → p < free - j → r * (free - j) + p < 2 ^ 64
+        fits p k = rank-fits free j (length l) r p (v .below) k h (q .few) (q .fits)
+
+        pub ranked-times : Fits w64 (r * (free - j))
+        ranked-times = let f = fits 0 (omega (arith, q .few)) in omega arith
+
+        module _ (g : getD l j 0 < area) (u : getD b (getD l j 0) 0 ≡ 0) (p : ℕ) (e : p ≡ length (unmarked b (getD l j 0))) where
+          inside : getD l j 0 < length b
+          inside = omega (arith, v .size, q .squares .area-max)
+
+          small : p < free - j
+          small = place-small b l area free j r p h inside g u (v .left) e
+
+          pub ranked-room : Fits w64 (r * (free - j) + p)
+          ranked-room = omega (arith, fits p small)
+
+          pub ranked-next : RankedTo l area free start (set b (getD l j 0) 1) (r * (free - j) + p) (j + 1)
+          ranked-next = record {
+            within = omega arith;
+            size = simp length-set (v .size);
+            left = left-one b l area free j r p h inside g u (v .left) e;
+            turn = turn-one b l area free j r p h inside g u (v .left) e ∙ v .turn;
+            rest = rank-one b l area free j r p h inside g u (v .left) e ∙ v .rest;
+            below = rank-below free j 0 r p (v .below) small;
+          }

@@ -18,9 +18,6 @@ pub fn count(image: &[u16]) -> Number
     if !well_formed(image) {
         return Number::Refused(refusals::by(20));
     }
-    if image[2] == 0 {
-        return Number::Refused(refusals::by(23));
-    }
     count_due(image)
 }
 
@@ -31,9 +28,6 @@ pub fn draw(image: &[u16], index: u64, out: &mut [u16], list: &mut [u16]) -> Dra
     if !well_formed(image) {
         return refused(20);
     }
-    if image[2] == 0 {
-        return refused(23);
-    }
     draw_due(image, index, out, list)
 }
 
@@ -43,9 +37,6 @@ pub fn rank(image: &[u16], list: &[u16]) -> Number
 {
     if !well_formed(image) {
         return Number::Refused(refusals::by(20));
-    }
-    if image[2] == 0 {
-        return Number::Refused(refusals::by(23));
     }
     rank_due(image, list)
 }

@@ -1,3 +1,4 @@
 pub mod Scans
 pub mod Radix
 pub mod Marking
+pub mod Rows

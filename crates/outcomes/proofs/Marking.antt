@@ -2,7 +2,7 @@
 use mathlib.Core.Path.{_≡_, sym, ap, ap₂, _∙_}
 use mathlib.Core.Bool.{true, false}
 use mathlib.Core.List.{List}
-use Prim.Native.Nat.{ℕ, _-_, _<_, _^_, min}
+use Prim.Native.Nat.{ℕ, _+_, _-_, _*_, _<_, _^_, min}
 use native.Mathlib.Omega.{arith}
 use lib.Dec.{eqb, ltb}
 use lib.ListN.{length, take, drop}
@@ -27,32 +27,35 @@ pub outcomes-some : (t : State) → 0 < outcomes t
 unfolding outcomes
 outcomes-some t = falling-pos (length (free t)) (drawSize t) (omega arith)
 
--- ---- the words past the records
+-- ---- the words from k on, past the records
 
-module _ (w : List ℕ) (s : Sound w) where
-  pub words-under : Under (areaIn w) (take (length w - front (snakesIn w)) (drop (front (snakesIn w)) w))
-  words-under k = rw (rest-is w (front (snakesIn w))) (rest-under w (areaIn w) (front (snakesIn w)) (area-min w s) (s .cells) k)
+module _ (w : List ℕ) (s : Sound w) (k : ℕ) (e : k ≡ 5 + 4 * snakesIn w) where
+  past : take (length w - k) (drop k w) ≡ drop (front (snakesIn w)) w
+  past = rest-is w k ∙ ap (λ (j : ℕ). drop j w) e
 
-  module _ (board : List ℕ) (r : Odds)
-      (m : Marks (take (length w - front (snakesIn w)) (drop (front (snakesIn w)) w)) (areaIn w) board (r .free))
-      (k : r .size ≡ min (1 if eqb (birthIn w) 1 else dueIn w) (r .free))
-      (p : r .count ≡ fitted (falling (r .free) (r .size))) where
+  pub words-under : Under (areaIn w) (take (length w - k) (drop k w))
+  words-under j = rw past (rest-under w (areaIn w) (front (snakesIn w)) (area-min w s) (s .cells) j)
+
+  module _ (board : List ℕ) (left size count : ℕ)
+      (m : Marks (take (length w - k) (drop k w)) (areaIn w) board left)
+      (d : size ≡ min (1 if eqb (birthIn w) 1 else dueIn w) left)
+      (p : count ≡ fitted (falling left size)) where
     shown : unmarked board (areaIn w) ≡ free (stateOf w)
-    shown = rw (rest-is w (front (snakesIn w))) at (m .shows) ∙ free-words w s
+    shown = rw past at (m .shows) ∙ free-words w s
 
-    left : r .free ≡ length (free (stateOf w))
-    left = m .left ∙ ap length shown
+    free-all : left ≡ length (free (stateOf w))
+    free-all = m .left ∙ ap length shown
 
-    taken : r .size ≡ drawSize (stateOf w)
+    taken : size ≡ drawSize (stateOf w)
     unfolding stateOf
-    taken = k ∙ ap (min (1 if eqb (birthIn w) 1 else dueIn w)) left
+    taken = d ∙ ap (min (1 if eqb (birthIn w) 1 else dueIn w)) free-all
 
-    counted : r .count ≡ fitted (outcomes (stateOf w))
+    counted : count ≡ fitted (outcomes (stateOf w))
     unfolding outcomes
-    counted = p ∙ ap₂ (λ (n j : ℕ). fitted (falling n j)) left taken
+    counted = p ∙ ap₂ (λ (n j : ℕ). fitted (falling n j)) free-all taken
 
-    pub stands : Stands w board r
-    stands = record { size = m .size; shows = shown; free-is = left; size-is = taken; count-is = counted }
+    pub stands : Stands w board (record { free = left; size = size; count = count })
+    stands = record { size = m .size; shows = shown; free-is = free-all; size-is = taken; count-is = counted }
 
 -- ---- a count that fits
 

@@ -1,5 +1,5 @@
 -- A board of squares on which taken cells have a mark. Assumes nothing.
-use Prim.Native.Nat.{ℕ}
+use Prim.Native.Nat.{ℕ, _≤_}
 use mathlib.Core.Bool.{Bool, not}
 use mathlib.Core.List.{List}
 use mathlib.Core.Path.{_≡_}
@@ -21,3 +21,9 @@ pub record Marks (cells : List ℕ) (area : ℕ) (board : List ℕ) (r : ℕ) : 
   pub size : length board ≡ 1024
   pub shows : unmarked board area ≡ freeFrom (λ c. member c cells) 0 area
   pub left : r ≡ length (unmarked board area)
+
+-- a board of 1,024 squares, of whose first n, as many as are left have no mark
+pub record Open (n left : ℕ) (board : List ℕ) : Type 0 where
+  pub area-max : n ≤ 1024
+  pub size : length board ≡ 1024
+  pub left-is : left ≡ length (unmarked board n)

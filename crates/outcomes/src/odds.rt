@@ -1,17 +1,16 @@
 // What every call starts from: the free cells of a checked image, how many a draw takes, and the count (`chance_node`).
 use crate::board::mark_taken;
+use layout::front;
 use lists::product;
 use lists::smaller;
 use rules::Number;
 ghost use mathlib.Core.Path.{_≡_};
-ghost use Prim.Native.Nat.{min, _-_, _^_};
-ghost use lib.Dec.{eqb, ltb};
+ghost use Prim.Native.Nat.{min};
+ghost use lib.Dec.{eqb};
 ghost use Rattle.lists.specs.Choice.{_if_else_};
 ghost use Rattle.lists.specs.Boards.{Board};
-ghost use Rattle.rules.specs.Image.{stateOf};
 ghost use Rattle.rules.specs.Facts.{Sound};
-ghost use Rattle.rules.specs.Chance.{outcomes};
-ghost use Rattle.rules.specs.Says.{refuses, gives, saysNumber};
+ghost use Rattle.rules.specs.Promises.{Counts};
 ghost use Rattle.outcomes.specs.Odds.{Stands};
 
 // The free cells, how many of them a draw takes, and the count of outcomes; 0 for one above 2^64 - 1.
@@ -39,7 +38,7 @@ pub fn odds_of(image: &[u16], board: &mut [u8; 1024]) -> Odds
 {
     let n = image[0] as usize;
     let g = image[1] as usize;
-    let free = mark_taken(&image[5 + 4 * n..], g * g, board);
+    let free = mark_taken(&image[front(n)..], g * g, board);
     let size = draw_size(image[2] as usize, image[3], free);
     Odds {
         free,
@@ -48,11 +47,14 @@ pub fn odds_of(image: &[u16], board: &mut [u8; 1024]) -> Odds
     }
 }
 
-// Refusal 28.
+// Refusals 23, 28.
 pub fn count_due(image: &[u16]) -> Number
     requires { ⌜ Sound (now image) ⌝ }
-    ensures { λ r. ⌜ saysNumber r ≡ (refuses 28 if ltb (2 ^ 64 - 1) (outcomes (stateOf (now (image .entry)))) else gives (outcomes (stateOf (now (image .entry))))) ⌝ }
+    ensures { λ r. ⌜ Counts (now (image .entry)) r ⌝ }
 {
+    if image[2] == 0 {
+        return Number::Refused(refusals::by(23));
+    }
     let mut board = [0u8; 1024];
     let found = odds_of(image, &mut board);
     if found.count == 0 {
