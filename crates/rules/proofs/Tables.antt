@@ -69,6 +69,26 @@ module _ {A : Type 0} where
   table-both [] u r = refl
   table-both (e ∷ es) u r = ap (λ (x : Says A). refuses (e .0) if e .1 else x) (table-both es u r)
 
+  -- what two tables in a row say by the answer of the first: its refusal, or what the second says
+  abbrev pub andThen : Says (Unit {0}) → Says A → Says A
+  andThen (refuses k) r = refuses k
+  andThen (gives u) r = r
+
+  pub table-after : (t u : Table) (r : Says A) → byTable (t ++ u) r ≡ andThen (byTable t (gives tt)) (byTable u r)
+  unfolding byTable
+  table-after [] u r = refl
+  table-after (e ∷ es) u r = go (e .1) (table-after es u r)
+    where
+      go : (b : Bool) → byTable (es ++ u) r ≡ andThen (byTable es (gives tt)) (byTable u r)
+          → (refuses (e .0) if b else byTable (es ++ u) r) ≡ andThen (refuses (e .0) if b else byTable es (gives tt)) (byTable u r)
+      go true q = refl
+      go false q = q
+
+  -- where both give, so does the second
+  pub then-gives : (x : Says (Unit {0})) (r : Says A) (a : A) → andThen x r ≡ gives a → r ≡ gives a
+  then-gives (refuses k) r a h = let z : _≡_ {A = ℕ} 0 1 = cc in absurd (omega arith)
+  then-gives (gives u) r a h = h
+
   -- a refusal is that of the first row that holds
   pub table-refuses : (t : Table) (a : A) (k : Refusal) → byTable t (gives a) ≡ refuses k → FirstRow t k
   unfolding byTable all

@@ -3,4 +3,4 @@ mod Words
 mod Room
 mod Link
 mod Follows
-mod Asked
+mod Refusals

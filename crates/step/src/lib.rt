@@ -1,8 +1,13 @@
 // One step of the arena: the refusals in their order, then all are judged on one world, and the judgement is applied.
-mod apply;
 mod bodies;
+mod conclusion;
 mod food;
 mod gate;
+mod go;
 mod next;
 
-pub use gate::step;
+pub use conclusion::apply;
+pub use conclusion::conclude;
+pub use gate::asked;
+pub use gate::differs;
+pub use go::step;

@@ -1,4 +1,4 @@
-//! The replay of document 01: its lines, order and places are the paper's, each move and draw is the Rust's.
+//! The replay of document 01: its lines, order and placings are the paper's, each move and draw is the Rust's.
 
 use reinfors_core::game::Game;
 
@@ -140,7 +140,7 @@ impl Match {
         }
     }
 
-    fn places(&self) -> String {
+    fn placings(&self) -> String {
         let mut text = "p".to_string();
         for own in &self.died {
             let later = |other: &&Option<u64>| match (own, other) {
@@ -175,5 +175,5 @@ pub fn replay(input: &[u8]) -> String {
             Err(number) => return out + &refused(number),
         }
     }
-    out + &game.places()
+    out + &game.placings()
 }

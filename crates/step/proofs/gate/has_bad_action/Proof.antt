@@ -9,7 +9,7 @@ use denote.Ref.{now}
 use Rattle.lists.specs.Below.{someBelow}
 use Rattle.lists.proofs.Below.{some-none, some-next}
 use Rattle.rules.specs.Image.{snakesIn, aliveAt}
-use Rattle.step.proofs.Asked.{bad-words}
+use Rattle.step.proofs.Refusals.{bad-words}
 use Rattle.step.proofs.gate.has_bad_action.Statement.{statement}
 use Rattle.step.proofs.gate.has_bad_action.Tie as tie
 

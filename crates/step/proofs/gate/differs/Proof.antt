@@ -8,8 +8,8 @@ use mir.Val.{toZ, ofZ}
 use denote.Ref.{now}
 use Rattle.rules.specs.Grid.{sameZ}
 use borrow.Author.Needs.{needs}
-use Rattle.step.proofs.gate.is_other.Statement.{statement}
-use Rattle.step.proofs.gate.is_other.Tie as tie
+use Rattle.step.proofs.gate.differs.Statement.{statement}
+use Rattle.step.proofs.gate.differs.Tie as tie
 
 shared-slice-read-result : tie.Need-shared-slice-read-result
 shared-slice-read-result c = search needs
@@ -34,8 +34,8 @@ returns c =
     let g : toZ w32 (ofZ w32 (a .setting .«grid_size»)) ≡ a .setting .«grid_size» = search needs in
     ap (λ (b : Bool). not (eqb (getD (now (a .image)) 0 0) (a .setting .«num_snakes»)) || not b) (c .equal .ensures ∙ ap₂ sameZ (r ∙ z .ensures) g)
 
-pub is-other-spec : {M : Type 1} → statement M
-is-other-spec =
+pub differs-spec : {M : Type 1} → statement M
+differs-spec =
     tie.close
     (tie.spec
     shared-slice-read-result

@@ -1,9 +1,9 @@
 -- The judged array is the definition's world, and ready to be applied.
-use Rattle.step.proofs.Asked.{judged-ready}
+use Rattle.step.proofs.Refusals.{judged-ready}
 use Rattle.judge.proofs.Judging.{stepped-by}
 use borrow.Author.Needs.{needs}
-use Rattle.step.proofs.gate.go_on.Statement.{statement}
-use Rattle.step.proofs.gate.go_on.Tie as tie
+use Rattle.step.proofs.go.go_on.Statement.{statement}
+use Rattle.step.proofs.go.go_on.Tie as tie
 
 judge-requires : tie.Need-judge-requires
 judge-requires c κs = search needs
