@@ -22,5 +22,4 @@ pub mod Runs
 pub mod Distinct
 pub mod Insert
 pub mod Repeats
-pub mod Casts
 pub mod Fits

@@ -1,6 +1,6 @@
 -- `bindings::part_in` meets its contract: the image is sound, so that the snake's record says where its body lies (`Lying`). Assumes nothing.
 use borrow.Author.Needs.{needs}
-use Rattle.lists.proofs.Casts.{word-fits}
+use Rattle.lists.proofs.Fits.{word-fits}
 use Rattle.bindings.proofs.Lying.{no-snake, lies}
 use Rattle.bindings.proofs.matches.part_in.Statement.{statement}
 use Rattle.bindings.proofs.matches.part_in.Tie as tie

@@ -1,7 +1,7 @@
 -- `image::body` meets its contract: for a malformed image or no such snake the empty front part, else the body, by its words and its place (`Asked`).
 -- Assumes nothing.
 use borrow.Author.Needs.{needs}
-use Rattle.lists.proofs.Casts.{word-fits}
+use Rattle.lists.proofs.Fits.{word-fits}
 use Rattle.rules.proofs.Facts.{passed, failed, word-in}
 use Rattle.image.proofs.Asked.{parts-malformed, parts-beyond, parts-body, place-malformed, place-beyond, place-body}
 use Rattle.image.proofs.parts.body.Statement.{statement}

@@ -1,7 +1,7 @@
 -- `image::body_of` meets its contract: a sound image holds the body whole, and the part from its start word on is the body, at that word's place (`Read`).
 -- Assumes nothing.
 use borrow.Author.Needs.{needs}
-use Rattle.lists.proofs.Casts.{word-fits}
+use Rattle.lists.proofs.Fits.{word-fits}
 use Rattle.image.proofs.Read.{body-fits, start-fits, body-ends, body-read, body-place}
 use Rattle.image.proofs.parts.body_of.Statement.{statement}
 use Rattle.image.proofs.parts.body_of.Tie as tie

@@ -1,6 +1,6 @@
 -- `image::food_start` meets its contract: a sound image's food starts where its last body ends (`last-end`). Assumes nothing.
 use borrow.Author.Needs.{needs}
-use Rattle.lists.proofs.Casts.{word-fits}
+use Rattle.lists.proofs.Fits.{word-fits}
 use Rattle.image.proofs.Read.{last-fits, last-end}
 use Rattle.image.proofs.parts.food_start.Statement.{statement}
 use Rattle.image.proofs.parts.food_start.Tie as tie

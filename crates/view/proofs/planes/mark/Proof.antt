@@ -3,7 +3,7 @@
 use borrow.Author.Needs.{needs}
 use Prim.Native.Nat.{_-_}
 use lib.ListN.{length}
-use Rattle.lists.proofs.Casts.{word-fits-32}
+use Rattle.lists.proofs.Fits.{word-fits-32}
 use Rattle.view.specs.Marks.{CellsMarked}
 use Rattle.view.proofs.Turning.{cell-square, place-fits, bytes-fit, place-in}
 use Rattle.view.proofs.Marks.{cells-none, cells-next, cells-all}
