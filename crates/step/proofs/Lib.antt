@@ -1,5 +1,6 @@
 mod Left
 mod Words
+mod Turns
 mod Room
 mod Link
 mod Follows

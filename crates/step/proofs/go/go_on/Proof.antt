@@ -1,21 +1,15 @@
--- The judged array is the definition's world, and ready to be applied.
-use Rattle.step.proofs.Refusals.{judged-ready}
-use Rattle.judge.proofs.Judging.{stepped-by}
+-- `step::go_on` meets its contract: the judged array is the definition's world, and ready to be applied (`Refusals`).
+-- Assumes nothing.
 use borrow.Author.Needs.{needs}
+use Rattle.step.proofs.Refusals.{judged-ready, step-so}
 use Rattle.step.proofs.go.go_on.Statement.{statement}
 use Rattle.step.proofs.go.go_on.Tie as tie
 
-judge-requires : tie.Need-judge-requires
-judge-requires c κs = search needs
-
-apply-requires : tie.Need-apply-requires
-apply-requires c κs = (c .before .before .before .before .before .pre .0, judged-ready _ _ _ (c .before .judge .ensures))
-
-same-length : tie.Need-same-length
-same-length c = search needs
-
-returns : tie.Need-returns
-returns c = rw (← (stepped-by _ _ _ _ (c .before .before .before .before .judge .ensures))) at (c .before .before .apply .ensures)
-
 pub go-on-spec : {M : Type 1} → statement M
-go-on-spec = tie.close (tie.spec judge-requires apply-requires same-length returns)
+go-on-spec =
+    tie.close
+    (tie.spec
+    (λ c κs. search needs)
+    (λ c κs. search (needs, judged-ready))
+    (λ c. search needs)
+    (λ c. search step-so))
