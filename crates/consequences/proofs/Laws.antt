@@ -3,24 +3,23 @@ use Prim.Native.Nat.{ℕ, _+_, _<_, _≤_}
 use native.Mathlib.Omega.{arith}
 use mathlib.Core.Path.{_≡_, refl, sym, ap, _∙_}
 use mathlib.Core.Bool.{Bool, true, false, not, _&&_, _||_}
-use mathlib.Core.List.{List, _∷_}
+use mathlib.Core.List.{List}
 use lib.Dec.{eqb, ltb}
 use lib.ListN.{length, getD, take, drop, set, replicate}
 use mir.Val.{Fits}
 use mir.Syntax.{w64}
 use borrow.Author.Tests.{not-true, not-false}
-use Rattle.lists.specs.Choice.{_if_else_, bit}
-use Rattle.lists.specs.Below.{countBelow, sumBelow, lowestFrom, filled}
+use Rattle.lists.specs.Choice.{bit}
+use Rattle.lists.specs.Below.{countBelow, sumBelow}
 use Rattle.lists.specs.Lists.{member}
 use Rattle.lists.proofs.Tests.{bit-le}
-use Rattle.lists.proofs.Below.{count-none, count-next, count-le, sum-none, sum-next, sum-le}
-use Rattle.rules.specs.declared.Cause.{Cause}
+use Rattle.lists.proofs.Below.{count-none, count-next, sum-none, sum-next}
 use Rattle.rules.specs.declared.Event.{Event}
 use Rattle.rules.specs.Events.{dies, byBody, blank}
 use Rattle.judge.specs.declared.Judged.{Judged}
 use Rattle.judge.specs.World.{untouched}
 use Rattle.judge.specs.Loops.{Filling, Seeking, Passing}
-use Rattle.judge.proofs.Loops.{fill-none, fill-next, fill-all, seek-next, seek-all, pass-here, pass-on, pass-all}
+use Rattle.judge.proofs.Loops.{fill-none, fill-next, seek-next, seek-all, pass-here, pass-on, pass-all}
 use Rattle.consequences.specs.declared.after.After.{After}
 use Rattle.consequences.specs.declared.after.Tally.{Tally}
 use Rattle.consequences.specs.After.{settled, settledAt, gone, cells, living, causes, sizeOf, sizes, InImage, Short, Counted, Counting, holdsIn, killerIn, creditedTo, HasCell, Holder, KilledBy, Credited, eventAt}

@@ -30,7 +30,7 @@ use Rattle.judge.specs.declared.Judged.{Judged}
 use Rattle.judge.specs.World.{still, shown, world, untouched, movesOf, causesOf, judgedWorld, movedWorld, Judges}
 use Rattle.judge.specs.Loops.{Filling, Seeking}
 use Rattle.judge.specs.Moving.{moveAt}
-use Rattle.judge.specs.Judging.{Rests, Judging, meetsAt, stopsBy, stopsAt, bodyCause, Meets, Stops, Stopped, OnBody, judgedAt}
+use Rattle.judge.specs.Judging.{Rests, Judging, meetsAt, stopsAt, bodyCause, Meets, Stops, Stopped, OnBody, judgedAt}
 use Rattle.judge.proofs.Loops.{fill-none, fill-next, fill-all, seek-next, seek-all, seek-found, seek-on}
 use Rattle.judge.proofs.Moving.{origin-cell, shown-move, move-part, move-start, move-short, move-cell, move-inner}
 

@@ -7,7 +7,7 @@ use native.Mathlib.Nat.{add-zero}
 use native.Mathlib.Numerals.{add-one}
 use native.Mathlib.Omega.{arith}
 use lib.Dec.{eqb}
-use lib.ListN.{length, getD, take, set, replicate, length-set}
+use lib.ListN.{getD, set, replicate, length-set}
 use lib.Seq.{take-suc-set}
 use borrow.Author.Tests.{not-true, not-false}
 use Rattle.lists.specs.Choice.{_if_else_, bit}
@@ -19,7 +19,6 @@ use Rattle.cells.specs.Writers.{left}
 use Rattle.rules.specs.Step.{eatenBy}
 use Rattle.consequences.specs.declared.after.After.{After}
 use Rattle.consequences.specs.After.{gone, cells, eating}
-use Rattle.step.specs.declared.food.Eaten.{Eaten}
 use Rattle.step.specs.Eaten.{bite, EatenTo, EatenAre}
 
 -- ---- the loop

@@ -4,4 +4,4 @@ mod Turns
 mod Room
 mod Link
 mod Follows
-mod Refusals
+pub mod Refusals

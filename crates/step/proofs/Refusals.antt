@@ -153,14 +153,17 @@ step-so s w acts all j old new r a = subst (λ (o : Transition). Applied o old n
 
 -- ---- the promise, from either end
 
+-- a call that asks the same, and then the rows u, says the verdict, and else what those rows say
+pub asked-then : {A : Type 0} (s : Setting) (w acts : List ℕ) (v : Verdict) → Asks s w acts v → (u : Table) (r : Says A) → byTable (askedOrder s w acts ++ u) r ≡ andThen (saysVerdict v) (byTable u r)
+asked-then s w acts v a u r = table-after (askedOrder s w acts) u r ∙ ap (λ (x : Says (Unit {0})). andThen x (byTable u r)) (sym (a .answer))
+
 module _ (s : Setting) (w acts : List ℕ) (v : Verdict) (a : Asks s w acts v) (old : List ℕ) where
-  -- a step says what is asked, and else what the room allows
+  -- a step's one row more is the room
   step-says : stepSays s w acts (length old) ≡ andThen (saysVerdict v) (roomFor (stepped s (stateOf w) acts) (length old))
   unfolding stepSays byTable
   step-says =
       let o = stepped s (stateOf w) acts in
-      table-after (askedOrder s w acts) ((by 29, ltb (length old) (length (imageOf (o .next)))) ∷ []) (gives o)
-      ∙ ap (λ (x : Says (Unit {0})). andThen x (roomFor o (length old))) (sym (a .answer))
+      asked-then s w acts v a ((by 29, ltb (length old) (length (imageOf (o .next)))) ∷ []) (gives o)
 
   promised : (x : Says Transition) → stepSays s w acts (length old) ≡ x → (new : List ℕ) (r : Stepped)
       → says (r .answer) ≡ seen (λ o. length (imageOf (o .next))) x → r .terminal ≡ beside (λ o. o .terminal) false x

@@ -7,7 +7,7 @@ use lib.ListN.{length, getD}
 use mir.Val.{Fits}
 use mir.Syntax.{w64}
 use Rattle.lists.specs.Choice.{bit}
-use Rattle.lists.specs.Below.{sumBelow, concatBelow}
+use Rattle.lists.specs.Below.{concatBelow}
 use Rattle.lists.specs.Lists.{writeAt}
 use Rattle.lists.specs.Written.{Written}
 use Rattle.lists.proofs.Below.{sum-none, sum-next}
@@ -16,7 +16,7 @@ use Rattle.lists.proofs.Writes.{length-write, turn-start, turn-next}
 use Rattle.rules.specs.Headings.{numberOf}
 use Rattle.rules.specs.Image.{front}
 use Rattle.consequences.specs.declared.after.After.{After}
-use Rattle.consequences.specs.After.{gone, sizeOf, sizes, InImage, Short}
+use Rattle.consequences.specs.After.{gone, sizeOf, sizes, Short}
 use Rattle.consequences.proofs.Laws.{size-le}
 use Rattle.step.specs.Next.{recordIn, bodyIn, RecordsTo, BodiesTo}
 use Rattle.step.proofs.Words.{records-long}

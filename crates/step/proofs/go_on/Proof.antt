@@ -2,8 +2,8 @@
 -- Assumes nothing.
 use borrow.Author.Needs.{needs}
 use Rattle.step.proofs.Refusals.{judged-ready, step-so}
-use Rattle.step.proofs.go.go_on.Statement.{statement}
-use Rattle.step.proofs.go.go_on.Tie as tie
+use Rattle.step.proofs.go_on.Statement.{statement}
+use Rattle.step.proofs.go_on.Tie as tie
 
 pub go-on-spec : {M : Type 1} → statement M
 go-on-spec =
