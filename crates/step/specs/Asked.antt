@@ -1,10 +1,12 @@
 -- The refusals of a step but the last, as one verdict. Assumes nothing.
 use mathlib.Core.Path.{_≡_}
-use mathlib.Core.Bool.{false}
+use mathlib.Core.Bool.{Bool, false, _&&_}
 use mathlib.Core.List.{List}
 use Prim.Native.Nat.{ℕ}
-use lib.ListN.{replicate}
+use lib.Dec.{eqb, ltb}
+use lib.ListN.{getD, replicate}
 use Rattle.rules.specs.Events.{blank}
+use Rattle.rules.specs.Image.{aliveAt}
 use Rattle.rules.specs.Says.{gives, saysVerdict, byTable}
 use Rattle.rules.specs.Orders.{askedRows, askedOrder}
 use Rattle.rules.specs.declared.Setting.{Setting}
@@ -19,6 +21,10 @@ pub record AsksImage (s : Setting) (w acts : List ℕ) (v : Verdict) : Type 0 wh
 
 pub record Asks (s : Setting) (w acts : List ℕ) (v : Verdict) : Type 0 where
   pub answer : saysVerdict v ≡ byTable (askedOrder s w acts) (gives tt)
+
+-- 25, by the image's words
+abbrev pub badAt : List ℕ → List ℕ → ℕ → Bool
+badAt w acts i = eqb (aliveAt w i) 1 && ltb 2 (getD acts i 0)
 
 pub record RefusedBy (k : Refusal) (r : Stepped) : Type 0 where
   pub answer : r .answer ≡ Refused k

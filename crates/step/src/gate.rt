@@ -26,7 +26,7 @@ fn has_bad_action(image: &[u16], actions: &[u64]) -> bool
     let mut bad = false;
     let mut i = 0;
     while i < actions.len() {
-        bad = bad | (image[8 + 4 * i] == 1) & (2 < actions[i]);
+        bad = bad | (image[layout::alive_at(i)] == 1) & (2 < actions[i]);
         i += 1;
     }
     bad

@@ -2,8 +2,8 @@
 -- Assumes nothing.
 use borrow.Author.Needs.{needs}
 use Rattle.step.proofs.Refusals.{asked-sound, asked-count, steps-refused, steps-done}
-use Rattle.step.proofs.go.step.Statement.{statement}
-use Rattle.step.proofs.go.step.Tie as tie
+use Rattle.step.proofs.step.Statement.{statement}
+use Rattle.step.proofs.step.Tie as tie
 
 pub step-spec : {M : Type 1} → statement M
 step-spec =
