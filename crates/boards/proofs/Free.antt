@@ -1,9 +1,9 @@
 -- The free squares of a board: they ascend, and are those that are not used; one square more used; a scan of the board. Assumes nothing.
 use mathlib.Core.Path.{_≡_, refl, sym, ap, _∙_}
-use mathlib.Core.Logic.{_⊎_, inl, inr, ⊎-elim}
+use mathlib.Core.Logic.{inl, inr, ⊎-elim}
 use mathlib.Core.Bool.{Bool, true, false, _||_}
 use mathlib.Core.List.{List, _∷_, _++_}
-use Prim.Native.Nat.{ℕ, zero, suc, _+_, _-_, _≤_, _<_, zero-le}
+use Prim.Native.Nat.{ℕ, zero, suc, _+_, _≤_, _<_, zero-le}
 use native.Mathlib.Nat.{zero-add, suc-add, add-zero, le-refl, lt-irrefl, eq-or-lt-of-le, le-dest}
 use native.Mathlib.Omega.{arith}
 use lib.Dec.{eqb}

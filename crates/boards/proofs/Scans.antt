@@ -4,6 +4,7 @@ use mathlib.Core.Bool.{Bool, true, false, not, cond, _||_}
 use mathlib.Core.List.{List, [], _∷_}
 use mathlib.Core.Logic.{inl, inr}
 use Prim.Native.Nat.{ℕ, zero, suc, _+_, _-_, _<_, _≤_, zero-le}
+use native.Mathlib.Nat.{lt-irrefl}
 use native.Mathlib.Numerals.{add-one}
 use native.Mathlib.Omega.{arith}
 use mir.Syntax.{w64}
@@ -13,14 +14,14 @@ use lib.ListN.{length, getD, set, drop, length-append, length-set}
 use lib.Seq.{getD-set-same, getD-set-other}
 use borrow.Author.Tests.{eq-eqb, ne-eqb}
 use Rattle.lists.specs.Choice.{bit}
-use Rattle.lists.specs.Lists.{member, without}
+use Rattle.lists.specs.Lists.{member, without, place}
 use Rattle.lists.proofs.Tests.{compared, same, other, tell, bit-le}
 use Rattle.lists.proofs.Lists.{member-left, member-end}
-use Rattle.lists.proofs.Members.{length-without}
+use Rattle.lists.proofs.Members.{clash, fails, length-without}
 use Rattle.boards.specs.Free.{freeFrom}
 use Rattle.boards.specs.Boards.{Under, Board}
 use Rattle.boards.specs.Marks.{marked, unmarked, Marks}
-use Rattle.boards.proofs.Free.{free-ext, from-without, from-split, in-from}
+use Rattle.boards.proofs.Free.{free-ext, from-few, of-from, in-from, from-without, from-split, place-scan}
 
 -- ---- what is left of the free cells at square c
 
@@ -124,7 +125,7 @@ open-no m n = rw (ne-eqb m 0 n)
 
 -- ---- one more mark
 
-pub mark-set : (b : List ℕ) (x c : ℕ) → x < length b → marked (set b x 1) c ≡ (eqb c x || marked b c)
+mark-set : (b : List ℕ) (x c : ℕ) → x < length b → marked (set b x 1) c ≡ (eqb c x || marked b c)
 unfolding marked
 mark-set b x c h = elim (compared c x) [
   | same e t ↦ rw (t, e, getD-set-same b x 1 0 h)
@@ -252,3 +253,22 @@ below used (suc n) a (suc i) m h z = elim (tell (used a)) [
 pub square-below : (b : List ℕ) (n i : ℕ) → n ≤ 1024 → getD (unmarked b n) i 0 < 1024
 unfolding unmarked
 square-below b n i h = below (marked b) n 0 i 1024 (omega arith) (omega arith)
+
+-- ---- a square and its place among the free ones
+
+module _ (b : List ℕ) (area c : ℕ) where
+  pub square-place : c < area → getD b c 0 ≡ 0 → place c (unmarked b area) ≡ length (unmarked b c)
+  unfolding unmarked
+  square-place h u = place-scan (marked b) area c h (mark-no b c u)
+
+  pub off-board : area ≤ c → member c (unmarked b area) ≡ false
+  unfolding unmarked
+  off-board h = fails (member c (unmarked b area)) (λ m. let r = of-from (marked b) area 0 c m .1 in lt-irrefl c (omega arith))
+
+  pub taken-square : (getD b c 0 ≡ 0 → ⊥) → member c (unmarked b area) ≡ false
+  unfolding unmarked
+  taken-square u = fails (member c (unmarked b area)) (λ m. clash (mark-yes b c u) (of-from (marked b) area 0 c m .0))
+
+pub unmarked-few : (b : List ℕ) (n : ℕ) → length (unmarked b n) ≤ n
+unfolding unmarked
+unmarked-few b n = from-few (marked b) n 0

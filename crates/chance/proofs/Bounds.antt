@@ -5,21 +5,16 @@ use mathlib.Core.List.{List}
 use Prim.Native.Nat.{ℕ, _-_, _≤_, _<_, _^_}
 use native.Mathlib.Omega.{arith}
 use lib.Dec.{eqb}
-use lib.ListN.{length}
 use borrow.Author.Tests.{ltb-false, not-true, not-false, eq-eqb, ne-eqb}
 use Rattle.lists.specs.Choice.{_if_else_}
 use Rattle.lists.specs.Products.{falling}
 use Rattle.rules.specs.Image.{stateOf}
 use Rattle.rules.specs.Chance.{outcomes, digits, pick, drawnFrom}
-use Rattle.boards.proofs.Free.{from-few}
-use Rattle.boards.specs.Marks.{marked, unmarked, Open}
+use Rattle.boards.proofs.Scans.{unmarked-few}
+use Rattle.boards.specs.Marks.{unmarked, Open}
 use Rattle.outcomes.specs.Odds.{Stands}
 use Rattle.outcomes.specs.declared.odds.Odds.{Odds}
 use Rattle.outcomes.proofs.Marking.{count-in}
-
-unmarked-few : (b : List ℕ) (n : ℕ) → length (unmarked b n) ≤ n
-unfolding unmarked
-unmarked-few b n = from-few (marked b) n 0
 
 module _ (n left : ℕ) (board : List ℕ) (o : Open n left board) where
   pub left-most : left ≤ 1024

@@ -2,7 +2,7 @@
 use mathlib.Core.Path.{_≡_, sym, ap, ap₂, _∙_}
 use mathlib.Core.Bool.{Bool, not, _&&_, _||_}
 use mathlib.Core.List.{List, _++_}
-use Prim.Native.Nat.{ℕ, _+_, _-_, _≤_, _<_}
+use Prim.Native.Nat.{ℕ, _+_, _-_, _≤_}
 use native.Mathlib.Omega.{arith}
 use lib.Dec.{eqb}
 use lib.ListN.{length, take, drop}
@@ -13,7 +13,7 @@ use Rattle.lists.specs.Lists.{overFront}
 use Rattle.rules.specs.Image.{dueIn, birthIn, areaIn, imageOf, stateOf}
 use Rattle.rules.specs.Says.{gives}
 use Rattle.rules.specs.declared.Answer.the-variants.{Done}
-use Rattle.rules.specs.Chance.{free, outcomes, drawnFrom, drawn, afterDraw}
+use Rattle.rules.specs.Chance.{free, drawnFrom, drawn, afterDraw}
 use Rattle.rules.proofs.DrawFacts.{drawn-due}
 use Rattle.rules.proofs.Fairness.{listed}
 use Rattle.rules.proofs.FreeCells.{free-short}

@@ -61,7 +61,7 @@ module _ (w : List ℕ) (s : Sound w) where
         ∙ ap (λ (r : List ℕ). snakesIn w ∷ sideIn w ∷ afterDraw t i .due ∷ bit (afterDraw t i .birth) ∷ (foodCountIn w + length cells) ∷ r)
         (sym (append-assoc table bodies f) ∙ ap (λ (m : List ℕ). m ++ f) middle)
 
-  pub next-words-long : (due : ℕ) (birth : Bool) (cells : List ℕ) → length (nextWords w due birth cells) ≡ length w + length cells
+  next-words-long : (due : ℕ) (birth : Bool) (cells : List ℕ) → length (nextWords w due birth cells) ≡ length w + length cells
   unfolding nextWords
   next-words-long due birth cells =
       let f = food-from in

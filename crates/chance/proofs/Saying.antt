@@ -16,7 +16,6 @@ use Rattle.rules.specs.Facts.{Sound}
 use Rattle.rules.specs.Chance.{outcomes, drawn, afterDraw, rankOf, canRank}
 use Rattle.rules.specs.Calls.{Draw, drawSays, rankSays}
 use Rattle.rules.specs.Tables.{Table, by}
-use Rattle.rules.specs.Orders.{dueRows}
 use Rattle.rules.specs.Says.{Says, refuses, gives, byTable}
 use Rattle.rules.specs.Promises.{Draws, Ranks}
 use Rattle.rules.specs.declared.Drawn.{Drawn}
@@ -31,7 +30,7 @@ use Rattle.outcomes.specs.declared.odds.Odds.{Odds}
 use Rattle.outcomes.proofs.Marking.{count-eq}
 use Rattle.outcomes.proofs.Rows.{not-formed, none-due, too-many, none-holds}
 use Rattle.chance.specs.Answers.{drawOf, Ready, Answers, Refuses}
-use Rattle.chance.specs.Ranking.{Rankable, Ranked, inTurn}
+use Rattle.chance.specs.Ranking.{Rankable, Ranked}
 use Rattle.chance.proofs.Bounds.{size-le, count-fits}
 use Rattle.chance.proofs.Horner.{wrong-length, can-rank}
 use Rattle.rules.proofs.DrawFacts.{next-long}

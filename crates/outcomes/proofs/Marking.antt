@@ -24,7 +24,7 @@ use Rattle.boards.specs.Marks.{unmarked, Marks}
 use Rattle.outcomes.specs.Odds.{Stands}
 use Rattle.outcomes.specs.declared.odds.Odds.{Odds}
 
-pub outcomes-some : (t : State) → 0 < outcomes t
+outcomes-some : (t : State) → 0 < outcomes t
 unfolding outcomes
 outcomes-some t = falling-pos (length (free t)) (drawSize t) (omega arith)
 

@@ -1,9 +1,9 @@
 -- What each test of an image tells the tests after it. Assumes nothing.
-use Prim.Native.Nat.{ℕ, _+_, _-_, _*_, _<_, _≤_}
-use native.Mathlib.Nat.{mul-le-mul, le-trans}
+use Prim.Native.Nat.{ℕ, _+_, _-_, _<_, _≤_}
+use native.Mathlib.Nat.{le-trans}
 use native.Mathlib.Omega.{arith}
-use mathlib.Core.Path.{_≡_, sym, ap₂, _∙_}
-use mathlib.Core.Bool.{Bool, true, not, _&&_, _||_}
+use mathlib.Core.Path.{_≡_}
+use mathlib.Core.Bool.{Bool, true}
 use mathlib.Core.List.{List, [], _∷_}
 use lib.Dec.{leb, ltb, eqb}
 use lib.ListN.{length, getD, drop, length-drop}
@@ -11,11 +11,10 @@ use lib.Seq.{getD-drop}
 use borrow.Author.Tests.{leb-true, ltb-true, eqb-true}
 use Rattle.lists.specs.Below.{allBelow}
 use Rattle.lists.proofs.Tests.{every-at, and-left, and-right}
-use Rattle.lists.proofs.Below.{all-at, all-next, sum-le}
+use Rattle.lists.proofs.Below.{all-at, sum-le}
 use Rattle.lists.proofs.Lists.{all-cells}
-use Rattle.lists.proofs.Flags.{every-four}
 use Rattle.boards.proofs.Boards.{part-under}
-use Rattle.rules.specs.Image.{word, front, snakesIn, sideIn, areaIn, dueIn, birthIn, foodCountIn, startAt, lengthAt, headingAt, aliveAt, startDue, foodStart, between, longEnough, contentsFit, recordFits, rangesFit, startsFit, cellsFit}
+use Rattle.rules.specs.Image.{word, front, snakesIn, sideIn, areaIn, dueIn, birthIn, foodCountIn, startAt, lengthAt, startDue, foodStart, between, longEnough, contentsFit, recordFits, rangesFit, startsFit, cellsFit}
 use Rattle.rules.proofs.Facts.{square-le, start-next, start-mono}
 use Rattle.wellformed.specs.Checked.{Long, Ranged, Laid, OnBoard}
 

@@ -16,7 +16,7 @@ use Rattle.lists.proofs.Lists.{part-is}
 use Rattle.lists.proofs.Flags.{flag-next, flag-end, rising-next, rising-end}
 use Rattle.boards.specs.Boards.{Under, Board, Stamped}
 use Rattle.boards.proofs.Boards.{board-blank}
-use Rattle.rules.specs.Image.{snakesIn, startAt, lengthAt, bodyAt, startDue, recordFits, bodiesFit, startsFit}
+use Rattle.rules.specs.Image.{snakesIn, startAt, bodyAt, startDue, recordFits, bodiesFit, startsFit}
 use Rattle.rules.proofs.Facts.{start-first, start-next, start-mono}
 use Rattle.wellformed.specs.Checked.{Ranged, OnBoard, Adds, Below}
 use Rattle.wellformed.proofs.Checked.{startFits}

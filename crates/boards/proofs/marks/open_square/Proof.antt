@@ -1,5 +1,4 @@
 -- `boards::open_square` meets its contract: a mark is 0 or it is not. Assumes nothing.
-use borrow.Author.Needs.{needs}
 use Rattle.boards.proofs.Scans.{open-yes, open-no}
 use Rattle.boards.proofs.marks.open_square.Statement.{statement}
 use Rattle.boards.proofs.marks.open_square.Tie as tie
