@@ -1,15 +1,15 @@
 -- What the tests of a grid tell of its side. Assumes nothing.
-use Prim.Native.Nat.{_≤_}
+use Prim.Native.Nat.{ℕ}
 use native.Mathlib.Omega.{arith}
-use mathlib.Core.Path.{_≡_, ap, _∙_}
-use mathlib.Core.Bool.{true, false, true≢false}
-use lib.Dec.{T}
+use mathlib.Core.Path.{_≡_, sym, ap, _∙_}
+use mathlib.Core.Bool.{true, false, true≢false, or-true}
+use lib.Dec.{T, leb, leb→le}
 use lib.IntN.{ℤ, pos, negsuc, natAbs}
-use lib.Signed.{ltZ, nonNeg}
+use lib.Signed.{ltZ, nonNeg, natAbs-le}
 use mir.Syntax.{w32, w64}
 use mir.Val.{Fits, SFits, toZ, ofZ}
 use mir.Facts.{toZ-ofZ}
-use borrow.Author.Tests.{ltb-false}
+use borrow.Author.Tests.{lt-ltb, ltb-true}
 use Rattle.rules.specs.View.{lit}
 use Rattle.rules.specs.Tables.{by}
 use Rattle.rules.specs.Says.{refuses, gives, box, byTable}
@@ -20,9 +20,10 @@ plain : (g : ℤ) → ltZ g (pos 1) ≡ false → T (nonNeg g)
 plain (pos g) l = tt
 plain (negsuc g) l = absurd (true≢false l)
 
-small : (g : ℤ) → ltZ (pos 32) g ≡ false → ltZ g (pos 1) ≡ false → natAbs g ≤ 32
-small (pos g) h l = ltb-false 32 g h
-small (negsuc g) h l = absurd (true≢false l)
+-- above a bound from 32 on, so above 32
+higher : (k : ℕ) (g : ℤ) → T (leb 32 k) → ltZ (pos k) g ≡ true → ltZ (pos 32) g ≡ true
+higher k (pos g) b h = lt-ltb 32 g (omega (arith, leb→le 32 k b, ltb-true k g h))
+higher k (negsuc g) b h = absurd (true≢false (sym h))
 
 boxed : (g : ℤ) → ltZ (pos 32) g ≡ false → ltZ g (pos 1) ≡ false → gives (box 5 (natAbs g) (natAbs g) (lit false) (lit true)) ≡ spaceSays g
 unfolding spaceSays byTable
@@ -31,21 +32,21 @@ boxed (negsuc g) h l = absurd (true≢false l)
 
 -- a signed number is tested as the machine reads it back
 module _ (g : ℤ) (f : SFits w32 g) where
-  pub space-high : (x : Refusal) → x ≡ by 5 → ltZ (pos 32) (toZ w32 (ofZ w32 g)) ≡ true → refuses x ≡ spaceSays g
+  pub space-high : (k : ℕ) → ltZ (pos k) (toZ w32 (ofZ w32 g)) ≡ true → T (leb 32 k) → (x : Refusal) → x ≡ by 5 → refuses x ≡ spaceSays g
   unfolding spaceSays byTable
-  space-high x r h = let t = rw (toZ-ofZ f) at h in rw (r, t)
+  space-high k h b x r = let t = higher k g b (rw (toZ-ofZ f) at h) in rw (r, t)
 
-  module _ (h : ltZ (pos 32) (toZ w32 (ofZ w32 g)) ≡ false) where
-    pub space-low : (x : Refusal) → x ≡ by 5 → ltZ (toZ w32 (ofZ w32 g)) (pos 1) ≡ true → refuses x ≡ spaceSays g
-    unfolding spaceSays byTable
-    space-low x r l = let t = rw (toZ-ofZ f) at h in let u = rw (toZ-ofZ f) at l in rw (r, t, u)
+  pub space-low : ltZ (toZ w32 (ofZ w32 g)) (pos 1) ≡ true → (x : Refusal) → x ≡ by 5 → refuses x ≡ spaceSays g
+  unfolding spaceSays byTable
+  space-low l x r = let u = rw (toZ-ofZ f) at l in rw (r, u, or-true (ltZ (pos 32) g))
 
-    module _ (l : ltZ (toZ w32 (ofZ w32 g)) (pos 1) ≡ false) where
-      pub side-plain : T (nonNeg (toZ w32 (ofZ w32 g)))
-      side-plain = plain (toZ w32 (ofZ w32 g)) l
+  pub side-fits : Fits w64 (natAbs (toZ w32 (ofZ w32 g)))
+  side-fits = rw (toZ-ofZ f) (record { fits = omega (arith, natAbs-le g (f .sfits)) })
 
-      pub side-fits : Fits w64 (natAbs (toZ w32 (ofZ w32 g)))
-      side-fits = record { fits = omega (arith, small (toZ w32 (ofZ w32 g)) h l) }
+  module _ (l : ltZ (toZ w32 (ofZ w32 g)) (pos 1) ≡ false) where
+    pub side-plain : T (nonNeg (toZ w32 (ofZ w32 g)))
+    side-plain = plain (toZ w32 (ofZ w32 g)) l
 
-      pub space-box : gives (box 5 (natAbs (toZ w32 (ofZ w32 g))) (natAbs (toZ w32 (ofZ w32 g))) (lit false) (lit true)) ≡ spaceSays g
-      space-box = boxed (toZ w32 (ofZ w32 g)) h l ∙ ap spaceSays (toZ-ofZ f)
+    pub space-box : ltZ (pos 32) (toZ w32 (ofZ w32 g)) ≡ false
+        → gives (box 5 (natAbs (toZ w32 (ofZ w32 g))) (natAbs (toZ w32 (ofZ w32 g))) (lit false) (lit true)) ≡ spaceSays g
+    space-box h = boxed (toZ w32 (ofZ w32 g)) h l ∙ ap spaceSays (toZ-ofZ f)
