@@ -34,6 +34,7 @@ use Rattle.rules.specs.declared.Legal.{Legal}
 use Rattle.rules.specs.declared.Truncated.{Truncated}
 use Rattle.rules.specs.declared.Reward.{Reward}
 use Rattle.rules.specs.declared.Space.{Space}
+use Rattle.rules.specs.declared.Space.the-variants.{Box, Refused as RefusedSpace}
 use Rattle.bindings.specs.declared.FlatWritten.{FlatWritten}
 use Rattle.bindings.specs.declared.FlatStepped.{FlatStepped}
 use Rattle.bindings.specs.declared.FlatDrawn.{FlatDrawn}
@@ -53,6 +54,7 @@ use Rattle.bindings.specs.Flat.{
   flatLegal,
   flatMarked,
   flatSum,
+  noBox,
   flatSpace,
   flatStepped,
   flatDrawn,
@@ -102,6 +104,13 @@ space-tells g a q r e = e ∙ ap flatSpace (q .answer)
 
 pub action-tells : (a : Space) → ActionSpace a → (r : FlatSpace) → r ≡ flatSpace (saysSpace a) → r ≡ flatSpace actionSays
 action-tells a q r e = e ∙ ap flatSpace (q .answer)
+
+pub box-tells : (a : Space) (p h w : ℕ) (l t : Float) → a ≡ Box p h w l t
+    → record { refusal = 0; discrete = false; count = 0; planes = p; rows = h; cols = w; low = l; high = t } ≡ flatSpace (saysSpace a)
+box-tells a p h w l t e = rw e
+
+pub no-box-tells : (a : Space) (k : Refusal) → a ≡ RefusedSpace k → (r : FlatSpace) → r ≡ noBox (k .number) false 0 → r ≡ flatSpace (saysSpace a)
+no-box-tells a k e r p = p ∙ rw e
 
 -- ---- the first image, and an observation
 
