@@ -1,107 +1,48 @@
 -- What the arena's answer says, the flat answer says, with the same lent memory. Assumes nothing.
-use Prim.Native.Nat.{ℕ, _-_, _<_, _≤_}
+use Prim.Native.Nat.{ℕ, _<_, _≤_}
 use mathlib.Core.Path.{_≡_, refl, sym, ap, ap₂, _∙_}
 use mathlib.Core.Bool.{Bool, false, false≢true}
 use mathlib.Core.List.{List, [], _++_}
 use native.Mathlib.Omega.{arith}
 use borrow.Author.Tests.{lt-ltb, le-ltb}
 use lib.Ieee.{Float}
-use lib.IntN.{ℤ}
 use lib.ListN.{length, replicate}
 use Rattle.lists.specs.Lists.{overFront}
 use Rattle.rules.specs.State.{State}
 use Rattle.rules.specs.Events.{blank, eight}
 use Rattle.rules.specs.Image.{imageOf, stateOf}
 use Rattle.rules.specs.Step.{Transition, stepped}
-use Rattle.rules.specs.Says.{Says, refuses, gives, says, saysVerdict, saysNumber, saysKey, saysActor, saysLegal, saysMark, saysSum, saysSpace, seen, beside, lent}
-use Rattle.rules.specs.Calls.{settingSays, stepSays, Draw, drawSays, countSays, rankSays, actorSays, legalSays, keySays, truncationSays, rewardSays, spaceSays, actionSays}
+use Rattle.rules.specs.Says.{Says, refuses, gives, says, saysSpace, seen, beside, lent}
+use Rattle.rules.specs.Calls.{stepSays, Draw, drawSays}
 use Rattle.rules.specs.Orders.{stepOrder}
-use Rattle.rules.specs.Promises.{Validates, Starts, Steps, Observes, Counts, Draws, Ranks, ActsNext, Allows, Keys, Truncates, Rewards, ObservationSpace, ActionSpace}
+use Rattle.rules.specs.Promises.{Starts, Steps, Observes, Draws}
 use Rattle.rules.proofs.Tables.{given-out}
 use Rattle.rules.specs.declared.Refusal.{Refusal}
 use Rattle.rules.specs.declared.Setting.{Setting}
-use Rattle.rules.specs.declared.Weights.{Weights}
 use Rattle.rules.specs.declared.Event.{Event}
-use Rattle.rules.specs.declared.Verdict.{Verdict}
 use Rattle.rules.specs.declared.Answer.{Answer}
 use Rattle.rules.specs.declared.Answer.the-variants.{Done, Refused}
 use Rattle.rules.specs.declared.Stepped.{Stepped}
 use Rattle.rules.specs.declared.Drawn.{Drawn}
-use Rattle.rules.specs.declared.Number.{Number}
-use Rattle.rules.specs.declared.LengthCell.{LengthCell}
-use Rattle.rules.specs.declared.Actor.{Actor}
-use Rattle.rules.specs.declared.Legal.{Legal}
-use Rattle.rules.specs.declared.Truncated.{Truncated}
-use Rattle.rules.specs.declared.Reward.{Reward}
 use Rattle.rules.specs.declared.Space.{Space}
+use Rattle.rules.specs.declared.Space.the-variants.{Box, Refused as RefusedSpace}
 use Rattle.bindings.specs.declared.FlatWritten.{FlatWritten}
 use Rattle.bindings.specs.declared.FlatStepped.{FlatStepped}
 use Rattle.bindings.specs.declared.FlatDrawn.{FlatDrawn}
-use Rattle.bindings.specs.declared.FlatNumber.{FlatNumber}
-use Rattle.bindings.specs.declared.FlatKey.{FlatKey}
-use Rattle.bindings.specs.declared.FlatActor.{FlatActor}
-use Rattle.bindings.specs.declared.FlatLegal.{FlatLegal}
-use Rattle.bindings.specs.declared.FlatMarked.{FlatMarked}
-use Rattle.bindings.specs.declared.FlatSum.{FlatSum}
 use Rattle.bindings.specs.declared.FlatSpace.{FlatSpace}
-use Rattle.bindings.specs.Flat.{
-  flatVerdict,
-  flatWritten,
-  flatNumber,
-  flatKey,
-  flatActor,
-  flatLegal,
-  flatMarked,
-  flatSum,
-  flatSpace,
-  flatStepped,
-  flatDrawn,
-  partIn,
-  drawnParts,
-  tellsOf,
-  FlatStarts,
-  FlatObserves,
-  FlatDraws,
-  Tells,
-  Untold,
-  roomBeside,
-}
+use Rattle.bindings.specs.Flat.{flatWritten, noBox, flatSpace, flatStepped, flatDrawn, partIn, drawnParts, tellsOf, FlatStarts, FlatObserves, FlatDraws, Tells, Untold, roomBeside}
 
 abbrev Apart : Type 0
 Apart = _≡_ {A = ℕ} 0 1
 
--- ---- the calls that write nothing
+-- ---- a space
 
-pub verdict-tells : (s s′ : Setting) (a : Verdict) → Validates s a → s ≡ s′ → (r : ℕ) → r ≡ flatVerdict (saysVerdict a) → r ≡ flatVerdict (settingSays s′)
-verdict-tells s s′ a q p r e = e ∙ ap flatVerdict (q .answer ∙ ap settingSays p)
+pub box-tells : (a : Space) (p h w : ℕ) (l t : Float) → a ≡ Box p h w l t
+    → record { refusal = 0; discrete = false; count = 0; planes = p; rows = h; cols = w; low = l; high = t } ≡ flatSpace (saysSpace a)
+box-tells a p h w l t e = rw e
 
-module _ (w : List ℕ) where
-  pub count-tells : (a : Number) → Counts w a → (r : FlatNumber) → r ≡ flatNumber (saysNumber a) → r ≡ flatNumber (countSays w)
-  count-tells a q r e = e ∙ ap flatNumber (q .answer)
-
-  pub rank-tells : (l : List ℕ) (a : Number) → Ranks w l a → (r : FlatNumber) → r ≡ flatNumber (saysNumber a) → r ≡ flatNumber (rankSays w l)
-  rank-tells l a q r e = e ∙ ap flatNumber (q .answer)
-
-  pub key-tells : (a : LengthCell) → Keys w a → (r : FlatKey) → r ≡ flatKey (saysKey a) → r ≡ flatKey (keySays w)
-  key-tells a q r e = e ∙ ap flatKey (q .answer)
-
-  pub actor-tells : (a : Actor) → ActsNext w a → (r : FlatActor) → r ≡ flatActor (saysActor a) → r ≡ flatActor (actorSays w)
-  actor-tells a q r e = e ∙ ap flatActor (q .answer)
-
-  pub legal-tells : (i : ℕ) (a : Legal) → Allows w i a → (r : FlatLegal) → r ≡ flatLegal (saysLegal a) → r ≡ flatLegal (legalSays w i)
-  legal-tells i a q r e = e ∙ ap flatLegal (q .answer)
-
-  pub mark-tells : (i : ℕ) (x x′ : Event) (a : Truncated) → Truncates w i x a → x ≡ x′ → (r : FlatMarked) → r ≡ flatMarked (saysMark a) → r ≡ flatMarked (truncationSays w i x′)
-  mark-tells i x x′ a q p r e = e ∙ ap flatMarked (q .answer ∙ ap (truncationSays w i) p)
-
-pub sum-tells : (v v′ : Weights) (x x′ : Event) (a : Reward) → Rewards v x a → v ≡ v′ → x ≡ x′ → (r : FlatSum) → r ≡ flatSum (saysSum a) → r ≡ flatSum (rewardSays v′ x′)
-sum-tells v v′ x x′ a q pv px r e = e ∙ ap flatSum (q .answer ∙ ap₂ rewardSays pv px)
-
-pub space-tells : (g : ℤ) (a : Space) → ObservationSpace g a → (r : FlatSpace) → r ≡ flatSpace (saysSpace a) → r ≡ flatSpace (spaceSays g)
-space-tells g a q r e = e ∙ ap flatSpace (q .answer)
-
-pub action-tells : (a : Space) → ActionSpace a → (r : FlatSpace) → r ≡ flatSpace (saysSpace a) → r ≡ flatSpace actionSays
-action-tells a q r e = e ∙ ap flatSpace (q .answer)
+pub no-box-tells : (a : Space) (k : Refusal) → a ≡ RefusedSpace k → (r : FlatSpace) → r ≡ noBox (k .number) false 0 → r ≡ flatSpace (saysSpace a)
+no-box-tells a k e r p = p ∙ rw e
 
 -- ---- the first image, and an observation
 

@@ -1,6 +1,5 @@
--- `bindings::lundaspro_validate` meets its contract: what it says is what the arena's answer says (`Saying`). Assumes nothing.
+-- `bindings::lundaspro_validate` meets its contract: what it says is what the arena's answer says. Assumes nothing.
 use borrow.Author.Needs.{needs}
-use Rattle.bindings.proofs.Saying.{verdict-tells}
 use Rattle.bindings.proofs.matches.lundaspro_validate.Statement.{statement}
 use Rattle.bindings.proofs.matches.lundaspro_validate.Tie as tie
 
@@ -9,4 +8,4 @@ lundaspro-validate-spec =
     tie.close
     (tie.spec
     (λ c κs. search needs) (λ c κs. search needs) (λ c κs. search needs)
-    (λ c. search verdict-tells))
+    (λ c. cc))

@@ -1,6 +1,5 @@
--- `bindings::lundaspro_reward` meets its contract: what it says is what the arena's answer says (`Saying`). Assumes nothing.
+-- `bindings::lundaspro_reward` meets its contract: what it says is what the arena's answer says. Assumes nothing.
 use borrow.Author.Needs.{needs}
-use Rattle.bindings.proofs.Saying.{sum-tells}
 use Rattle.bindings.proofs.views.lundaspro_reward.Statement.{statement}
 use Rattle.bindings.proofs.views.lundaspro_reward.Tie as tie
 
@@ -9,4 +8,4 @@ lundaspro-reward-spec =
     tie.close
     (tie.spec
     (λ c κs. search needs) (λ c κs. search needs) (λ c κs. search needs) (λ c κs. search needs)
-    (λ c. search sum-tells))
+    (λ c. cc))

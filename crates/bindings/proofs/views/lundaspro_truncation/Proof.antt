@@ -1,6 +1,5 @@
--- `bindings::lundaspro_truncation` meets its contract: what it says is what the arena's answer says (`Saying`). Assumes nothing.
+-- `bindings::lundaspro_truncation` meets its contract: what it says is what the arena's answer says. Assumes nothing.
 use borrow.Author.Needs.{needs}
-use Rattle.bindings.proofs.Saying.{mark-tells}
 use Rattle.bindings.proofs.views.lundaspro_truncation.Statement.{statement}
 use Rattle.bindings.proofs.views.lundaspro_truncation.Tie as tie
 
@@ -9,4 +8,4 @@ lundaspro-truncation-spec =
     tie.close
     (tie.spec
     (λ c κs. search needs) (λ c κs. search needs) (λ c κs. search needs)
-    (λ c. search mark-tells))
+    (λ c. cc))
