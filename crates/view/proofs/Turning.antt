@@ -7,7 +7,7 @@ use lib.Ieee.{Float}
 use lib.ListN.{length, getD}
 use mir.Syntax.{w32, w64}
 use mir.Val.{Fits}
-use Rattle.lists.proofs.Squares.{side-pos, row-lt, col-lt, cell-lt}
+use Rattle.boards.proofs.Squares.{side-pos, row-lt, col-lt, cell-lt}
 use Rattle.rules.specs.declared.Heading.{Heading}
 use Rattle.rules.specs.declared.Heading.the-variants.{Up, Right, Down, Left}
 use Rattle.rules.proofs.Facts.{square-le}
