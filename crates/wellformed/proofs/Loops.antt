@@ -157,5 +157,5 @@ module _ (l : List ℕ) where
     rising-all h = rising-end low l k (ascending 0 l) rises h (v .rest)
 
 -- what is above a word
-pub above-fits : (l : List ℕ) (i : ℕ) → ((k : ℕ) → Fits w16 (getD l k 0)) → Fits w64 (getD l i 0 + 1)
-above-fits l i h = omega (arith, h i)
+pub above-fits : (l : List ℕ) (i d : ℕ) → ((k : ℕ) → Fits w16 (getD l k 0)) → d < 65536 → Fits w64 (getD l i 0 + d)
+above-fits l i d h e = omega (arith, h i)

@@ -23,7 +23,7 @@ rising-spec =
     (λ c. search rising-none)
     (λ c. search needs) (λ c. search needs)
     (λ c. search word-fits)
-    (λ c. search above-fits)
+    (λ c. search (needs, above-fits))
     (λ c. search needs) (λ c. search needs)
     (λ c. search rising-turn)
     (λ c. search rising-all))
