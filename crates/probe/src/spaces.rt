@@ -27,7 +27,7 @@ fn put_space(text: &mut [u8], at: usize, space: Space) -> usize {
             put(text, d, b'\n')
         }
         Space::Discrete(n) => answer_number(text, at, n as u64),
-        Space::Refused(no) => refuse(text, at, no, true),
+        Space::Refused(r) => refuse(text, at, r.number, true),
     }
 }
 
