@@ -1,8 +1,8 @@
 -- The flat forms lose nothing: an event's number tells the event, refusal 0 that an answer came, and two flat answers that meet one
 -- promise are equal, with the lent memory. Assumes nothing.
-use Prim.Native.Nat.{ℕ, zero, suc}
+use Prim.Native.Nat.{ℕ}
 use mathlib.Core.Path.{_≡_, refl, sym, ap, _∙_}
-use mathlib.Core.Bool.{Bool, true, false, not, _&&_, false≢true}
+use mathlib.Core.Bool.{Bool, true, false, not, _&&_}
 use mathlib.Core.List.{List, [], _∷_}
 use lib.Dec.{eqb, ltb}
 use borrow.Author.Tests.{eqb-true}
@@ -107,19 +107,17 @@ event-back e = same-event (eventIn (eventNumber e)) e (event-of (λ e. every (pa
 -- ---- no call refuses by 0, so that refusal 0 says that an answer came
 
 unfoldable pub named : {A : Type 0} → Says A → Bool
-named (refuses zero) = false
-named (refuses (suc k)) = true
+named (refuses k) = ltb 0 (k .number)
 named (gives a) = true
 
 pub table-named : {A : Type 0} (t : Table) (a : A) → numbered t ≡ true → named (byTable t (gives a)) ≡ true
 unfolding named byTable all
 table-named [] a h = refl
-table-named (e ∷ es) a h = go (e .0) (e .1) (and-left (ltb 0 (e .0)) (numbered es) h) (table-named es a (and-right (ltb 0 (e .0)) (numbered es) h))
+table-named (e ∷ es) a h = go (e .1) (and-left (ltb 0 (e .0 .number)) (numbered es) h) (table-named es a (and-right (ltb 0 (e .0 .number)) (numbered es) h))
   where
-    go : (n : ℕ) (b : Bool) → ltb 0 n ≡ true → named (byTable es (gives a)) ≡ true → named (refuses n if b else byTable es (gives a)) ≡ true
-    go zero b z q = absurd (false≢true z)
-    go (suc n) true z q = refl
-    go (suc n) false z q = q
+    go : (b : Bool) → ltb 0 (e .0 .number) ≡ true → named (byTable es (gives a)) ≡ true → named (refuses (e .0) if b else byTable es (gives a)) ≡ true
+    go true z q = z
+    go false z q = q
 
 module _ (w : List ℕ) (a : ℕ) where
   pub count-named : named (countSays w) ≡ true

@@ -21,7 +21,8 @@ use Rattle.boards.specs.Marks.{unmarked, Open}
 use Rattle.outcomes.specs.declared.odds.Odds.{Odds}
 use Rattle.chance.specs.Next.{nextWords, Growing}
 use Rattle.chance.specs.Answers.{drawOf, Ready, Answers}
-use Rattle.chance.proofs.NextImage.{next-is, next-long, drawn-fresh}
+use Rattle.rules.proofs.DrawFacts.{next-long}
+use Rattle.chance.proofs.NextImage.{next-is, drawn-fresh}
 use Rattle.chance.proofs.Bounds.{size-le}
 
 module _ (w : List ℕ) (i : ℕ) (o : Odds) (board : List ℕ) (room : ℕ) (list : List ℕ) (p : Ready w i o board room (length list)) where

@@ -16,7 +16,7 @@ use Rattle.lists.specs.Lists.{writeAt, overFront}
 use Rattle.rules.specs.State.{count}
 use Rattle.rules.specs.Image.{bodyOf, recordOf, imageOf, snakesIn, sideIn, foodCountIn, foodStart, foodAt, stateOf}
 use Rattle.rules.specs.Facts.{Sound}
-use Rattle.rules.specs.Chance.{drawSize, outcomes, drawn, withFood, afterDraw}
+use Rattle.rules.specs.Chance.{outcomes, drawn, withFood, afterDraw}
 use Rattle.rules.proofs.FreeCells.{free-off-food}
 use Rattle.rules.proofs.Facts.{start-first, start-mono}
 use Rattle.rules.proofs.Fairness.{listed}
@@ -70,11 +70,6 @@ module _ (w : List ℕ) (s : Sound w) where
       omega (arith, length-append (take (foodStart w - 5) (drop 5 w)) (withFood (foodAt w) cells), with-long cells (foodAt w), food-long w s)
 
   module _ (i : ℕ) (h : i < outcomes (stateOf w)) where
-    pub next-long : length (imageOf (afterDraw (stateOf w) i)) ≡ length w + drawSize (stateOf w)
-    next-long =
-        ap length (next-is i) ∙ next-words-long (afterDraw (stateOf w) i .due) (afterDraw (stateOf w) i .birth) (drawn (stateOf w) i)
-        ∙ ap (λ (k : ℕ). length w + k) (listed (stateOf w) i h .long)
-
     pub drawn-fresh : Fresh (foodAt w) (drawn (stateOf w) i)
     unfolding stateOf
     drawn-fresh =

@@ -33,7 +33,7 @@ use Rattle.chance.specs.Answers.{drawOf, Ready, Answers, Refuses}
 use Rattle.chance.specs.Ranking.{Rankable, Ranked}
 use Rattle.chance.proofs.Bounds.{size-le, count-fits}
 use Rattle.chance.proofs.Horner.{wrong-length, can-rank}
-use Rattle.chance.proofs.NextImage.{next-long}
+use Rattle.rules.proofs.DrawFacts.{next-long}
 
 -- the words of an image and of what a draw takes
 pub words-fit : (w board : List ℕ) (o : Odds) → Stands w board o → Sound w → Fits w64 (length w + o .size)

@@ -1,38 +1,40 @@
 -- The code's records of the snakes after the step, as the definition's snakes; the tests as the code makes them. Assumes nothing.
-use Prim.Native.Nat.{ℕ, _+_, _-_, _≤_}
+use Prim.Native.Nat.{ℕ, _+_, _*_, _≤_}
 use mathlib.Core.Bool.{Bool, false, not, _&&_, _||_}
 use mathlib.Core.List.{List}
 use mathlib.Core.Path.{_≡_}
-use lib.Dec.{eqb, ltb, leb}
+use lib.Dec.{eqb, ltb}
 use lib.ListN.{length, getD}
 use Rattle.lists.specs.Choice.{bit}
-use Rattle.lists.specs.Below.{someBelow, countBelow, sumBelow}
+use Rattle.lists.specs.Below.{someBelow, countBelow, sumBelow, lowestFrom}
 use Rattle.lists.specs.Lists.{member}
 use Rattle.cells.specs.Writers.{partOf, bodyWith}
 use Rattle.rules.specs.declared.Heading.the-variants.{Up}
 use Rattle.rules.specs.declared.Cause.{Cause}
 use Rattle.rules.specs.declared.Cause.the-variants.{NoCause}
-use Rattle.rules.specs.declared.Limit.{Limit}
-use Rattle.rules.specs.declared.Limit.the-variants.{Unset, Is}
 use Rattle.rules.specs.declared.Event.{Event}
 use Rattle.rules.specs.Events.{dies}
-use Rattle.rules.specs.Grid.{cellOf}
 use Rattle.rules.specs.State.{Snake}
+use Rattle.rules.specs.Step.{killerOf}
 use Rattle.judge.specs.declared.Judged.{Judged}
+use Rattle.judge.specs.World.{untouched}
 use Rattle.consequences.specs.declared.after.After.{After}
 use Rattle.consequences.specs.declared.after.Tally.{Tally}
 
 -- a judged move, settled
-abbrev pub settled : ℕ → Judged → After
-settled g j = record {
+abbrev pub settled : Judged → After
+settled j = record {
   heading = j .moved .heading;
   lives = j .moved .moves && not (dies (j .cause));
-  cell = cellOf g (j .moved .head);
+  cell = j .moved .cell;
   start = j .moved .start;
   keep = j .moved .keep;
   ate = j .moved .eats && not (dies (j .cause));
   cause = j .cause;
 }
+
+abbrev pub settledAt : List Judged → ℕ → After
+settledAt js i = settled (getD js i untouched)
 
 -- a place of the array that no snake has
 abbrev pub gone : After
@@ -79,33 +81,56 @@ pub record Counted (all : List After) (n : ℕ) (r : Tally) : Type 0 where
   pub deaths : r .deaths ≡ countBelow n (λ i. dies (causes all i))
   pub cells : r .cells ≡ sumBelow n (sizes all)
 
+-- the counts of the first i of n
+pub record Counting (all : List After) (n i alive deaths cells : ℕ) : Type 0 where
+  pub few : n ≤ 8
+  pub along : i ≤ n
+  pub lived : alive ≡ countBelow i (living all)
+  pub died : deaths ≡ countBelow i (λ i. dies (causes all i))
+  pub size : cells ≡ sumBelow i (sizes all)
+  pub lived-few : alive ≤ i
+  pub died-few : deaths ≤ i
+  pub size-small : cells ≤ 1025 * i
+
 -- ---- tests
 
 -- a survivor's body holds the cell
 abbrev pub holdsAt : List ℕ → After → ℕ → Bool
 holdsAt w a cell = later w a .alive && member cell (later w a .body)
 
+abbrev pub holdsIn : List ℕ → List After → ℕ → ℕ → Bool
+holdsIn w all cell j = holdsAt w (getD all j gone) cell
+
+-- whom the death of a snake is credited to, of n
+abbrev pub killerIn : List ℕ → List After → ℕ → ℕ → ℕ
+killerIn w all n = killerOf n (cells all) (causes all) (snakes w all)
+
 abbrev pub creditedTo : List ℕ → ℕ → ℕ → Bool
 creditedTo to j i = eqb (getD to i 0) j
 
--- two live, i and j, and i keeps more cells than j, by k or more
-abbrev pub leadsBy : List After → ℕ → ℕ → ℕ → ℕ → Bool
-leadsBy all alive k i j =
-    eqb alive 2 && (living all i && living all j && ltb (getD all j gone .keep) (getD all i gone .keep) && leb k (getD all i gone .keep - getD all j gone .keep))
+-- ---- what each function finds
 
-abbrev pub leadsIn : List After → ℕ → Limit → ℕ → ℕ → Bool
-leadsIn all alive Unset i j = false
-leadsIn all alive (Is k) i j = leadsBy all alive k i j
+pub record HasCell (w : List ℕ) (a : After) (cell : ℕ) (r : Bool) : Type 0 where
+  pub is : r ≡ holdsAt w a cell
 
--- the event of snake i, of n: the array, whom each death is credited to, the counts of the living and the dead
-abbrev pub eventAt : List After → List ℕ → ℕ → ℕ → ℕ → Limit → ℕ → Event
-eventAt all to n alive deaths lead i = record {
+pub record Holder (w : List ℕ) (all : List After) (n cell r : ℕ) : Type 0 where
+  pub is : r ≡ lowestFrom (holdsIn w all cell) 0 n
+
+pub record KilledBy (w : List ℕ) (all : List After) (n i r : ℕ) : Type 0 where
+  pub is : r ≡ killerIn w all n i
+
+pub record Credited (to : List ℕ) (n j : ℕ) (r : Bool) : Type 0 where
+  pub is : r ≡ someBelow n (creditedTo to j)
+
+-- the event of snake i, of n: the array, whom each death is credited to, the counts of the living and the dead, who leads
+abbrev pub eventAt : List After → List ℕ → ℕ → ℕ → ℕ → ℕ → ℕ → Event
+eventAt all to n alive deaths leader i = record {
   «ate_food» = eating all i;
   died = dies (causes all i);
   «death_cause» = causes all i;
   «killed_opponent» = someBelow n (creditedTo to i);
-  won = living all i && eqb alive 1 && ltb 0 deaths || someBelow n (leadsIn all alive lead i);
-  lost = dies (causes all i) && ltb 0 alive || someBelow n (λ j. leadsIn all alive lead j i);
+  won = living all i && eqb alive 1 && ltb 0 deaths || eqb i leader;
+  lost = dies (causes all i) && ltb 0 alive || (living all i && not (eqb i leader) && ltb leader n);
   drew = dies (causes all i) && eqb alive 0 && ltb 1 deaths;
   «survived_to_max_ticks» = false;
 }

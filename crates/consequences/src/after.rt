@@ -6,10 +6,8 @@ use rules::Cause;
 use rules::Heading;
 ghost use mathlib.Core.Path.{_≡_};
 ghost use Prim.Native.Nat.{_≤_};
-ghost use lib.ListN.{getD};
 ghost use Rattle.lists.specs.Below.{filled};
-ghost use Rattle.judge.specs.World.{untouched};
-ghost use Rattle.consequences.specs.After.{settled, gone, sizeOf, Short, Counted};
+ghost use Rattle.consequences.specs.After.{settled, settledAt, gone, sizeOf, Short, Counted};
 
 // A snake after the step: its body is the cell of its moved head, if it lives, and then the part of the image.
 pub struct After {
@@ -30,19 +28,17 @@ pub struct Tally {
 }
 
 // 'The dying lose their head cell', and did not eat.
-fn settle(g: u16, j: Judged) -> After
-    requires { ⌜ g ≤ 32 ⌝ }
-    ensures { λ r. ⌜ r ≡ settled g j ⌝ }
+fn settle(j: Judged) -> After
+    ensures { λ r. ⌜ r ≡ settled j ⌝ }
 {
     let m = j.moved;
     let cause = j.cause;
     let heading = m.heading;
-    let head = m.head;
     let lasts = !is_death(cause);
     After {
         heading,
         lives: m.moves & lasts,
-        cell: grid::cell_of(g, head),
+        cell: m.cell,
         start: m.start,
         keep: m.keep,
         ate: m.eats & lasts,
@@ -50,9 +46,9 @@ fn settle(g: u16, j: Judged) -> After
     }
 }
 
-pub fn settle_all(judged: [Judged; 8], n: usize, g: u16) -> [After; 8]
-    requires { ⌜ (n ≤ 8) × (g ≤ 32) ⌝ }
-    ensures { λ r. ⌜ r ≡ filled (λ i. settled g (getD judged i untouched)) n 8 gone ⌝ }
+pub fn settle_all(judged: [Judged; 8], n: usize) -> [After; 8]
+    requires { ⌜ n ≤ 8 ⌝ }
+    ensures { λ r. ⌜ r ≡ filled (settledAt judged) n 8 gone ⌝ }
 {
     let mut all = [After {
         heading: Heading::Up,
@@ -66,7 +62,7 @@ pub fn settle_all(judged: [Judged; 8], n: usize, g: u16) -> [After; 8]
     let mut i = 0;
     while i < n {
         let j = judged[i];
-        all[i] = settle(g, j);
+        all[i] = settle(j);
         i += 1;
     }
     all

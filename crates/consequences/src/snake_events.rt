@@ -2,12 +2,9 @@
 use crate::after::After;
 use crate::after::Tally;
 use crate::killers::is_killer;
-use crate::leads::is_ahead;
-use crate::leads::is_behind;
 use events::is_death;
 use events::no_events;
 use rules::Event;
-use rules::Limit;
 ghost use mathlib.Core.Path.{_≡_};
 ghost use Prim.Native.Nat.{_<_, _≤_};
 ghost use Rattle.lists.specs.Below.{filled};
@@ -19,11 +16,11 @@ fn event_of(
     to: [usize; 8],
     n: usize,
     counts: Tally,
-    lead: Limit,
+    leader: usize,
     i: usize,
 ) -> Event
     requires { ⌜ (n ≤ 8) × (i < 8) ⌝ }
-    ensures { λ r. ⌜ r ≡ eventAt all to n (counts .alive) (counts .deaths) lead i ⌝ }
+    ensures { λ r. ⌜ r ≡ eventAt all to n (counts .alive) (counts .deaths) leader i ⌝ }
 {
     let a = all[i];
     let c = a.cause;
@@ -35,8 +32,8 @@ fn event_of(
         died,
         death_cause: c,
         killed_opponent: is_killer(to, n, i),
-        won: a.lives & (alive == 1) & (0 < deaths) | is_ahead(all, n, alive, lead, i),
-        lost: died & (0 < alive) | is_behind(all, n, alive, lead, i),
+        won: a.lives & (alive == 1) & (0 < deaths) | (i == leader),
+        lost: died & (0 < alive) | a.lives & (i != leader) & (leader < n),
         drew: died & (alive == 0) & (1 < deaths),
         survived_to_max_ticks: false,
     }
@@ -47,15 +44,15 @@ pub fn all_events(
     to: [usize; 8],
     n: usize,
     counts: Tally,
-    lead: Limit,
+    leader: usize,
 ) -> [Event; 8]
     requires { ⌜ n ≤ 8 ⌝ }
-    ensures { λ r. ⌜ r ≡ filled (eventAt all to n (counts .alive) (counts .deaths) lead) n 8 blank ⌝ }
+    ensures { λ r. ⌜ r ≡ filled (eventAt all to n (counts .alive) (counts .deaths) leader) n 8 blank ⌝ }
 {
     let mut told = no_events();
     let mut i = 0;
     while i < n {
-        told[i] = event_of(all, to, n, counts, lead, i);
+        told[i] = event_of(all, to, n, counts, leader, i);
         i += 1;
     }
     told

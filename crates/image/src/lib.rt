@@ -1,4 +1,4 @@
-// The state image in 16-bit words: what its parts are, and how words are written. `shape` and `writers` are passed on, so that callers name one crate.
+// The state image in 16-bit words: what its parts are, and how words are written. It passes on the check of `wellformed` and the writers of `cells`.
 mod parts;
 mod table;
 mod words;
@@ -14,7 +14,6 @@ pub use parts::food_of;
 pub use parts::holds_in;
 use rules::Heading;
 pub use table::record_at;
-pub use table::records;
 pub use wellformed::well_formed;
 pub use words::flag;
 pub use words::heading_of;

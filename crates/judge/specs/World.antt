@@ -9,6 +9,7 @@ use Rattle.lists.specs.Below.{eachBelow}
 use Rattle.rules.specs.declared.Cause.{Cause}
 use Rattle.rules.specs.declared.Cause.the-variants.{NoCause}
 use Rattle.rules.specs.declared.Heading.the-variants.{Up}
+use Rattle.rules.specs.Grid.{cellOf}
 use Rattle.rules.specs.State.{nobody}
 use Rattle.rules.specs.Image.{snakesIn, sideIn, stateOf}
 use Rattle.rules.specs.Step.{Moved, stays, movedOf, causeOf}
@@ -17,7 +18,7 @@ use Rattle.judge.specs.declared.Judged.{Judged}
 
 -- a place of the array that no snake has
 abbrev pub still : Move
-still = record { moves = false; heading = Up; head = record { row = pos 0; col = pos 0 }; start = 0; keep = 0; eats = false }
+still = record { moves = false; heading = Up; eats = false; inside = false; head = record { row = pos 0; col = pos 0 }; cell = 0; start = 0; keep = 0 }
 
 abbrev pub shown : List ℕ → Move → Moved
 shown w m = record { moves = m .moves; heading = m .heading; head = m .head; rest = take (m .keep) (drop (m .start) w); eats = m .eats }
@@ -42,9 +43,10 @@ judgedWorld w all i = shown w (movesOf all i)
 abbrev pub movedWorld : List ℕ → List ℕ → ℕ → Moved
 movedWorld w acts i = getD (eachBelow (snakesIn w) (movedOf (stateOf w) acts)) i (stays nobody)
 
--- all moves of the image w by these actions, and for each snake the cause judged on that one world; untouched after the last snake
+-- all moves of the image w by these actions, with the cells of their heads, and for each snake the cause judged on that one world; untouched after the last snake
 pub record Judges (w acts : List ℕ) (all : List Judged) : Type 0 where
   pub moved : judgedWorld w all ≡ movedWorld w acts
   pub causes : causesOf all ≡ (λ (i : ℕ). getD (eachBelow (snakesIn w) (causeOf (sideIn w) (snakesIn w) (judgedWorld w all))) i NoCause)
+  pub cells : (i : ℕ) → movesOf all i .cell ≡ cellOf (sideIn w) (movesOf all i .head)
   pub parts : (i : ℕ) → movesOf all i .start + movesOf all i .keep ≤ length w
   pub short : (i : ℕ) → movesOf all i .keep ≤ 1024

@@ -6,19 +6,18 @@ use rules::Cause;
 use rules::Heading;
 use rules::Place;
 ghost use mathlib.Core.Path.{_≡_};
-ghost use Prim.Native.Nat.{_+_, _<_, _≤_};
+ghost use Prim.Native.Nat.{_+_, _≤_};
 ghost use lib.ListN.{length};
-ghost use Rattle.lists.specs.Below.{someBelow};
 ghost use Rattle.rules.specs.Image.{snakesIn, sideIn};
 ghost use Rattle.rules.specs.Facts.{Sound};
 ghost use Rattle.rules.specs.Step.{causeOf};
 ghost use Rattle.judge.specs.World.{world, Judges};
-ghost use Rattle.judge.specs.Judging.{Rests, meetsAt, stopsBy, stopsAt, bodyCause};
+ghost use Rattle.judge.specs.Judging.{Rests, Judging, Meets, Stops, Stopped, OnBody};
 
 // Whether another snake than i moved to the same place.
 fn head_on(all: [Move; 8], n: usize, i: usize, head: Place) -> bool
     requires { ⌜ n ≤ 8 ⌝ }
-    ensures { λ r. ⌜ r ≡ someBelow n (meetsAt all i head) ⌝ }
+    ensures { λ r. ⌜ Meets all n i head r ⌝ }
 {
     let mut found = false;
     let mut j = 0;
@@ -33,7 +32,7 @@ fn head_on(all: [Move; 8], n: usize, i: usize, head: Place) -> bool
 // Whether snake j is another than i that moved and has the cell in the rest of its body; a corpse is not searched.
 fn stops(image: &[u16], i: usize, j: usize, you: Move, cell: u16) -> bool
     requires { ⌜ you .start + you .keep ≤ length (now image) ⌝ }
-    ensures { λ r. ⌜ r ≡ stopsBy (now (image .entry)) i j you cell ⌝ }
+    ensures { λ r. ⌜ Stops (now (image .entry)) i j you cell r ⌝ }
 {
     if i == j {
         return false;
@@ -48,7 +47,7 @@ fn stops(image: &[u16], i: usize, j: usize, you: Move, cell: u16) -> bool
 fn stopped(image: &[u16], all: [Move; 8], n: usize, i: usize, cell: u16) -> bool
     requires { ⌜ n ≤ 8 ⌝ }
     requires { ⌜ Rests (now image) all ⌝ }
-    ensures { λ r. ⌜ r ≡ someBelow n (stopsAt (now (image .entry)) all i cell) ⌝ }
+    ensures { λ r. ⌜ Stopped (now (image .entry)) all n i cell r ⌝ }
 {
     let mut j = 0;
     while j < n {
@@ -63,12 +62,10 @@ fn stopped(image: &[u16], all: [Move; 8], n: usize, i: usize, cell: u16) -> bool
 
 // Most heads are on no body and no food: one search over the words of both tells that, before any body is searched by itself.
 fn body_cause(image: &[u16], all: [Move; 8], n: usize, i: usize, cell: u16) -> Cause
-    requires { ⌜ Sound (now image) ⌝ }
-    requires { ⌜ Rests (now image) all ⌝ }
-    requires { ⌜ (n ≡ snakesIn (now image)) × (i < n) ⌝ }
-    ensures { λ r. ⌜ r ≡ bodyCause (now (image .entry)) all n i cell ⌝ }
+    requires { ⌜ Judging (now image) all n i ⌝ }
+    ensures { λ r. ⌜ OnBody (now (image .entry)) all n i cell r ⌝ }
 {
-    if !lists::holds(&image[5 + 4 * n..], cell) {
+    if !lists::holds(&image[layout::front(n)..], cell) {
         return Cause::NoCause;
     }
     let me = all[i];
@@ -82,26 +79,21 @@ fn body_cause(image: &[u16], all: [Move; 8], n: usize, i: usize, cell: u16) -> C
 }
 
 fn cause_of(image: &[u16], all: [Move; 8], n: usize, i: usize) -> Cause
-    requires { ⌜ Sound (now image) ⌝ }
-    requires { ⌜ Rests (now image) all ⌝ }
-    requires { ⌜ (n ≡ snakesIn (now image)) × (i < n) ⌝ }
+    requires { ⌜ Judging (now image) all n i ⌝ }
     ensures { λ r. ⌜ r ≡ causeOf (sideIn (now (image .entry))) n (world (now (image .entry)) all) i ⌝ }
 {
     let me = all[i];
-    let head = me.head;
     if !me.moves {
         return Cause::NoCause;
     }
-    let g = image[1];
-    let inside = grid::on_grid(g, head);
-    let met = head_on(all, n, i, head);
+    let met = head_on(all, n, i, me.head);
     if met {
         return Cause::HeadOn;
     }
-    if !inside {
+    if !me.inside {
         return Cause::Wall;
     }
-    body_cause(image, all, n, i, grid::cell_of(g, head))
+    body_cause(image, all, n, i, me.cell)
 }
 
 // Every snake's move and cause.
@@ -116,10 +108,12 @@ pub fn judge(image: &[u16], actions: &[u64]) -> [Judged; 8]
         moved: Move {
             moves: false,
             heading: Heading::Up,
+            eats: false,
+            inside: false,
             head: Place { row: 0, col: 0 },
+            cell: 0,
             start: 0,
             keep: 0,
-            eats: false,
         },
         cause: Cause::NoCause,
     }; 8];

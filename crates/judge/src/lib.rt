@@ -7,12 +7,14 @@ use rules::Cause;
 use rules::Heading;
 use rules::Place;
 
-// A snake after the move: the rest of its body is the part of the image of `keep` words from `start` on.
+// A snake after the move: its head, whether that is inside the grid, and its cell there; the rest of its body is the part of the image of `keep` words from `start` on.
 pub struct Move {
     pub moves: bool,
     pub heading: Heading,
     pub eats: bool,
+    pub inside: bool,
     pub head: Place,
+    pub cell: u16,
     pub start: u16,
     pub keep: u16,
 }

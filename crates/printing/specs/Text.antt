@@ -80,11 +80,11 @@ unfoldable pub refusalText : ℕ → List ℕ
 refusalText k = (114 ∷ []) ++ (32 ∷ decimalText k) ++ (10 ∷ [])
 
 -- '`p` and each place'
-abbrev pub placeText : List ℕ → ℕ → List ℕ
-placeText ps i = 32 ∷ decimalText (getD ps i 0)
+abbrev pub placingText : List ℕ → ℕ → List ℕ
+placingText ps i = 32 ∷ decimalText (getD ps i 0)
 
 unfoldable pub placingsText : List ℕ → ℕ → List ℕ
-placingsText ps n = (112 ∷ []) ++ concatBelow n (placeText ps) ++ (10 ∷ [])
+placingsText ps n = (112 ∷ []) ++ concatBelow n (placingText ps) ++ (10 ∷ [])
 
 -- ---- what a writer does
 

@@ -1,4 +1,4 @@
-// The parts of an output line: head, body, events; the lines of a refusal and of the places.
+// The parts of an output line: head, body, events; the lines of a refusal and of the placings.
 use crate::bytes::digit_of;
 use crate::bytes::put;
 use crate::bytes::put_if;
@@ -12,7 +12,7 @@ ghost use mathlib.Core.List.{_∷_};
 ghost use Prim.Native.Nat.{_+_, _≤_};
 ghost use lib.ListN.{length};
 ghost use Rattle.lists.specs.Below.{concatBelow};
-ghost use Rattle.printing.specs.Text.{Wrote, letterOf, deedsText, endsText, eventsText, firstText, bodyText, headText, refusalText, placeText, placingsText};
+ghost use Rattle.printing.specs.Text.{Wrote, letterOf, deedsText, endsText, eventsText, firstText, bodyText, headText, refusalText, placingText, placingsText};
 
 fn letter_of(c: Cause) -> u8
     ensures { λ r. ⌜ r ≡ letterOf c ⌝ }
@@ -101,7 +101,7 @@ pub fn put_refusal(out: &mut [u8], k: u64) -> usize
 
 fn put_each(out: &mut [u8], from: usize, all: [u64; 8], n: usize) -> usize
     requires { ⌜ (n ≤ 8) × (from + 168 ≤ length (now out)) ⌝ }
-    ensures { λ r. ⌜ Wrote (now (out .entry)) (now (out .exit)) from r (concatBelow n (placeText all)) 168 ⌝ }
+    ensures { λ r. ⌜ Wrote (now (out .entry)) (now (out .exit)) from r (concatBelow n (placingText all)) 168 ⌝ }
 {
     let mut at = from;
     let mut i = 0;
@@ -112,7 +112,7 @@ fn put_each(out: &mut [u8], from: usize, all: [u64; 8], n: usize) -> usize
     at
 }
 
-// The line of the places.
+// The line of the placings.
 pub fn put_placings(out: &mut [u8], all: [u64; 8], n: usize) -> usize
     requires { ⌜ (n ≤ 8) × (170 ≤ length (now out)) ⌝ }
     ensures { λ r. ⌜ Wrote (now (out .entry)) (now (out .exit)) 0 r (placingsText all n) 170 ⌝ }

@@ -14,6 +14,7 @@ use Rattle.rules.specs.declared.Answer.{Answer}
 use Rattle.rules.specs.declared.Answer.the-variants.{Done as DoneWords, Refused}
 use Rattle.rules.specs.declared.Drawn.{Drawn}
 use Rattle.rules.specs.declared.Event.{Event}
+use Rattle.rules.specs.declared.Refusal.{Refusal}
 use Rattle.rules.specs.declared.Setting.{Setting}
 use Rattle.rules.specs.declared.Stepped.{Stepped}
 use Rattle.printing.specs.Text.{lineText}
@@ -28,10 +29,10 @@ use Rattle.referee.proofs.Playing.{Done, done, done-by, stopped, shown,
 
 module _ {A : Type 0} (f : A → Turn) (x : Says A) (old new : List ℕ) (a : Answer)
     (pa : says a ≡ seen (λ t. length (imageOf (f t .next))) x) (pw : new ≡ lent (λ t. imageOf (f t .next)) old x) where
-  stops-by : (k : ℕ) → a ≡ Refused k → (j : ℕ) → j ≡ refusalIn (says a) → (m : Match) (out exit : List ℕ) (r : Turned) → Stops m j out exit r → Plays (seen f x) m old new out exit r
+  stops-by : (k : Refusal) → a ≡ Refused k → (j : ℕ) → j ≡ refusalIn (says a) → (m : Match) (out exit : List ℕ) (r : Turned) → Stops m j out exit r → Plays (seen f x) m old new out exit r
   stops-by k told j pj m out exit r s =
       let e = refused-by x (λ t. length (imageOf (f t .next))) k (ap says (sym told) ∙ pa) in
-      let q : j ≡ k = pj ∙ ap (λ (b : Answer). refusalIn (says b)) told in
+      let q : j ≡ k .number = pj ∙ ap (λ (b : Answer). refusalIn (says b)) told in
       stopped f x m old new out exit r k e pw (rw q at s)
 
   module _ (n : ℕ) (told : a ≡ DoneWords n) where
@@ -55,7 +56,7 @@ module _ {A : Type 0} (f : A → Turn) (x : Says A) (old new : List ℕ) (a : An
 -- ---- the first line
 
 module _ (s : Setting) (old new : List ℕ) (a : Answer) (q : Starts s old new a) where
-  pub open-stops : (k : ℕ) → a ≡ Refused k → (j : ℕ) → j ≡ refusalIn (says a)
+  pub open-stops : (k : Refusal) → a ≡ Refused k → (j : ℕ) → j ≡ refusalIn (says a)
       → (m : Match) (out exit : List ℕ) (r : Turned) → Stops m j out exit r → Plays (seen (opened s) (initialSays s (length old))) m old new out exit r
   open-stops = stops-by (opened s) (initialSays s (length old)) old new a (q .answer) (q .words)
 
@@ -75,7 +76,7 @@ module _ (s : Setting) (old new : List ℕ) (a : Answer) (q : Starts s old new a
 -- ---- a draw
 
 module _ (w : List ℕ) (i : ℕ) (old new cells after : List ℕ) (d : Drawn) (q : Draws w i old new cells after d) (m : Match) where
-  pub draw-stops : (k : ℕ) → d .answer ≡ Refused k → (j : ℕ) → j ≡ refusalIn (says (d .answer))
+  pub draw-stops : (k : Refusal) → d .answer ≡ Refused k → (j : ℕ) → j ≡ refusalIn (says (d .answer))
       → (out exit : List ℕ) (r : Turned) → Stops m j out exit r → Plays (seen (drawnTurn m) (drawSays w i (length old) (length cells))) m old new out exit r
   draw-stops k told j pj = stops-by (drawnTurn m) (drawSays w i (length old) (length cells)) old new (d .answer) (q .answer) (q .words) k told j pj m
 
@@ -98,7 +99,7 @@ module _ (m : Match) (w acts old new : List ℕ) (s : Stepped) (q : Steps (m .se
   abbrev x : Says Transition
   x = stepSays (m .setting) w acts (length old)
 
-  pub move-stops : (k : ℕ) → s .answer ≡ Refused k → (j : ℕ) → j ≡ refusalIn (says (s .answer))
+  pub move-stops : (k : Refusal) → s .answer ≡ Refused k → (j : ℕ) → j ≡ refusalIn (says (s .answer))
       → (out exit : List ℕ) (r : Turned) → Stops m j out exit r → Plays (seen (movedTurn m) x) m old new out exit r
   unfolding movedTurn
   move-stops k told j pj = stops-by (movedTurn m) x old new (s .answer) (q .answer) (q .words) k told j pj m

@@ -18,6 +18,7 @@ use Rattle.rules.specs.Says.{Says, refuses, gives, seen, lent}
 use Rattle.rules.specs.Step.{Transition}
 use Rattle.rules.specs.Events.{blank, eight}
 use Rattle.rules.specs.declared.Event.{Event}
+use Rattle.rules.specs.declared.Refusal.{Refusal}
 use Rattle.rules.proofs.Image.{snakes-is}
 use Rattle.parsing.specs.Lines.{readLater}
 use Rattle.printing.specs.Text.{lineText, refusalText}
@@ -51,8 +52,8 @@ module _ {A : Type 0} (g : A → State) (old new : List ℕ) (n : ℕ) where
       done a refl p w f l
 
 -- a refusal of the call is a refusal of the line
-pub stopped : {A : Type 0} (f : A → Turn) (x : Says A) (m : Match) (old new out exit : List ℕ) (r : Turned) (k : ℕ)
-    → x ≡ refuses k → new ≡ lent (λ a. imageOf (f a .next)) old x → Stops m k out exit r → Plays (seen f x) m old new out exit r
+pub stopped : {A : Type 0} (f : A → Turn) (x : Says A) (m : Match) (old new out exit : List ℕ) (r : Turned) (k : Refusal)
+    → x ≡ refuses k → new ≡ lent (λ a. imageOf (f a .next)) old x → Stops m (k .number) out exit r → Plays (seen f x) m old new out exit r
 stopped f (refuses j) m old new out exit r k e w s =
     let p : j ≡ k = cc in
     record { more = s .more; game = s .game; words = s .words; image = w; long = ap length w; text = rw p (s .text) }
@@ -90,7 +91,7 @@ shown-move m o old new out exit r w i n b over es p q s =
     shown (movedTurn m o) m old new out exit r 109 t w (eventsShown m t w v) i (ap (lineText 109 t (o .next)) g) n b a
 
 -- a line that is refused before any call
-pub refused-line : (m : Match) (k : ℕ) (old out exit : List ℕ) (r : Turned) → Stops m k out exit r → Plays (refuses k) m old old out exit r
+pub refused-line : (m : Match) (k : Refusal) (old out exit : List ℕ) (r : Turned) → Stops m (k .number) out exit r → Plays (refuses k) m old old out exit r
 refused-line m k old out exit r s = record { more = s .more; game = s .game; words = s .words; image = refl; long = refl; text = s .text }
 
 -- '33 comes before 32'

@@ -17,6 +17,7 @@ use Rattle.rules.specs.Chance.{drawn, afterDraw}
 use Rattle.rules.specs.Says.{Says, refuses, gives, seen}
 use Rattle.rules.specs.Calls.{initialSays, stepSays, Draw, drawSays}
 use Rattle.rules.specs.Orders.{initialOrder, stepOrder, drawOrder}
+use Rattle.rules.specs.declared.Refusal.{Refusal}
 use Rattle.rules.specs.declared.Setting.{Setting}
 use Rattle.rules.proofs.Facts.{sound}
 use Rattle.rules.proofs.Tables.{given-out, given-is}
@@ -25,8 +26,8 @@ use Rattle.rules.proofs.Parts.{state-count}
 -- ---- an answer seen through f
 
 module _ {A : Type 0} where
-  pub refused-by : (x : Says A) (f : A → ℕ) (k : ℕ) → refuses k ≡ seen f x → x ≡ refuses k
-  refused-by (refuses j) f k e = let p : j ≡ k = cc in ap (λ (i : ℕ). refuses i) p
+  pub refused-by : (x : Says A) (f : A → ℕ) (k : Refusal) → refuses k ≡ seen f x → x ≡ refuses k
+  refused-by (refuses j) f k e = let p : j ≡ k = cc in ap refuses p
   refused-by (gives a) f k e = let z : _≡_ {A = ℕ} 0 1 = cc in absurd (omega arith)
 
 -- ---- the next state of a call that is not refused

@@ -101,7 +101,7 @@ turnSays m w line room cells = refuses (by 33) if m .over else asked m w room ce
 
 -- what a line prints: a refusal its number
 abbrev pub said : Says Turn → List ℕ
-said (refuses k) = refusalText k
+said (refuses k) = refusalText (k .number)
 said (gives t) = t .text
 
 -- the promise of a call that takes a line of match m: its answer, the next image in the lent words, the text in the lent bytes
@@ -115,7 +115,7 @@ pub record Plays (turn : Says Turn) (m : Match) (old new out exit : List ℕ) (r
 
 -- its number, where it is a refusal
 abbrev pub refusalIn : {A : Type 0} → Says A → ℕ
-refusalIn (refuses k) = k
+refusalIn (refuses k) = k .number
 refusalIn (gives a) = 0
 
 -- the two ways in which a call ends: a refusal printed, or the line of an image w
@@ -145,7 +145,7 @@ closeText d = endText (d .game) if d .begun else refusalText 32
 
 -- what a line prints, and what is printed after it: 'A refusal prints `r` and its number and stops'
 abbrev pub onward : Says Turn → (Turn → List ℕ) → List ℕ
-onward (refuses k) after = refusalText k
+onward (refuses k) after = refusalText (k .number)
 onward (gives t) after = t .text ++ after t
 
 -- 'At the end of input, `p`'

@@ -81,7 +81,7 @@ pub fn take_line(
     t
 }
 
-// The end of the input: the places, or 32 where there was no line.
+// The end of the input: the placings, or 32 where there was no line.
 pub fn close(d: Desk, out: &mut [u8]) -> usize
     requires { ⌜ 462 ≤ length (now out) ⌝ }
     ensures { λ r. ⌜ Wrote (now (out .entry)) (now (out .exit)) 0 r (closeText d) 170 ⌝ }

@@ -44,7 +44,7 @@ fn number_of(a: Answer) -> u64
 {
     match a {
         Answer::Done(_) => 0,
-        Answer::Refused(k) => k as u64,
+        Answer::Refused(r) => r.number as u64,
     }
 }
 

@@ -86,11 +86,12 @@ module _ (t : State) where
 
 -- ---- what a draw leaves as it was, and what it changes
 
--- a draw that is not at birth sets all apples that are due, or as many as there are free cells
+-- a draw that is not at birth adds the cells drawn to the food, and leaves nothing due
 pub settled : (t : State) (i : ℕ) → t .birth ≡ false → Settled t i
 unfolding afterDraw
 settled t i b = record { side = refl; snakes = refl; birth = rw b; due = rw b; food = refl }
 
+-- it draws all that is due, or as many cells as are free
 pub later-size : (t : State) → t .birth ≡ false → drawSize t ≡ min (t .due) (length (free t))
 later-size t b = rw b
 
@@ -103,7 +104,7 @@ module _ (t : State) (b : t .birth ≡ true) where
   one : 0 < length (free t) → drawSize t ≡ 1
   one h = birth-size t b ∙ omega arith
 
-  -- the count is n
+  -- the count is n, where a cell is free
   pub birth-count : 0 < length (free t) → outcomes t ≡ length (free t)
   unfolding outcomes falling
   birth-count h = rw (one h) (go (length (free t)))

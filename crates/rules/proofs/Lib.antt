@@ -25,7 +25,6 @@ pub mod SmallGrids
 pub mod StepFacts
 pub mod SettingFacts
 pub mod InitialFacts
-pub mod Extremes
 pub mod TakenWords
 pub mod FairCalls
 pub mod Tables

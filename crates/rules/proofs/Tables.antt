@@ -69,6 +69,26 @@ module _ {A : Type 0} where
   table-both [] u r = refl
   table-both (e ∷ es) u r = ap (λ (x : Says A). refuses (e .0) if e .1 else x) (table-both es u r)
 
+  -- what two tables in a row say by the answer of the first: its refusal, or what the second says
+  abbrev pub andThen : Says (Unit {0}) → Says A → Says A
+  andThen (refuses k) r = refuses k
+  andThen (gives u) r = r
+
+  pub table-after : (t u : Table) (r : Says A) → byTable (t ++ u) r ≡ andThen (byTable t (gives tt)) (byTable u r)
+  unfolding byTable
+  table-after [] u r = refl
+  table-after (e ∷ es) u r = go (e .1) (table-after es u r)
+    where
+      go : (b : Bool) → byTable (es ++ u) r ≡ andThen (byTable es (gives tt)) (byTable u r)
+          → (refuses (e .0) if b else byTable (es ++ u) r) ≡ andThen (refuses (e .0) if b else byTable es (gives tt)) (byTable u r)
+      go true q = refl
+      go false q = q
+
+  -- where both give, so does the second
+  pub then-gives : (x : Says (Unit {0})) (r : Says A) (a : A) → andThen x r ≡ gives a → r ≡ gives a
+  then-gives (refuses k) r a h = let z : _≡_ {A = ℕ} 0 1 = cc in absurd (omega arith)
+  then-gives (gives u) r a h = h
+
   -- a refusal is that of the first row that holds
   pub table-refuses : (t : Table) (a : A) (k : Refusal) → byTable t (gives a) ≡ refuses k → FirstRow t k
   unfolding byTable all
@@ -108,14 +128,14 @@ module _ {A : Type 0} where
     given-is = table-given t a b e .1
 
   -- the same, where what is given is seen through f
-  pub seen-none : {B : Type 0} (f : A → B) (t : Table) (a : A) (n : B) → seen f (byTable t (gives a)) ≡ gives n → noneHold t ≡ true
-  unfolding byTable all
-  seen-none f [] a n h = refl
-  seen-none f (e ∷ es) a n h = go (e .0) (e .1) (λ q. seen-none f es a n q) h
+  pub table-seen : {B : Type 0} (f : A → B) (t : Table) (a : A) → seen f (byTable t (gives a)) ≡ byTable t (gives (f a))
+  unfolding byTable
+  table-seen f [] a = refl
+  table-seen f (e ∷ es) a = go (e .0) (e .1) (table-seen f es a)
     where
-      go : (k : Refusal) (c : Bool) → (seen f (byTable es (gives a)) ≡ gives n → noneHold es ≡ true) → seen f (refuses k if c else byTable es (gives a)) ≡ gives n → (not c && noneHold es) ≡ true
-      go k true later q = let z : _≡_ {A = ℕ} 0 1 = cc in absurd (omega arith)
-      go k false later q = later q
+      go : (n : Refusal) (c : Bool) → seen f (byTable es (gives a)) ≡ byTable es (gives (f a)) → seen f (refuses n if c else byTable es (gives a)) ≡ (refuses n if c else byTable es (gives (f a)))
+      go n true q = refl
+      go n false q = q
 
   -- of two tables in a row, the second is asked where the first finds nothing
   pub table-then : (t u : Table) (r : Says A) → numbered t ≡ true → byTable (t ++ u) r ≡ first (fault t) (byTable u r)

@@ -43,11 +43,15 @@ onFood g food p = inside (pos g) p && member (cellOf g p) food
 abbrev pub goes : List ℕ → Heading → Place → Bool → Moved
 goes body h p e = record { moves = true; heading = h; head = p; rest = body if e else take (length body - 1) body; eats = e }
 
+-- where a head at cell c goes, heading h, on a grid of side g: nothing else here asks for a neighbour
+abbrev pub headTo : ℕ → Heading → ℕ → Place
+headTo g h c = ahead h (placeOf g c)
+
 -- snake z acts a, on a grid of side g with this food
 abbrev pub move : ℕ → List ℕ → Snake → ℕ → Moved
 move g food z a =
     let h = turned (z .heading) (actionOf a) in
-    let p = ahead h (placeOf g (getD (z .body) 0 0)) in
+    let p = headTo g h (getD (z .body) 0 0) in
     goes (z .body) h p (onFood g food p) if z .alive else stays z
 
 abbrev pub movedOf : State → List ℕ → ℕ → Moved

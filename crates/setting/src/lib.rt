@@ -3,6 +3,7 @@ mod limits;
 mod place;
 mod start;
 
+use layout::front;
 use limits::limits;
 use limits::side_of;
 use place::place_check;
@@ -16,6 +17,7 @@ ghost use lib.ListN.{length};
 ghost use Rattle.rules.specs.Setting.{settingCheck};
 ghost use Rattle.rules.specs.SettingParts.{startCells};
 ghost use Rattle.rules.specs.Promises.{Validates, Starts};
+ghost use Rattle.setting.specs.Starts.{Startable};
 ghost use Rattle.setting.specs.Tested.{Tested, Verdicts};
 
 // 0 where the setting is accepted, and then the cells of all bodies stand at the front of `cells`.
@@ -51,13 +53,12 @@ pub fn validate(setting: Setting) -> Verdict
 
 // The words of the initial state of an accepted setting; `cells` are the cells of its bodies.
 fn write_state(setting: Setting, cells: &[u16], out: &mut [u16]) -> Answer
-    requires { ⌜ settingCheck setting ≡ 0 ⌝ }
-    requires { ⌜ now cells ≡ startCells setting ⌝ }
+    requires { ⌜ Startable setting (now cells) ⌝ }
     ensures { λ r. ⌜ Starts setting (now (out .entry)) (now (out .exit)) r ⌝ }
 {
     let n = setting.num_snakes as usize;
     let size = setting.initial_length as usize;
-    let words = 5 + 4 * n + cells.len();
+    let words = front(n) + cells.len();
     if out.len() < words {
         return Answer::Refused(refusals::by(29));
     }

@@ -1,4 +1,4 @@
--- The places at the end of a match (01, 'Replay'). Assumes nothing.
+-- The placings at the end of a match: a snake's place, in the words of 01, 'Replay'. Assumes nothing.
 use Prim.Native.Nat.{ℕ, _+_}
 use mathlib.Core.Bool.{Bool, _||_}
 use mathlib.Core.List.{List}
@@ -20,6 +20,6 @@ outlasts deaths i j = outlives (getD deaths i 0) (getD deaths j 0)
 unfoldable pub placingOf : ℕ → List ℕ → ℕ → ℕ
 placingOf n deaths i = 1 if eqb (getD deaths i 0) 0 else (1 + countBelow n (outlasts deaths i))
 
--- the places of n snakes, in a table of eight
+-- the placings of n snakes, in a table of eight
 unfoldable pub placingsOf : ℕ → List ℕ → List ℕ
 placingsOf n deaths = filled (placingOf n deaths) n 8 0

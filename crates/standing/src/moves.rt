@@ -3,6 +3,7 @@ use crate::Match;
 use crate::ranks::placings;
 use events::mark;
 use events::no_events;
+use layout::alive_at;
 use lists::word_at;
 use printing::put_placings;
 use rules::Event;
@@ -66,7 +67,7 @@ pub fn mark_all(image: &[u16], events: [Event; 8], n: usize) -> [Event; 8]
     let mut i = 0;
     while i < n {
         let e = events[i];
-        out[i] = mark(e, word_at(image, 8 + 4 * i) == 1);
+        out[i] = mark(e, word_at(image, alive_at(i)) == 1);
         i += 1;
     }
     out
@@ -108,7 +109,7 @@ pub fn after_move(m: Match, over: bool, events: [Event; 8]) -> Match
     }
 }
 
-// The last line: the places.
+// The last line: the placings.
 pub fn put_end(out: &mut [u8], m: Match) -> usize
     requires { ⌜ 170 ≤ length (now out) ⌝ }
     ensures { λ r. ⌜ Wrote (now (out .entry)) (now (out .exit)) 0 r (endText m) 170 ⌝ }

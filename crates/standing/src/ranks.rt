@@ -1,4 +1,4 @@
-// The places at the end of a match.
+// The placings at the end of a match.
 use lists::more_if;
 ghost use mathlib.Core.Path.{_≡_};
 ghost use Prim.Native.Nat.{_<_, _≤_};
@@ -25,7 +25,7 @@ fn outlast_count(deaths: [u64; 8], n: usize, i: usize) -> usize
     k
 }
 
-fn place_of(deaths: [u64; 8], n: usize, i: usize) -> u64
+fn placing_of(deaths: [u64; 8], n: usize, i: usize) -> u64
     requires { ⌜ (n ≤ 8) × (i < 8) ⌝ }
     ensures { λ r. ⌜ r ≡ placingOf n deaths i ⌝ }
 {
@@ -36,7 +36,7 @@ fn place_of(deaths: [u64; 8], n: usize, i: usize) -> u64
     1 + k
 }
 
-// The places of n snakes, by the moves on which they died, 0 for the living.
+// The placings of n snakes, by the moves on which they died, 0 for the living.
 pub fn placings(deaths: [u64; 8], n: usize) -> [u64; 8]
     requires { ⌜ n ≤ 8 ⌝ }
     ensures { λ r. ⌜ r ≡ placingsOf n deaths ⌝ }
@@ -44,7 +44,7 @@ pub fn placings(deaths: [u64; 8], n: usize) -> [u64; 8]
     let mut out = [0u64; 8];
     let mut i = 0;
     while i < n {
-        out[i] = place_of(deaths, n, i);
+        out[i] = placing_of(deaths, n, i);
         i += 1;
     }
     out

@@ -1,4 +1,7 @@
 // An output line of the words of an image. Words past its end read as 0, so that nothing is asked of the image.
+use layout::alive_at;
+use layout::length_at;
+use layout::start_at;
 use lists::word_at;
 use printing::put;
 use printing::put_body;
@@ -18,7 +21,7 @@ fn first_of(image: &[u16], i: usize) -> u64
     requires { ⌜ i < 8 ⌝ }
     ensures { λ r. ⌜ r ≡ word (now (image .entry)) (word (now (image .entry)) (5 + 4 * i)) ⌝ }
 {
-    let start = word_at(image, 5 + 4 * i) as usize;
+    let start = word_at(image, start_at(i)) as usize;
     word_at(image, start)
 }
 
@@ -26,8 +29,8 @@ fn put_snake(out: &mut [u8], at: usize, image: &[u16], i: usize, e: Event) -> us
     requires { ⌜ (i < 8) × (at + 52 ≤ length (now out)) ⌝ }
     ensures { λ r. ⌜ Wrote (now (out .entry)) (now (out .exit)) at r (snakeShown (now (image .entry)) i e) 52 ⌝ }
 {
-    let size = word_at(image, 6 + 4 * i);
-    let alive = word_at(image, 8 + 4 * i) == 1;
+    let size = word_at(image, length_at(i));
+    let alive = word_at(image, alive_at(i)) == 1;
     let j = put_body(out, at, alive, size, first_of(image, i));
     let k = put(out, j, b':');
     put_events(out, k, e)

@@ -8,6 +8,7 @@ use lib.ListN.{length, replicate}
 use Rattle.lists.specs.Choice.{_if_else_}
 use Rattle.rules.specs.declared.Stepped.{Stepped}
 use Rattle.rules.specs.Events.{blank, eight}
+use Rattle.rules.specs.Grid.{cellOf}
 use Rattle.rules.specs.Image.{snakesIn, sideIn, imageOf}
 use Rattle.rules.specs.Tables.{by}
 use Rattle.rules.specs.Says.{Says, refuses, gives, seen, beside, lent, says}
@@ -15,9 +16,10 @@ use Rattle.rules.specs.Step.{causeOf, Transition}
 use Rattle.judge.specs.declared.Judged.{Judged}
 use Rattle.judge.specs.World.{movesOf, causesOf, judgedWorld}
 
--- a judged array: each cause is that of the world it holds, each rest is a part of the image, no longer than a body
+-- a judged array: each cause is that of the world it holds, each cell that of its head, each rest is a part of the image, no longer than a body
 pub record Ready (w : List ℕ) (js : List Judged) : Type 0 where
   pub causes : (i : ℕ) → i < snakesIn w → causesOf js i ≡ causeOf (sideIn w) (snakesIn w) (judgedWorld w js) i
+  pub cells : (i : ℕ) → i < snakesIn w → movesOf js i .cell ≡ cellOf (sideIn w) (movesOf js i .head)
   pub parts : (i : ℕ) → i < snakesIn w → movesOf js i .start + movesOf js i .keep ≤ length w
   pub short : (i : ℕ) → i < snakesIn w → movesOf js i .keep ≤ 1024
 

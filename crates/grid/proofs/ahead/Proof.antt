@@ -8,33 +8,10 @@ use borrow.Author.Needs.{needs}
 use Rattle.grid.proofs.ahead.Statement.{statement}
 use Rattle.grid.proofs.ahead.Tie as tie
 
-enum-told : tie.Need-enum-told
-enum-told c = search needs
-
-less-requires : tie.Need-less-requires
-less-requires c κs = search needs
-
-enum-told-2 : tie.Need-enum-told-2
-enum-told-2 c = search needs
-
-more-requires : tie.Need-more-requires
-more-requires c κs = search needs
-
-enum-told-3 : tie.Need-enum-told-3
-enum-told-3 c = search needs
-
-more-requires-2 : tie.Need-more-requires-2
-more-requires-2 c κs = search needs
-
-enum-told-4 : tie.Need-enum-told-4
-enum-told-4 c = search needs
-
-less-requires-2 : tie.Need-less-requires-2
-less-requires-2 c κs = search needs
-
 returns : tie.Need-returns
 returns c =
-    let p = c .before .before .before .before .before .args .p in
+    let start : tie.Start = search in
+    let p = start .args .p in
     let l : toZ w32 (ofZ w32 (c .less .result)) ≡ c .less .result = search needs in
     let k : toZ w32 (ofZ w32 (p .col)) ≡ p .col = search needs in
     let m : toZ w32 (ofZ w32 (p .row)) ≡ p .row = search needs in
@@ -42,7 +19,8 @@ returns c =
 
 returns-2 : tie.Need-returns-2
 returns-2 c =
-    let p = c .before .before .before .before .before .args .p in
+    let start : tie.Start = search in
+    let p = start .args .p in
     let l : toZ w32 (ofZ w32 (c .more .result)) ≡ c .more .result = search needs in
     let k : toZ w32 (ofZ w32 (p .row)) ≡ p .row = search needs in
     let m : toZ w32 (ofZ w32 (p .col)) ≡ p .col = search needs in
@@ -50,7 +28,8 @@ returns-2 c =
 
 returns-3 : tie.Need-returns-3
 returns-3 c =
-    let p = c .before .before .before .before .before .args .p in
+    let start : tie.Start = search in
+    let p = start .args .p in
     let l : toZ w32 (ofZ w32 (c .more2 .result)) ≡ c .more2 .result = search needs in
     let k : toZ w32 (ofZ w32 (p .col)) ≡ p .col = search needs in
     let m : toZ w32 (ofZ w32 (p .row)) ≡ p .row = search needs in
@@ -58,7 +37,8 @@ returns-3 c =
 
 returns-4 : tie.Need-returns-4
 returns-4 c =
-    let p = c .before .before .before .before .before .args .p in
+    let start : tie.Start = search in
+    let p = start .args .p in
     let l : toZ w32 (ofZ w32 (c .less2 .result)) ≡ c .less2 .result = search needs in
     let k : toZ w32 (ofZ w32 (p .row)) ≡ p .row = search needs in
     let m : toZ w32 (ofZ w32 (p .col)) ≡ p .col = search needs in
@@ -68,14 +48,8 @@ pub ahead-spec : {M : Type 1} → statement M
 ahead-spec =
     tie.close
     (tie.spec
-    enum-told
-    less-requires
-    enum-told-2
-    more-requires
-    enum-told-3
-    more-requires-2
-    enum-told-4
-    less-requires-2
+    (λ c. search needs) (λ c κs. search needs) (λ c. search needs) (λ c κs. search needs) (λ c. search needs)
+    (λ c κs. search needs) (λ c. search needs) (λ c κs. search needs)
     returns
     returns-2
     returns-3

@@ -25,37 +25,42 @@ module _ (g : ℕ) (p : Place) (s : g ≤ 32) (i : inside (pos g) p ≡ true) wh
   sum-fits : natAbs (p .row) * g + natAbs (p .col) < 65536
   sum-fits = omega (arith, cell-below g p i, cell-is g p i, square-le g s)
 
-on-grid-requires : tie.Need-on-grid-requires
-on-grid-requires c κs = search needs
-
 plain-requires : tie.Need-plain-requires
 plain-requires c κs =
-    let a = c .before .before .before .before .args in
+    let start : tie.Start = search in
+    let a = start .args in
     let i = sym (c .before .on-grid .ensures) ∙ c .if1 .taken in
     let e : toZ w32 (ofZ w32 (a .p .row)) ≡ a .p .row = search needs in
     rw e (row-fits (a .g) (a .p) (search needs) i)
 
 mul-result : tie.Need-mul-result
 mul-result c =
-    let a = c .before .before .before .before .before .args in
+    let after-on-grid : tie.After-on-grid = search in
+    let start : tie.Start = search in
+    let a = start .args in
     let s : a .g ≤ 32 = search needs in
-    let i = sym (c .before .before .on-grid .ensures) ∙ c .before .if1 .taken in
+    let i = sym (after-on-grid .on-grid .ensures) ∙ c .before .if1 .taken in
     let e : toZ w32 (ofZ w32 (a .p .row)) ≡ a .p .row = search needs in
     let m : c .plain .result * a .g ≡ natAbs (a .p .row) * a .g = ap (λ (k : ℕ). k * a .g) (c .plain .ensures ∙ ap natAbs e) in
     record { fits = omega (arith, m, sum-fits (a .g) (a .p) s i) }
 
 plain-requires-2 : tie.Need-plain-requires-2
 plain-requires-2 c κs =
-    let a = c .before .before .before .before .before .args in
-    let i = sym (c .before .before .on-grid .ensures) ∙ c .before .if1 .taken in
+    let after-on-grid : tie.After-on-grid = search in
+    let start : tie.Start = search in
+    let a = start .args in
+    let i = sym (after-on-grid .on-grid .ensures) ∙ c .before .if1 .taken in
     let e : toZ w32 (ofZ w32 (a .p .col)) ≡ a .p .col = search needs in
     rw e (col-fits (a .g) (a .p) (search needs) i)
 
 add-result : tie.Need-add-result
 add-result c =
-    let a = c .before .before .before .before .before .before .args in
+    let then1 : tie.Then1 = search in
+    let after-on-grid : tie.After-on-grid = search in
+    let start : tie.Start = search in
+    let a = start .args in
     let s : a .g ≤ 32 = search needs in
-    let i = sym (c .before .before .before .on-grid .ensures) ∙ c .before .before .if1 .taken in
+    let i = sym (after-on-grid .on-grid .ensures) ∙ then1 .if1 .taken in
     let e : toZ w32 (ofZ w32 (a .p .row)) ≡ a .p .row = search needs in
     let k : toZ w32 (ofZ w32 (a .p .col)) ≡ a .p .col = search needs in
     let m : c .before .plain .result * a .g ≡ natAbs (a .p .row) * a .g = ap (λ (k : ℕ). k * a .g) (c .before .plain .ensures ∙ ap natAbs e) in
@@ -64,8 +69,11 @@ add-result c =
 
 returns : tie.Need-returns
 returns c =
-    let a = c .before .before .before .before .before .before .args in
-    let i = sym (c .before .before .before .on-grid .ensures) ∙ c .before .before .if1 .taken in
+    let then1 : tie.Then1 = search in
+    let after-on-grid : tie.After-on-grid = search in
+    let start : tie.Start = search in
+    let a = start .args in
+    let i = sym (after-on-grid .on-grid .ensures) ∙ then1 .if1 .taken in
     let e : toZ w32 (ofZ w32 (a .p .row)) ≡ a .p .row = search needs in
     let k : toZ w32 (ofZ w32 (a .p .col)) ≡ a .p .col = search needs in
     ap₂ (λ (x y : ℕ). x * a .g + y) (c .before .plain .ensures ∙ ap natAbs e) (c .plain2 .ensures ∙ ap natAbs k) ∙ sym (cell-is (a .g) (a .p) i)
@@ -75,4 +83,12 @@ returns-2 c = rw (sym (c .before .on-grid .ensures) ∙ c .if1 .left)
 
 pub cell-of-spec : {M : Type 1} → statement M
 cell-of-spec =
-    tie.close (tie.spec on-grid-requires plain-requires mul-result plain-requires-2 add-result returns returns-2)
+    tie.close
+    (tie.spec
+    (λ c κs. search needs)
+    plain-requires
+    mul-result
+    plain-requires-2
+    add-result
+    returns
+    returns-2)

@@ -7,16 +7,11 @@ use Rattle.rules.specs.Grid.{inside}
 use Rattle.grid.proofs.on_grid.Statement.{statement}
 use Rattle.grid.proofs.on_grid.Tie as tie
 
-signed-requires : tie.Need-signed-requires
-signed-requires c κs = search needs
-
-is-inside-requires : tie.Need-is-inside-requires
-is-inside-requires c κs = search needs
-
 returns : tie.Need-returns
 returns c =
+    let start : tie.Start = search in
     let z : toZ w32 (ofZ w32 (c .before .signed .result)) ≡ c .before .signed .result = search needs in
-    c .is-inside .ensures ∙ ap (λ (y : ℤ). inside y (c .before .before .args .p)) (z ∙ c .before .signed .ensures)
+    c .is-inside .ensures ∙ ap (λ (y : ℤ). inside y (start .args .p)) (z ∙ c .before .signed .ensures)
 
 pub on-grid-spec : {M : Type 1} → statement M
-on-grid-spec = tie.close (tie.spec signed-requires is-inside-requires returns)
+on-grid-spec = tie.close (tie.spec (λ c κs. search needs) (λ c κs. search needs) returns)

@@ -5,18 +5,6 @@ use borrow.Author.Needs.{needs}
 use Rattle.grid.proofs.place_of.Statement.{statement}
 use Rattle.grid.proofs.place_of.Tie as tie
 
-div-signed : tie.Need-div-signed
-div-signed c = search needs
-
-signed-requires : tie.Need-signed-requires
-signed-requires c κs = search needs
-
-rem-signed : tie.Need-rem-signed
-rem-signed c = search needs
-
-signed-requires-2 : tie.Need-signed-requires-2
-signed-requires-2 c κs = search needs
-
 returns : tie.Need-returns
 returns c =
     let d : toZ w32 (ofZ w32 (c .before .signed .result)) ≡ c .before .signed .result = search needs in
@@ -25,4 +13,7 @@ returns c =
 
 pub place-of-spec : {M : Type 1} → statement M
 place-of-spec =
-    tie.close (tie.spec div-signed signed-requires rem-signed signed-requires-2 returns)
+    tie.close
+    (tie.spec
+    (λ c. search needs) (λ c κs. search needs) (λ c. search needs) (λ c κs. search needs)
+    returns)

@@ -3,11 +3,8 @@ use borrow.Author.Needs.{needs}
 use Rattle.grid.proofs.signed.Statement.{statement}
 use Rattle.grid.proofs.signed.Tie as tie
 
-cast-result : tie.Need-cast-result
-cast-result c = search needs
-
 returns : tie.Need-returns
 returns c = small (c .args .x) (c .fits .x .fits)
 
 pub signed-spec : {M : Type 1} → statement M
-signed-spec = tie.close (tie.spec cast-result returns)
+signed-spec = tie.close (tie.spec (λ c. search needs) returns)

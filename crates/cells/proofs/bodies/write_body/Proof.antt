@@ -16,7 +16,7 @@ use Rattle.cells.proofs.bodies.write_body.Tie as tie
 
 write-head-requires : tie.Need-write-head-requires
 write-head-requires c κs =
-    let s = c .before .before .before in
+    let s : tie.Start = search in
     let a = s .args in
     let w = now (a .image) in
     let d = now (a .out) in
@@ -28,24 +28,10 @@ write-head-requires c κs =
     let r : a .at + length h ≤ length d = omega arith in
     r
 
-add-write-at : tie.Need-add-write-at
-add-write-at c = search needs
-
-mul-write-at : tie.Need-mul-write-at
-mul-write-at c = search needs
-
-sub-write-at : tie.Need-sub-write-at
-sub-write-at c = search needs
-
-part-write-at-start : tie.Need-part-write-at-start
-part-write-at-start c = search needs
-
-part-write-at-end : tie.Need-part-write-at-end
-part-write-at-end c = search needs
-
 write-at-requires : tie.Need-write-at-requires
 write-at-requires c κs =
-    let s = c .before .before .before .before .before .before .before .before in
+    let after-write-head : tie.After-write-head = search in
+    let s : tie.Start = search in
     let a = s .args in
     let w = now (a .image) in
     let d = now (a .out) in
@@ -54,13 +40,14 @@ write-at-requires c κs =
     let all = ap length (body-is w (a .start) (a .len) (a .head) (a .lives)) in
     let both = length-append h p in
     let z = part-size w (a .start) (a .len) (s .pre .1) in
-    let x = c .before .before .before .before .write-head .ensures in
-    let l = written-long d (a .at) h (c .before .before .before .before .write-head .last .0) (c .before .before .before .before .write-head .result) x (omega arith) in
+    let x = after-write-head .write-head .ensures in
+    let l = written-long d (a .at) h (after-write-head .write-head .last .0) (after-write-head .write-head .result) x (omega arith) in
     omega (arith, ap length (part-is w (a .start) (a .len)), x .end)
 
 add-result : tie.Need-add-result
 add-result c =
-    let s = c .before .before .before .before .before .before .before .before .before .before .before in
+    let after-write-head : tie.After-write-head = search in
+    let s : tie.Start = search in
     let a = s .args in
     let w = now (a .image) in
     let d = now (a .out) in
@@ -69,14 +56,13 @@ add-result c =
     let all = ap length (body-is w (a .start) (a .len) (a .head) (a .lives)) in
     let both = length-append h p in
     let z = part-size w (a .start) (a .len) (s .pre .1) in
-    omega (arith, c .before .before .before .before .before .before .before .write-head .ensures .end)
-
-same-length : tie.Need-same-length
-same-length c = search needs
+    omega (arith, after-write-head .write-head .ensures .end)
 
 returns : tie.Need-returns
 returns c =
-    let s = c .before .before .before .before .before .before .before .before .before .before .before in
+    let after-write-at : tie.After-write-at = search in
+    let after-write-head : tie.After-write-head = search in
+    let s : tie.Start = search in
     let a = s .args in
     let w = now (a .image) in
     let d = now (a .out) in
@@ -85,11 +71,11 @@ returns c =
     let all = ap length (body-is w (a .start) (a .len) (a .head) (a .lives)) in
     let both = length-append h p in
     let z = part-size w (a .start) (a .len) (s .pre .1) in
-    let x = c .before .before .before .before .before .before .before .write-head .ensures in
-    let o = c .before .before .before .before .before .before .before .write-head .last .0 in
-    let r = c .before .before .before .before .before .before .before .write-head .result in
+    let x = after-write-head .write-head .ensures in
+    let o = after-write-head .write-head .last .0 in
+    let r = after-write-head .write-head .result in
     record {
-      words = c .before .before .write-at .ensures
+      words = after-write-at .write-at .ensures
           ∙ ap (λ (t : List ℕ). writeAt o r t) (part-is w (a .start) (a .len))
           ∙ then-write d (a .at) h o r p x (omega arith)
           ∙ ap (λ (t : List ℕ). writeAt d (a .at) t) (sym (body-is w (a .start) (a .len) (a .head) (a .lives)));
@@ -101,12 +87,8 @@ write-body-spec =
     tie.close
     (tie.spec
     write-head-requires
-    add-write-at
-    mul-write-at
-    sub-write-at
-    part-write-at-start
-    part-write-at-end
+    (λ c. search needs) (λ c. search needs) (λ c. search needs) (λ c. search needs) (λ c. search needs)
     write-at-requires
     add-result
-    same-length
+    (λ c. search needs)
     returns)

@@ -20,10 +20,14 @@ abbrev μ-loop : tie.MeasureT-loop
 μ-loop food eaten k₀ j₀ k j = length food - j
 
 returns : tie.Need-returns Inv-loop μ-loop
-returns c = let a = c .before .before .before .args in ap length (sym (left-all (now (a .eaten)) (now (a .food)) (c .if1 .taken)))
+returns c =
+    let start : tie.Start Inv-loop μ-loop = search in
+    let a = start .args in ap length (sym (left-all (now (a .eaten)) (now (a .food)) (c .if1 .taken)))
 
 loop-holds : tie.Need-loop-holds Inv-loop μ-loop
-loop-holds c = let a = c .before .before .before .args in (omega arith, ap length (sym (left-none (now (a .eaten)) (now (a .food)))))
+loop-holds c =
+    let start : tie.Start Inv-loop μ-loop = search in
+    let a = start .args in (omega arith, ap length (sym (left-none (now (a .eaten)) (now (a .food)))))
 
 mul-holds : tie.Need-mul-holds Inv-loop μ-loop
 mul-holds c = omega arith
@@ -31,16 +35,12 @@ mul-holds c = omega arith
 shared-slice-read-holds : tie.Need-shared-slice-read-holds Inv-loop μ-loop
 shared-slice-read-holds c = omega arith
 
-holds-requires : tie.Need-holds-requires Inv-loop μ-loop
-holds-requires c κs = search needs
-
-cast-k : tie.Need-cast-k Inv-loop μ-loop
-cast-k c = search needs
-
 add-k : tie.Need-add-k Inv-loop μ-loop
 add-k c =
-    let a = c .before .before .before .before .before .before .before .args in
-    let l = c .before .before .before .loop in
+    let at-loop : tie.At-loop Inv-loop μ-loop = search in
+    let start : tie.Start Inv-loop μ-loop = search in
+    let a = start .args in
+    let l = at-loop .loop in
     omega (arith, byte-bit (not (c .holds .result)), bit-le (not (c .holds .result)), left-small (now (a .eaten)) (take (l .j) (now (a .food))), length-take-le (l .j) (now (a .food)) (l .inv .0))
 
 add-j : tie.Need-add-j Inv-loop μ-loop
@@ -51,13 +51,17 @@ loop-less c = omega arith
 
 loop-again : tie.Need-loop-again Inv-loop μ-loop
 loop-again c =
-    let a = c .before .before .before .before .before .before .before .args in
-    let l = c .before .before .before .loop in
-    (omega arith, (λ k. l .inv .1 k + byte-bit (not (c .holds .ensures k)) k) ∙ sym (left-more (now (a .eaten)) (now (a .food)) (l .j) (c .before .before .loop-test .taken)))
+    let in-loop : tie.In-loop Inv-loop μ-loop = search in
+    let at-loop : tie.At-loop Inv-loop μ-loop = search in
+    let start : tie.Start Inv-loop μ-loop = search in
+    let a = start .args in
+    let l = at-loop .loop in
+    (omega arith, (λ k. l .inv .1 k + byte-bit (not (c .holds .ensures k)) k) ∙ sym (left-more (now (a .eaten)) (now (a .food)) (l .j) (in-loop .loop-test .taken)))
 
 returns-2 : tie.Need-returns-2 Inv-loop μ-loop
 returns-2 c =
-    let a = c .before .before .before .before .before .args in
+    let start : tie.Start Inv-loop μ-loop = search in
+    let a = start .args in
     let l = c .before .loop in
     l .inv .1 ∙ ap length (left-end (now (a .eaten)) (now (a .food)) (l .j) (omega arith))
 
@@ -71,8 +75,7 @@ count-left-spec =
     loop-holds
     mul-holds
     shared-slice-read-holds
-    holds-requires
-    cast-k
+    (λ c κs. search needs) (λ c. search needs)
     add-k
     add-j
     loop-less

@@ -22,20 +22,22 @@ abbrev μ-loop : tie.MeasureT-loop
 
 write-at-requires : tie.Need-write-at-requires Inv-loop μ-loop
 write-at-requires c κs =
-    let a = c .before .before .before .before .before .args in
+    let start : tie.Start Inv-loop μ-loop = search in
+    let a = start .args in
     omega (arith, ap length (left-all (now (a .eaten)) (now (a .food)) (c .before .if1 .taken)))
-
-same-length : tie.Need-same-length Inv-loop μ-loop
-same-length c = search needs
 
 returns : tie.Need-returns Inv-loop μ-loop
 returns c =
-    let a = c .before .before .before .before .before .before .before .before .args in
-    c .before .before .write-at .ensures ∙ ap (λ (t : List ℕ). writeAt (now (a .out)) (a .from) t) (sym (left-all (now (a .eaten)) (now (a .food)) (c .before .before .before .before .if1 .taken)))
+    let after-write-at : tie.After-write-at Inv-loop μ-loop = search in
+    let then1 : tie.Then1 Inv-loop μ-loop = search in
+    let start : tie.Start Inv-loop μ-loop = search in
+    let a = start .args in
+    after-write-at .write-at .ensures ∙ ap (λ (t : List ℕ). writeAt (now (a .out)) (a .from) t) (sym (left-all (now (a .eaten)) (now (a .food)) (then1 .if1 .taken)))
 
 loop-holds : tie.Need-loop-holds Inv-loop μ-loop
 loop-holds c =
-    let a = c .before .before .before .before .args in
+    let start : tie.Start Inv-loop μ-loop = search in
+    let a = start .args in
     let z = left-none (now (a .eaten)) (now (a .food)) in
     (omega arith, refl, omega (arith, ap length z), sym (ap (λ (t : List ℕ). writeAt (now (a .out)) (a .from) t) z ∙ write-none (now (a .out)) (a .from)))
 
@@ -48,48 +50,57 @@ shared-slice-read-x c = omega arith
 add-j : tie.Need-add-j Inv-loop μ-loop
 add-j c = omega arith
 
-holds-requires : tie.Need-holds-requires Inv-loop μ-loop
-holds-requires c κs = search needs
-
 loop-less : tie.Need-loop-less Inv-loop μ-loop
 loop-less c = omega arith
 
 loop-again : tie.Need-loop-again Inv-loop μ-loop
 loop-again c =
-    let a = c .before .before .before .before .before .before .before .before .before .args in
-    let l = c .before .before .before .before .loop in
+    let in-loop : tie.In-loop Inv-loop μ-loop = search in
+    let at-loop : tie.At-loop Inv-loop μ-loop = search in
+    let start : tie.Start Inv-loop μ-loop = search in
+    let a = start .args in
+    let l = at-loop .loop in
     let e = now (a .eaten) in
     let f = now (a .food) in
-    let z = left-held e f (l .j) (c .before .before .before .loop-test .taken) (sym (c .before .holds .ensures) ∙ c .if2 .taken) in
+    let z = left-held e f (l .j) (in-loop .loop-test .taken) (sym (c .before .holds .ensures) ∙ c .if2 .taken) in
     (omega arith, l .inv .1, l .inv .2 ∙ ap (λ (t : List ℕ). a .from + length t) (sym z), l .inv .3 ∙ ap (λ (t : List ℕ). writeAt (now (a .out)) (a .from) t) (sym z))
 
 mul-out : tie.Need-mul-out Inv-loop μ-loop
 mul-out c =
-    let a = c .before .before .before .before .before .before .before .before .before .args in
-    let l = c .before .before .before .before .loop in
+    let in-loop : tie.In-loop Inv-loop μ-loop = search in
+    let at-loop : tie.At-loop Inv-loop μ-loop = search in
+    let start : tie.Start Inv-loop μ-loop = search in
+    let a = start .args in
+    let l = at-loop .loop in
     let e = now (a .eaten) in
     let f = now (a .food) in
-    let t = c .before .before .before .loop-test .taken in
+    let t = in-loop .loop-test .taken in
     let z = left-free e f (l .j) t (sym (c .before .holds .ensures) ∙ c .if2 .left) in
     omega (arith, ap length z, length-append (left e (take (l .j) f)) (getD f (l .j) 0 ∷ []), left-part e f (l .j + 1), l .inv .1, l .inv .2)
 
 slice-write-out : tie.Need-slice-write-out Inv-loop μ-loop
 slice-write-out c =
-    let a = c .before .before .before .before .before .before .before .before .before .args in
-    let l = c .before .before .before .before .loop in
+    let in-loop : tie.In-loop Inv-loop μ-loop = search in
+    let at-loop : tie.At-loop Inv-loop μ-loop = search in
+    let start : tie.Start Inv-loop μ-loop = search in
+    let a = start .args in
+    let l = at-loop .loop in
     let e = now (a .eaten) in
     let f = now (a .food) in
-    let t = c .before .before .before .loop-test .taken in
+    let t = in-loop .loop-test .taken in
     let z = left-free e f (l .j) t (sym (c .before .holds .ensures) ∙ c .if2 .left) in
     omega (arith, ap length z, length-append (left e (take (l .j) f)) (getD f (l .j) 0 ∷ []), left-part e f (l .j + 1), l .inv .1, l .inv .2)
 
 add-at : tie.Need-add-at Inv-loop μ-loop
 add-at c =
-    let a = c .before .before .before .before .before .before .before .before .before .args in
-    let l = c .before .before .before .before .loop in
+    let in-loop : tie.In-loop Inv-loop μ-loop = search in
+    let at-loop : tie.At-loop Inv-loop μ-loop = search in
+    let start : tie.Start Inv-loop μ-loop = search in
+    let a = start .args in
+    let l = at-loop .loop in
     let e = now (a .eaten) in
     let f = now (a .food) in
-    let t = c .before .before .before .loop-test .taken in
+    let t = in-loop .loop-test .taken in
     let z = left-free e f (l .j) t (sym (c .before .holds .ensures) ∙ c .if2 .left) in
     omega (arith, ap length z, length-append (left e (take (l .j) f)) (getD f (l .j) 0 ∷ []), left-part e f (l .j + 1), l .inv .1, l .inv .2)
 
@@ -98,11 +109,14 @@ loop-less-2 c = omega arith
 
 loop-again-2 : tie.Need-loop-again-2 Inv-loop μ-loop
 loop-again-2 c =
-    let a = c .before .before .before .before .before .before .before .before .before .args in
-    let l = c .before .before .before .before .loop in
+    let in-loop : tie.In-loop Inv-loop μ-loop = search in
+    let at-loop : tie.At-loop Inv-loop μ-loop = search in
+    let start : tie.Start Inv-loop μ-loop = search in
+    let a = start .args in
+    let l = at-loop .loop in
     let e = now (a .eaten) in
     let f = now (a .food) in
-    let t = c .before .before .before .loop-test .taken in
+    let t = in-loop .loop-test .taken in
     let z = left-free e f (l .j) t (sym (c .before .holds .ensures) ∙ c .if2 .left) in
     let s = left e (take (l .j) f) in
     let x = getD f (l .j) 0 in
@@ -119,7 +133,8 @@ same-length-2 c = c .before .loop .inv .1
 
 returns-2 : tie.Need-returns-2 Inv-loop μ-loop
 returns-2 c =
-    let a = c .before .before .before .before .before .before .args in
+    let start : tie.Start Inv-loop μ-loop = search in
+    let a = start .args in
     let l = c .before .loop in
     l .inv .3 ∙ ap (λ (t : List ℕ). writeAt (now (a .out)) (a .from) t) (left-end (now (a .eaten)) (now (a .food)) (l .j) (omega arith))
 
@@ -130,13 +145,13 @@ write-left-spec =
     Inv-loop
     μ-loop
     write-at-requires
-    same-length
+    (λ c. search needs)
     returns
     loop-holds
     mul-x
     shared-slice-read-x
     add-j
-    holds-requires
+    (λ c κs. search needs)
     loop-less
     loop-again
     mul-out

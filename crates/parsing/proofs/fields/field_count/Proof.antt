@@ -18,32 +18,22 @@ Inv-loop s k₀ i₀ k i = (i ≤ length s) × (k ≤ i + 1) × (k + length (pas
 abbrev μ-loop : tie.MeasureT-loop
 μ-loop s k₀ i₀ k i = length s - i
 
-loop-holds : tie.Need-loop-holds Inv-loop μ-loop
-loop-holds c = search needs
-
-shared-slice-read-more-if : tie.Need-shared-slice-read-more-if Inv-loop μ-loop
-shared-slice-read-more-if c = search needs
-
-more-if-requires : tie.Need-more-if-requires Inv-loop μ-loop
-more-if-requires c κs = search needs
-
-add-i : tie.Need-add-i Inv-loop μ-loop
-add-i c = search needs
-
-loop-less : tie.Need-loop-less Inv-loop μ-loop
-loop-less c = search needs
-
 loop-again : tie.Need-loop-again Inv-loop μ-loop
 loop-again c =
-    let s = now (c .before .before .before .before .before .args .s) in
-    let l = c .before .before .before .loop in
-    let e = pieces-next 32 s (l .i) (c .before .before .loop-test .taken) in
+    let in-loop : tie.In-loop Inv-loop μ-loop = search in
+    let at-loop : tie.At-loop Inv-loop μ-loop = search in
+    let start : tie.Start Inv-loop μ-loop = search in
+    let s = now (start .args .s) in
+    let l = at-loop .loop in
+    let e = pieces-next 32 s (l .i) (in-loop .loop-test .taken) in
     let b = bit-le (eqb (getD s (l .i) 0) 32) in
     let m : c .more-if .result ≡ l .k + bit (eqb (getD s (l .i) 0) 32) = c .more-if .ensures in
     (search needs, omega arith, omega arith)
 
 returns : tie.Need-returns Inv-loop μ-loop
-returns c = omega (arith, pieces-end 32 (now (c .before .before .before .args .s)) (c .before .loop .i) (c .loop-test .left))
+returns c =
+    let start : tie.Start Inv-loop μ-loop = search in
+    omega (arith, pieces-end 32 (now (start .args .s)) (c .before .loop .i) (c .loop-test .left))
 
 pub field-count-spec : {M : Type 1} → statement M
 field-count-spec =
@@ -51,10 +41,6 @@ field-count-spec =
     (tie.spec
     Inv-loop
     μ-loop
-    loop-holds
-    shared-slice-read-more-if
-    more-if-requires
-    add-i
-    loop-less
+    (λ c. search needs) (λ c. search needs) (λ c κs. search needs) (λ c. search needs) (λ c. search needs)
     loop-again
     returns)

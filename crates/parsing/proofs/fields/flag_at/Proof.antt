@@ -5,15 +5,9 @@ use borrow.Author.Needs.{needs}
 use Rattle.parsing.proofs.fields.flag_at.Statement.{statement}
 use Rattle.parsing.proofs.fields.flag_at.Tie as tie
 
-number-at-requires : tie.Need-number-at-requires
-number-at-requires c κs = search needs
-
-flag-by-requires : tie.Need-flag-by-requires
-flag-by-requires c κs = search needs
-
 returns : tie.Need-returns
 unfolding flagOf
 returns c = c .flag-by .ensures ∙ ap flagBy (c .before .number-at .ensures)
 
 pub flag-at-spec : {M : Type 1} → statement M
-flag-at-spec = tie.close (tie.spec number-at-requires flag-by-requires returns)
+flag-at-spec = tie.close (tie.spec (λ c κs. search needs) (λ c κs. search needs) returns)

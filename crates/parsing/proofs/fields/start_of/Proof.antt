@@ -20,29 +20,29 @@ abbrev μ-loop : tie.MeasureT-loop
 loop-holds : tie.Need-loop-holds Inv-loop μ-loop
 loop-holds c = (search needs, search needs, rw (leb·zero (length (now (c .before .args .s)))))
 
-next-start-requires : tie.Need-next-start-requires Inv-loop μ-loop
-next-start-requires c κs = search needs
-
-add-j : tie.Need-add-j Inv-loop μ-loop
-add-j c = search needs
-
-loop-less : tie.Need-loop-less Inv-loop μ-loop
-loop-less c = search needs
-
 loop-again : tie.Need-loop-again Inv-loop μ-loop
 loop-again c =
-    let s = now (c .before .before .before .before .args .s) in
-    let l = c .before .before .loop in
+    let at-loop : tie.At-loop Inv-loop μ-loop = search in
+    let start : tie.Start Inv-loop μ-loop = search in
+    let s = now (start .args .s) in
+    let l = at-loop .loop in
     (search needs, c .next-start .ensures .0, c .next-start .ensures .1 ∙ ap (λ (x : List (List ℕ)). drop 1 x) (l .inv .2) ∙ drop-drop 1 (l .j) (fieldsOf s))
 
 returns : tie.Need-returns Inv-loop μ-loop
 returns c =
-    let s = now (c .before .before .before .args .s) in
+    let start : tie.Start Inv-loop μ-loop = search in
+    let s = now (start .args .s) in
     let l = c .before .loop in
-    let e : l .j ≡ c .before .before .before .args .k = omega arith in
+    let e : l .j ≡ start .args .k = omega arith in
     (l .inv .1, l .inv .2 ∙ ap (λ (n : ℕ). drop n (fieldsOf s)) e)
 
 pub start-of-spec : {M : Type 1} → statement M
 start-of-spec =
     tie.close
-    (tie.spec Inv-loop μ-loop loop-holds next-start-requires add-j loop-less loop-again returns)
+    (tie.spec
+    Inv-loop
+    μ-loop
+    loop-holds
+    (λ c κs. search needs) (λ c. search needs) (λ c. search needs)
+    loop-again
+    returns)

@@ -25,54 +25,35 @@ Inv-loop s n acts₀ at₀ k₀ acts at k = (k ≤ n) × Behind s (k + 1) at × 
 abbrev μ-loop : tie.MeasureT-loop
 μ-loop s n acts₀ at₀ k₀ acts at k = n - k
 
-next-start-requires : tie.Need-next-start-requires Inv-loop μ-loop
-next-start-requires c κs = search needs
-
 loop-holds : tie.Need-loop-holds Inv-loop μ-loop
 loop-holds c =
-    let s = now (c .before .before .args .s) in
+    let start : tie.Start Inv-loop μ-loop = search in
+    let s = now (start .args .s) in
     let e : piecesFrom 32 s (c .next-start .result) ≡ drop 1 (fieldsOf s) = c .next-start .ensures .1 ∙ rw (leb·zero (length s)) in
     (search needs, record { inside = c .next-start .ensures .0; stands = e }, all-none _, filled-none (action (fieldsOf s)) 8 0)
-
-next-number-requires : tie.Need-next-number-requires Inv-loop μ-loop
-next-number-requires c κs = search needs
-
-enum-known-num : tie.Need-enum-known-num Inv-loop μ-loop
-enum-known-num c = search needs
-
-enum-told : tie.Need-enum-told Inv-loop μ-loop
-enum-told c = search needs
-
-no-entry-requires : tie.Need-no-entry-requires Inv-loop μ-loop
-no-entry-requires c κs = search needs
 
 returns : tie.Need-returns Inv-loop μ-loop
 unfolding actionsIn
 returns c =
-    let s = now (c .before .before .before .before .before .before .before .before .args .s) in
+    let after-next-number : tie.After-next-number Inv-loop μ-loop = search in
+    let in-loop : tie.In-loop Inv-loop μ-loop = search in
+    let at-loop : tie.At-loop Inv-loop μ-loop = search in
+    let start : tie.Start Inv-loop μ-loop = search in
+    let s = now (start .args .s) in
     let fs = fieldsOf s in
-    let l = c .before .before .before .before .before .loop in
-    let e : decimalOf (fieldAt fs (l .k + 1)) ≡ NoNumber = ap decimalOf (sym (from-at 32 s (l .at) (l .k + 1) (l .inv .1 .stands))) ∙ sym (c .before .before .before .next-number .ensures .number) ∙ c .before .enum-told .given .1 in
-    c .no-entry .ensures ∙ rw (all-fails (isAction fs) (c .before .before .before .before .before .before .before .before .args .n) (l .k) (c .before .before .before .before .loop-test .taken) (no-number (fieldAt fs (l .k + 1)) e))
-
-mul-acts : tie.Need-mul-acts Inv-loop μ-loop
-mul-acts c = search needs
-
-array-write-acts : tie.Need-array-write-acts Inv-loop μ-loop
-array-write-acts c = search needs
-
-add-k : tie.Need-add-k Inv-loop μ-loop
-add-k c = search needs
-
-loop-less : tie.Need-loop-less Inv-loop μ-loop
-loop-less c = search needs
+    let l = at-loop .loop in
+    let e : decimalOf (fieldAt fs (l .k + 1)) ≡ NoNumber = ap decimalOf (sym (from-at 32 s (l .at) (l .k + 1) (l .inv .1 .stands))) ∙ sym (after-next-number .next-number .ensures .number) ∙ c .before .enum-told .given .1 in
+    c .no-entry .ensures ∙ rw (all-fails (isAction fs) (start .args .n) (l .k) (in-loop .loop-test .taken) (no-number (fieldAt fs (l .k + 1)) e))
 
 loop-again : tie.Need-loop-again Inv-loop μ-loop
 loop-again c =
-    let s = now (c .before .before .before .before .before .before .before .before .args .s) in
+    let after-next-number : tie.After-next-number Inv-loop μ-loop = search in
+    let at-loop : tie.At-loop Inv-loop μ-loop = search in
+    let start : tie.Start Inv-loop μ-loop = search in
+    let s = now (start .args .s) in
     let fs = fieldsOf s in
-    let l = c .before .before .before .before .before .loop in
-    let g = c .before .before .before .next-number .ensures in
+    let l = at-loop .loop in
+    let g = after-next-number .next-number .ensures in
     let v = c .before .num .given .0 .0 in
     let q = was-number (fieldAt fs (l .k + 1)) v (ap decimalOf (sym (from-at 32 s (l .at) (l .k + 1) (l .inv .1 .stands))) ∙ sym (g .number) ∙ c .before .num .given .1) in (
       search needs,
@@ -84,7 +65,8 @@ loop-again c =
 returns-2 : tie.Need-returns-2 Inv-loop μ-loop
 unfolding actionsIn
 returns-2 c =
-    let a = c .before .before .before .before .args in
+    let start : tie.Start Inv-loop μ-loop = search in
+    let a = start .args in
     let fs = fieldsOf (now (a .s)) in
     let l = c .before .loop in
     let e : l .k ≡ a .n = omega arith in
@@ -98,16 +80,10 @@ actions-in-spec =
     (tie.spec
     Inv-loop
     μ-loop
-    next-start-requires
+    (λ c κs. search needs)
     loop-holds
-    next-number-requires
-    enum-known-num
-    enum-told
-    no-entry-requires
+    (λ c κs. search needs) (λ c. search needs) (λ c. search needs) (λ c κs. search needs)
     returns
-    mul-acts
-    array-write-acts
-    add-k
-    loop-less
+    (λ c. search needs) (λ c. search needs) (λ c. search needs) (λ c. search needs)
     loop-again
     returns-2)

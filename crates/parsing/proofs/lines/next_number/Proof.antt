@@ -13,52 +13,47 @@ use Rattle.parsing.proofs.lines.next_number.Tie as tie
 
 returns : tie.Need-returns
 returns c =
-    let s = now (c .before .before .args .s) in
-    let at = c .before .before .args .at in
+    let start : tie.Start = search in
+    let s = now (start .args .s) in
+    let at = start .args .at in
     record { number = sym (ap decimalOf (from-none 32 s at (c .if1 .taken)) ∙ decimal-none); onward = next-none 32 s at (c .if1 .taken); inside = search needs }
-
-piece-end-requires : tie.Need-piece-end-requires
-piece-end-requires c κs = search needs
-
-sub-decimal : tie.Need-sub-decimal
-sub-decimal c = search needs
-
-part-decimal-start : tie.Need-part-decimal-start
-part-decimal-start c = search needs
 
 part-decimal-end : tie.Need-part-decimal-end
 part-decimal-end c =
-    let s = now (c .before .before .before .args .s) in
-    let at = c .before .before .before .args .at in
+    let start : tie.Start = search in
+    let s = now (start .args .s) in
+    let at = start .args .at in
     let k = length (upTo 32 (drop at s)) in
     let e : c .piece-end .result ≡ at + k = c .piece-end .ensures in
     let l = piece-short 32 (drop at s) in
     let d = length-drop at s in
     search (needs, e, l, d)
 
-decimal-requires : tie.Need-decimal-requires
-decimal-requires c κs = search needs
-
 add-t5 : tie.Need-add-t5
 add-t5 c =
-    let s = now (c .before .before .before .before .before .args .s) in
-    let at = c .before .before .before .before .before .args .at in
+    let after-piece-end : tie.After-piece-end = search in
+    let start : tie.Start = search in
+    let s = now (start .args .s) in
+    let at = start .args .at in
     let k = length (upTo 32 (drop at s)) in
-    let e : c .before .before .piece-end .result ≡ at + k = c .before .before .piece-end .ensures in
+    let e : after-piece-end .piece-end .result ≡ at + k = after-piece-end .piece-end .ensures in
     let l = piece-short 32 (drop at s) in
     let d = length-drop at s in
     omega arith
 
 returns-2 : tie.Need-returns-2
 returns-2 c =
-    let s = now (c .before .before .before .before .before .args .s) in
-    let at = c .before .before .before .before .before .args .at in
+    let after-piece-end : tie.After-piece-end = search in
+    let else1 : tie.Else1 = search in
+    let start : tie.Start = search in
+    let s = now (start .args .s) in
+    let at = start .args .at in
     let k = length (upTo 32 (drop at s)) in
-    let e : c .before .before .piece-end .result ≡ at + k = c .before .before .piece-end .ensures in
+    let e : after-piece-end .piece-end .result ≡ at + k = after-piece-end .piece-end .ensures in
     let l = piece-short 32 (drop at s) in
     let d = length-drop at s in
-    let h : at ≤ length s = c .before .before .before .if1 .left in
-    let m : c .before .before .piece-end .result - at ≡ k = omega arith in
+    let h : at ≤ length s = else1 .if1 .left in
+    let m : after-piece-end .piece-end .result - at ≡ k = omega arith in
     record {
       number = c .decimal .ensures ∙ ap decimalOf (ap (λ (j : ℕ). take j (drop at s)) m ∙ piece-front 32 (drop at s) ∙ sym (from-first 32 s at h));
       onward = ap (λ (j : ℕ). piecesFrom 32 s (j + 1)) e ∙ next-some 32 s at h;
@@ -70,10 +65,8 @@ next-number-spec =
     tie.close
     (tie.spec
     returns
-    piece-end-requires
-    sub-decimal
-    part-decimal-start
+    (λ c κs. search needs) (λ c. search needs) (λ c. search needs)
     part-decimal-end
-    decimal-requires
+    (λ c κs. search needs)
     add-t5
     returns-2)

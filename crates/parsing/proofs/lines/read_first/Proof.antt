@@ -10,20 +10,18 @@ returns : tie.Need-returns
 unfolding readFirst
 returns c = rw (lt-ltb _ _ (c .if1 .taken))
 
-field-count-requires : tie.Need-field-count-requires
-field-count-requires c κs = search needs
-
-setting-in-requires : tie.Need-setting-in-requires
-setting-in-requires c κs = search needs
-
 returns-2 : tie.Need-returns-2
 unfolding readFirst
-returns-2 c = let e = sym (c .before .before .field-count .ensures) ∙ c .before .if2 .taken in c .setting-in .ensures ∙ rw (le-ltb _ _ (c .before .before .before .if1 .left), eq-eqb _ _ e)
+returns-2 c =
+    let after-field-count : tie.After-field-count = search in
+    let else1 : tie.Else1 = search in
+    let e = sym (after-field-count .field-count .ensures) ∙ c .before .if2 .taken in c .setting-in .ensures ∙ rw (le-ltb _ _ (else1 .if1 .left), eq-eqb _ _ e)
 
 returns-3 : tie.Need-returns-3
 unfolding readFirst
-returns-3 c = let e = c .before .field-count .ensures in rw (le-ltb _ _ (c .before .before .if1 .left), ne-eqb _ _ (λ p. c .if2 .left (e ∙ p)))
+returns-3 c =
+    let else1 : tie.Else1 = search in
+    let e = c .before .field-count .ensures in rw (le-ltb _ _ (else1 .if1 .left), ne-eqb _ _ (λ p. c .if2 .left (e ∙ p)))
 
 pub read-first-spec : {M : Type 1} → statement M
-read-first-spec =
-    tie.close (tie.spec returns field-count-requires setting-in-requires returns-2 returns-3)
+read-first-spec = tie.close (tie.spec returns (λ c κs. search needs) (λ c κs. search needs) returns-2 returns-3)

@@ -6,19 +6,13 @@ use borrow.Author.Needs.{needs}
 use Rattle.parsing.proofs.lines.read_later.Statement.{statement}
 use Rattle.parsing.proofs.lines.read_later.Tie as tie
 
-no-entry-requires : tie.Need-no-entry-requires
-no-entry-requires c κs = search needs
-
 returns : tie.Need-returns
 unfolding readLater
 returns c = c .no-entry .ensures ∙ rw (lt-ltb _ _ (c .before .if1 .taken))
-
-entry-in-requires : tie.Need-entry-in-requires
-entry-in-requires c κs = search needs
 
 returns-2 : tie.Need-returns-2
 unfolding readLater
 returns-2 c = c .entry-in .ensures ∙ rw (le-ltb _ _ (c .before .if1 .left))
 
 pub read-later-spec : {M : Type 1} → statement M
-read-later-spec = tie.close (tie.spec no-entry-requires returns entry-in-requires returns-2)
+read-later-spec = tie.close (tie.spec (λ c κs. search needs) returns (λ c κs. search needs) returns-2)

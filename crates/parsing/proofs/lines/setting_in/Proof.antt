@@ -5,44 +5,21 @@ use borrow.Author.Needs.{needs}
 use Rattle.parsing.proofs.lines.setting_in.Statement.{statement}
 use Rattle.parsing.proofs.lines.setting_in.Tie as tie
 
-number-at-requires : tie.Need-number-at-requires
-number-at-requires c κs = search needs
-
-grid-at-requires : tie.Need-grid-at-requires
-grid-at-requires c κs = search needs
-
-number-at-requires-2 : tie.Need-number-at-requires-2
-number-at-requires-2 c κs = search needs
-
-flag-at-requires : tie.Need-flag-at-requires
-flag-at-requires c κs = search needs
-
-bound-at-requires : tie.Need-bound-at-requires
-bound-at-requires c κs = search needs
-
-number-at-requires-3 : tie.Need-number-at-requires-3
-number-at-requires-3 c κs = search needs
-
-bound-at-requires-2 : tie.Need-bound-at-requires-2
-bound-at-requires-2 c κs = search needs
-
-setting-by-requires : tie.Need-setting-by-requires
-setting-by-requires c κs = search needs
-
 returns : tie.Need-returns
 unfolding settingIn
-returns c = c .setting-by .ensures ∙ rw (c .before .before .before .before .before .before .before .number-at .ensures, c .before .before .before .before .before .before .grid-at .ensures, c .before .before .before .before .before .number-at2 .ensures, c .before .before .before .before .flag-at .ensures, c .before .before .before .bound-at .ensures, c .before .before .number-at3 .ensures, c .before .bound-at2 .ensures)
+returns c =
+    let after-number-at3 : tie.After-number-at3 = search in
+    let after-bound-at : tie.After-bound-at = search in
+    let after-flag-at : tie.After-flag-at = search in
+    let after-number-at2 : tie.After-number-at2 = search in
+    let after-grid-at : tie.After-grid-at = search in
+    let after-number-at : tie.After-number-at = search in
+    c .setting-by .ensures ∙ rw (after-number-at .number-at .ensures, after-grid-at .grid-at .ensures, after-number-at2 .number-at2 .ensures, after-flag-at .flag-at .ensures, after-bound-at .bound-at .ensures, after-number-at3 .number-at3 .ensures, c .before .bound-at2 .ensures)
 
 pub setting-in-spec : {M : Type 1} → statement M
 setting-in-spec =
     tie.close
     (tie.spec
-    number-at-requires
-    grid-at-requires
-    number-at-requires-2
-    flag-at-requires
-    bound-at-requires
-    number-at-requires-3
-    bound-at-requires-2
-    setting-by-requires
+    (λ c κs. search needs) (λ c κs. search needs) (λ c κs. search needs) (λ c κs. search needs) (λ c κs. search needs)
+    (λ c κs. search needs) (λ c κs. search needs) (λ c κs. search needs)
     returns)

@@ -5,17 +5,8 @@ use borrow.Author.Needs.{needs}
 use Rattle.parsing.proofs.numbers.bound_by.Statement.{statement}
 use Rattle.parsing.proofs.numbers.bound_by.Tie as tie
 
-enum-told : tie.Need-enum-told
-enum-told c = search needs
-
-enum-known-n : tie.Need-enum-known-n
-enum-known-n c = search needs
-
-returns : tie.Need-returns
-returns c = search needs
-
 returns-2 : tie.Need-returns-2
 returns-2 c = ap boundBy (sym (c .before .n .given .1))
 
 pub bound-by-spec : {M : Type 1} → statement M
-bound-by-spec = tie.close (tie.spec enum-told enum-known-n returns returns-2)
+bound-by-spec = tie.close (tie.spec (λ c. search needs) (λ c. search needs) (λ c. search needs) returns-2)

@@ -11,26 +11,22 @@ use borrow.Author.Needs.{needs}
 use Rattle.parsing.proofs.numbers.grid_above.Statement.{statement}
 use Rattle.parsing.proofs.numbers.grid_above.Tie as tie
 
-enum-known-n : tie.Need-enum-known-n
-enum-known-n c = search needs
-
-enum-told : tie.Need-enum-told
-enum-told c = search needs
-
-returns : tie.Need-returns
-returns c = search needs
-
-cast-t4 : tie.Need-cast-t4
-cast-t4 c = search needs
-
 returns-2 : tie.Need-returns-2
 returns-2 c =
-    let v = c .before .before .n .given .0 .0 in
+    let after-n : tie.After-n = search in
+    let v = after-n .n .given .0 .0 in
     let p : toZ w32 v ≡ pos v = toZ-pos w32 (omega arith) in
-    ap GridIs p ∙ simp (c .before .before .n .given .1, lt-ltb _ _ (c .if1 .taken))
+    ap GridIs p ∙ simp (after-n .n .given .1, lt-ltb _ _ (c .if1 .taken))
 
 returns-3 : tie.Need-returns-3
-returns-3 c = simp (c .before .before .n .given .1, le-ltb _ _ (c .if1 .left))
+returns-3 c =
+    let after-n : tie.After-n = search in
+    simp (after-n .n .given .1, le-ltb _ _ (c .if1 .left))
 
 pub grid-above-spec : {M : Type 1} → statement M
-grid-above-spec = tie.close (tie.spec enum-known-n enum-told returns cast-t4 returns-2 returns-3)
+grid-above-spec =
+    tie.close
+    (tie.spec
+    (λ c. search needs) (λ c. search needs) (λ c. search needs) (λ c. search needs)
+    returns-2
+    returns-3)

@@ -7,11 +7,8 @@ use Rattle.parsing.proofs.numbers.is_byte.Tie as tie
 returns : tie.Need-returns
 returns c = rw (ne-eqb _ _ (c .if1 .taken))
 
-shared-slice-read-result : tie.Need-shared-slice-read-result
-shared-slice-read-result c = search needs
-
 returns-2 : tie.Need-returns-2
 returns-2 c = rw (eq-eqb _ _ (c .before .if1 .left))
 
 pub is-byte-spec : {M : Type 1} → statement M
-is-byte-spec = tie.close (tie.spec returns shared-slice-read-result returns-2)
+is-byte-spec = tie.close (tie.spec returns (λ c. search needs) returns-2)

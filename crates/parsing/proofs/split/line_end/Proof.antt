@@ -6,14 +6,12 @@ use borrow.Author.Needs.{needs}
 use Rattle.parsing.proofs.split.line_end.Statement.{statement}
 use Rattle.parsing.proofs.split.line_end.Tie as tie
 
-piece-end-requires : tie.Need-piece-end-requires
-piece-end-requires c κs = search needs
-
 returns : tie.Need-returns
 returns c =
-    let a = c .before .before .args in
+    let start : tie.Start = search in
+    let a = start .args in
     let e = c .piece-end .ensures in
     (e, omega (arith, e), omega (arith, e, piece-short 10 (drop (a .from) (now (a .part))), length-drop (a .from) (now (a .part))))
 
 pub line-end-spec : {M : Type 1} → statement M
-line-end-spec = tie.close (tie.spec piece-end-requires returns)
+line-end-spec = tie.close (tie.spec (λ c κs. search needs) returns)

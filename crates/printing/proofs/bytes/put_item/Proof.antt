@@ -5,17 +5,11 @@ use borrow.Author.Needs.{needs}
 use Rattle.printing.proofs.bytes.put_item.Statement.{statement}
 use Rattle.printing.proofs.bytes.put_item.Tie as tie
 
-put-requires : tie.Need-put-requires
-put-requires c κs = search needs
-
-put-number-requires : tie.Need-put-number-requires
-put-number-requires c κs = search needs
-
-same-length : tie.Need-same-length
-same-length c = search needs
-
 returns : tie.Need-returns
-returns c = both (c .before .before .before .before .before .before .put .ensures) (c .before .before .put-number .ensures) (omega arith)
+returns c =
+    let after-put-number : tie.After-put-number = search in
+    let after-put : tie.After-put = search in
+    both (after-put .put .ensures) (after-put-number .put-number .ensures) (omega arith)
 
 pub put-item-spec : {M : Type 1} → statement M
-put-item-spec = tie.close (tie.spec put-requires put-number-requires same-length returns)
+put-item-spec = tie.close (tie.spec (λ c κs. search needs) (λ c κs. search needs) (λ c. search needs) returns)

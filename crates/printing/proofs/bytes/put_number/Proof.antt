@@ -11,55 +11,48 @@ use borrow.Author.Needs.{needs}
 use Rattle.printing.proofs.bytes.put_number.Statement.{statement}
 use Rattle.printing.proofs.bytes.put_number.Tie as tie
 
-decimal-requires : tie.Need-decimal-requires
-decimal-requires c κs = search needs
-
-array-share-prefix-text : tie.Need-array-share-prefix-text
-array-share-prefix-text c = search needs
-
-slice-aggregate-write-at : tie.Need-slice-aggregate-write-at
-slice-aggregate-write-at c = search needs
-
 write-at-requires : tie.Need-write-at-requires
 write-at-requires c κs =
-    let e = c .before .before .decimal .ensures in
-    let a = c .before .before .before .before .before .args in
-    let k = c .before .before .decimal .result in
+    let after-decimal : tie.After-decimal = search in
+    let start : tie.Start = search in
+    let e = after-decimal .decimal .ensures in
+    let a = start .args in
+    let k = after-decimal .decimal .result in
     let v : a .v < 18446744073709551616 = search needs in
     let m : k ≤ 20 = few k (a .v) (e .1 .0) v in
     omega (arith, e .0 .1)
 
 add-result : tie.Need-add-result
 add-result c =
-    let e = c .before .before .before .before .before .decimal .ensures in
-    let a = c .before .before .before .before .before .before .before .before .args in
-    let k = c .before .before .before .before .before .decimal .result in
+    let after-decimal : tie.After-decimal = search in
+    let start : tie.Start = search in
+    let e = after-decimal .decimal .ensures in
+    let a = start .args in
+    let k = after-decimal .decimal .result in
     let v : a .v < 18446744073709551616 = search needs in
     let m : k ≤ 20 = few k (a .v) (e .1 .0) v in
     omega arith
 
-same-length : tie.Need-same-length
-same-length c = search needs
-
 returns : tie.Need-returns
 returns c =
-    let e = c .before .before .before .before .before .decimal .ensures in
-    let a = c .before .before .before .before .before .before .before .before .args in
-    let k = c .before .before .before .before .before .decimal .result in
+    let after-write-at : tie.After-write-at = search in
+    let after-decimal : tie.After-decimal = search in
+    let start : tie.Start = search in
+    let e = after-decimal .decimal .ensures in
+    let a = start .args in
+    let k = after-decimal .decimal .result in
     let v : a .v < 18446744073709551616 = search needs in
     let m : k ≤ 20 = few k (a .v) (e .1 .0) v in
-    let t : take k (c .before .before .before .before .before .decimal .last .1 .0) ≡ decimalText (a .v) = e .1 .1 ∙ digits-are k 20 (a .v) (e .1 .0) m in
+    let t : take k (after-decimal .decimal .last .1 .0) ≡ decimalText (a .v) = e .1 .1 ∙ digits-are k 20 (a .v) (e .1 .0) m in
     let n : a .at + k ≡ a .at + length (decimalText (a .v)) = ap (λ (j : ℕ). a .at + j) (e .0 .1 ∙ ap length t) in
-    written 20 (c .before .before .write-at .ensures ∙ ap (λ (s : List ℕ). writeAt (now (a .out)) (a .at) s) t) n (digits-short 20 (a .v)) (omega arith)
+    written 20 (after-write-at .write-at .ensures ∙ ap (λ (s : List ℕ). writeAt (now (a .out)) (a .at) s) t) n (digits-short 20 (a .v)) (omega arith)
 
 pub put-number-spec : {M : Type 1} → statement M
 put-number-spec =
     tie.close
     (tie.spec
-    decimal-requires
-    array-share-prefix-text
-    slice-aggregate-write-at
+    (λ c κs. search needs) (λ c. search needs) (λ c. search needs)
     write-at-requires
     add-result
-    same-length
+    (λ c. search needs)
     returns)

@@ -11,20 +11,8 @@ use borrow.Author.Needs.{needs}
 use Rattle.printing.proofs.bytes.put_two.Statement.{statement}
 use Rattle.printing.proofs.bytes.put_two.Tie as tie
 
-slice-write-out : tie.Need-slice-write-out
-slice-write-out c = search needs
-
-add-out : tie.Need-add-out
-add-out c = search needs
-
 slice-write-out-2 : tie.Need-slice-write-out-2
 slice-write-out-2 c = simp length-set (omega arith)
-
-add-result : tie.Need-add-result
-add-result c = search needs
-
-same-length : tie.Need-same-length
-same-length c = search needs
 
 returns : tie.Need-returns
 returns c =
@@ -35,4 +23,9 @@ returns c =
 
 pub put-two-spec : {M : Type 1} → statement M
 put-two-spec =
-    tie.close (tie.spec slice-write-out add-out slice-write-out-2 add-result same-length returns)
+    tie.close
+    (tie.spec
+    (λ c. search needs) (λ c. search needs)
+    slice-write-out-2
+    (λ c. search needs) (λ c. search needs)
+    returns)

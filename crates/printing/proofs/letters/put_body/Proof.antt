@@ -6,34 +6,19 @@ use borrow.Author.Needs.{needs}
 use Rattle.printing.proofs.letters.put_body.Statement.{statement}
 use Rattle.printing.proofs.letters.put_body.Tie as tie
 
-digit-of-requires : tie.Need-digit-of-requires
-digit-of-requires c κs = search needs
-
-put-two-requires : tie.Need-put-two-requires
-put-two-requires c κs = search needs
-
-put-item-requires : tie.Need-put-item-requires
-put-item-requires c κs = search needs
-
-put-first-requires : tie.Need-put-first-requires
-put-first-requires c κs = search needs
-
-same-length : tie.Need-same-length
-same-length c = search needs
-
 returns : tie.Need-returns
 unfolding bodyText
 returns c =
-    let p = rw (c .before .before .before .before .before .before .before .before .before .before .before .digit-of .ensures) at (c .before .before .before .before .before .before .before .before .before .before .put-two .ensures) in
-    both (both p (c .before .before .before .before .before .before .put-item .ensures) (omega arith)) (c .before .before .put-first .ensures) (omega arith)
+    let after-put-first : tie.After-put-first = search in
+    let after-put-item : tie.After-put-item = search in
+    let after-put-two : tie.After-put-two = search in
+    let after-digit-of : tie.After-digit-of = search in
+    let p = rw (after-digit-of .digit-of .ensures) at (after-put-two .put-two .ensures) in
+    both (both p (after-put-item .put-item .ensures) (omega arith)) (after-put-first .put-first .ensures) (omega arith)
 
 pub put-body-spec : {M : Type 1} → statement M
 put-body-spec =
     tie.close
     (tie.spec
-    digit-of-requires
-    put-two-requires
-    put-item-requires
-    put-first-requires
-    same-length
+    (λ c κs. search needs) (λ c κs. search needs) (λ c κs. search needs) (λ c κs. search needs) (λ c. search needs)
     returns)

@@ -6,32 +6,18 @@ use borrow.Author.Needs.{needs}
 use Rattle.printing.proofs.letters.put_ends.Statement.{statement}
 use Rattle.printing.proofs.letters.put_ends.Tie as tie
 
-put-if-requires : tie.Need-put-if-requires
-put-if-requires c κs = search needs
-
-put-if-requires-2 : tie.Need-put-if-requires-2
-put-if-requires-2 c κs = search needs
-
-put-if-requires-3 : tie.Need-put-if-requires-3
-put-if-requires-3 c κs = search needs
-
-put-if-requires-4 : tie.Need-put-if-requires-4
-put-if-requires-4 c κs = search needs
-
-same-length : tie.Need-same-length
-same-length c = search needs
-
 returns : tie.Need-returns
 unfolding endsText
-returns c = both (both (both (c .before .before .before .before .before .before .before .before .before .before .before .before .before .before .put-if .ensures) (c .before .before .before .before .before .before .before .before .before .before .put-if2 .ensures) (omega arith)) (c .before .before .before .before .before .before .put-if3 .ensures) (omega arith)) (c .before .before .put-if4 .ensures) (omega arith)
+returns c =
+    let after-put-if4 : tie.After-put-if4 = search in
+    let after-put-if3 : tie.After-put-if3 = search in
+    let after-put-if2 : tie.After-put-if2 = search in
+    let after-put-if : tie.After-put-if = search in
+    both (both (both (after-put-if .put-if .ensures) (after-put-if2 .put-if2 .ensures) (omega arith)) (after-put-if3 .put-if3 .ensures) (omega arith)) (after-put-if4 .put-if4 .ensures) (omega arith)
 
 pub put-ends-spec : {M : Type 1} → statement M
 put-ends-spec =
     tie.close
     (tie.spec
-    put-if-requires
-    put-if-requires-2
-    put-if-requires-3
-    put-if-requires-4
-    same-length
+    (λ c κs. search needs) (λ c κs. search needs) (λ c κs. search needs) (λ c κs. search needs) (λ c. search needs)
     returns)

@@ -6,22 +6,17 @@ use borrow.Author.Needs.{needs}
 use Rattle.printing.proofs.letters.put_refusal.Statement.{statement}
 use Rattle.printing.proofs.letters.put_refusal.Tie as tie
 
-put-requires : tie.Need-put-requires
-put-requires c κs = search needs
-
-put-item-requires : tie.Need-put-item-requires
-put-item-requires c κs = search needs
-
-put-requires-2 : tie.Need-put-requires-2
-put-requires-2 c κs = search needs
-
-same-length : tie.Need-same-length
-same-length c = search needs
-
 returns : tie.Need-returns
 unfolding refusalText
-returns c = both (both (c .before .before .before .before .before .before .before .before .before .before .put .ensures) (c .before .before .before .before .before .before .put-item .ensures) (omega arith)) (c .before .before .put2 .ensures) (omega arith)
+returns c =
+    let after-put2 : tie.After-put2 = search in
+    let after-put-item : tie.After-put-item = search in
+    let after-put : tie.After-put = search in
+    both (both (after-put .put .ensures) (after-put-item .put-item .ensures) (omega arith)) (after-put2 .put2 .ensures) (omega arith)
 
 pub put-refusal-spec : {M : Type 1} → statement M
 put-refusal-spec =
-    tie.close (tie.spec put-requires put-item-requires put-requires-2 same-length returns)
+    tie.close
+    (tie.spec
+    (λ c κs. search needs) (λ c κs. search needs) (λ c κs. search needs) (λ c. search needs)
+    returns)

@@ -19,32 +19,20 @@ abbrev μ-loop : tie.MeasureT-loop
 loop-holds : tie.Need-loop-holds Inv-loop μ-loop
 loop-holds c = (search needs, filled-none (placingOf (c .args .n) (c .args .deaths)) 8 0)
 
-place-of-requires : tie.Need-place-of-requires Inv-loop μ-loop
-place-of-requires c κs = search needs
-
-mul-out : tie.Need-mul-out Inv-loop μ-loop
-mul-out c = search needs
-
-array-write-out : tie.Need-array-write-out Inv-loop μ-loop
-array-write-out c = search needs
-
-add-i : tie.Need-add-i Inv-loop μ-loop
-add-i c = search needs
-
-loop-less : tie.Need-loop-less Inv-loop μ-loop
-loop-less c = search needs
-
 loop-again : tie.Need-loop-again Inv-loop μ-loop
 loop-again c =
-    let l = c .before .before .loop in
-    let a = c .before .before .before .args in
+    let at-loop : tie.At-loop Inv-loop μ-loop = search in
+    let start : tie.Start Inv-loop μ-loop = search in
+    let l = at-loop .loop in
+    let a = start .args in
     let f = placingOf (a .n) (a .deaths) in
-    (search needs, ap (λ (x : List ℕ). set x (l .i) (c .place-of .result)) (l .inv .1) ∙ rw (c .place-of .ensures) (filled-more f (l .i) 8 0 (omega arith)))
+    (search needs, ap (λ (x : List ℕ). set x (l .i) (c .placing-of .result)) (l .inv .1) ∙ rw (c .placing-of .ensures) (filled-more f (l .i) 8 0 (omega arith)))
 
 returns : tie.Need-returns Inv-loop μ-loop
 unfolding placingsOf
 returns c =
-    let a = c .before .before .args in
+    let start : tie.Start Inv-loop μ-loop = search in
+    let a = start .args in
     let e : c .before .loop .i ≡ a .n = omega arith in
     c .before .loop .inv .1 ∙ ap (λ (k : ℕ). filled (placingOf (a .n) (a .deaths)) k 8 0) e
 
@@ -55,10 +43,6 @@ placings-spec =
     Inv-loop
     μ-loop
     loop-holds
-    place-of-requires
-    mul-out
-    array-write-out
-    add-i
-    loop-less
+    (λ c κs. search needs) (λ c. search needs) (λ c. search needs) (λ c. search needs) (λ c. search needs)
     loop-again
     returns)
