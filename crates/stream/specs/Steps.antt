@@ -67,7 +67,7 @@ pub data Last (r q : Reader) (line old new out : List ℕ) : Type 0 where
   nothing : r .fill ≡ 0 → q .desk ≡ r .desk → q .on ≡ r .on → new ≡ old → q .text ≡ 0 → Last r q line old new out
   last : r .on ≡ true → 0 < r .fill → Takes r q line [] old new out → Last r q line old new out
 
--- the places, where the replay was not stopped; n is how many bytes of `out` are to be printed
+-- the placings, where the replay was not stopped; n is how many bytes of `out` are to be printed
 pub record Ends (r : Reader) (n : ℕ) (out : List ℕ) : Type 0 where
   pub closed : r .on ≡ true → Closed (r .desk) (take n out)
   pub stopped : r .on ≡ false → n ≡ 0

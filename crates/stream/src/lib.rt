@@ -184,7 +184,7 @@ fn write_end(r: Reader, out: &mut [u8]) -> usize
     referee::close(desk, out)
 }
 
-// The end of the input: the last line and the places, each printed. It answers how many bytes of `out` show the places.
+// The end of the input: the last line and the placings, each printed. It answers how many bytes of `out` show the placings.
 pub fn finish(
     r: Reader,
     line: &[u8],

@@ -21,32 +21,40 @@ abbrev μ-loop : tie.MeasureT-loop
 
 loop-holds : tie.Need-loop-holds Inv-loop μ-loop
 loop-holds c =
-    let p = c .before .before .before .before .before .before .before .pre in
+    let start : tie.Start Inv-loop μ-loop = search in
+    let p = start .pre in
     (record { held = p .held; wide = p .wide; words = p .words; larger = p .larger; room = p .room; cells = p .cells; text = p .text }, record { said = []; steps = none }, refl, refl, refl, refl, refl)
 
 take-part-requires : tie.Need-take-part-requires Inv-loop μ-loop
 take-part-requires c κs =
-    let l = c .before .before .before .before .before .before .before .before .loop in
-    (l .inv .0, ltb-true (l .r .at) (length (now (c .before .before .before .before .before .before .before .before .before .before .before .before .before .before .before .before .args .part))) (c .before .before .before .before .before .if1 .taken))
-
-print-requires : tie.Need-print-requires Inv-loop μ-loop
-print-requires c κs = search needs
+    let then1 : tie.Then1 Inv-loop μ-loop = search in
+    let at-loop : tie.At-loop Inv-loop μ-loop = search in
+    let start : tie.Start Inv-loop μ-loop = search in
+    let l = at-loop .loop in
+    (l .inv .0, ltb-true (l .r .at) (length (now (start .args .part))) (then1 .if1 .taken))
 
 loop-less : tie.Need-loop-less Inv-loop μ-loop
 loop-less c =
-    let l = c .before .before .before .before .before .before .before .before .before .before .before .before .before .before .before .before .before .before .before .before .before .loop in
-    let n = length (now (c .before .before .before .before .before .before .before .before .before .before .before .before .before .before .before .before .before .before .before .before .before .before .before .before .before .before .before .before .before .args .part)) in
-    let h : l .r .at < n = ltb-true (l .r .at) n (c .before .before .before .before .before .before .before .before .before .before .before .before .before .before .before .before .before .before .if1 .taken) in
-    omega (arith, c .before .before .before .before .before .before .before .before .before .before .before .before .take-part .ensures .1 .1)
+    let after-take-part : tie.After-take-part Inv-loop μ-loop = search in
+    let then1 : tie.Then1 Inv-loop μ-loop = search in
+    let at-loop : tie.At-loop Inv-loop μ-loop = search in
+    let start : tie.Start Inv-loop μ-loop = search in
+    let l = at-loop .loop in
+    let n = length (now (start .args .part)) in
+    let h : l .r .at < n = ltb-true (l .r .at) n (then1 .if1 .taken) in
+    omega (arith, after-take-part .take-part .ensures .1 .1)
 
 loop-again : tie.Need-loop-again Inv-loop μ-loop
 loop-again c =
-    let l = c .before .before .before .before .before .before .before .before .before .before .before .before .before .before .before .before .before .before .before .before .before .loop in
-    let t = c .before .before .before .before .before .before .before .before .before .before .before .before .take-part in
+    let after-take-part : tie.After-take-part Inv-loop μ-loop = search in
+    let in-loop : tie.In-loop Inv-loop μ-loop = search in
+    let at-loop : tie.At-loop Inv-loop μ-loop = search in
+    let l = at-loop .loop in
+    let t = after-take-part .take-part in
     let p = t .ensures .0 in
     let out = t .last .1 .1 .1 .1 .1 .1 .0 in (
       record { held = p .held; wide = p .wide; words = p .words; larger = p .larger; room = p .room; cells = p .cells; text = p .text },
-      record { said = l .inv .1 .said ++ take (t .result .text) out; steps = more out (l .inv .1 .steps) (c .before .before .before .before .before .before .before .before .before .before .before .before .before .before .before .before .before .before .before .before .loop-test .taken) (printed-or-not (c .print .result) (t .ensures .1 .0)) },
+      record { said = l .inv .1 .said ++ take (t .result .text) out; steps = more out (l .inv .1 .steps) (in-loop .loop-test .taken) (printed-or-not (c .print .result) (t .ensures .1 .0)) },
       search needs,
       search needs,
       search needs,
@@ -54,41 +62,13 @@ loop-again c =
       search needs,
     )
 
-same-length : tie.Need-same-length Inv-loop μ-loop
-same-length c = search needs
-
-same-length-2 : tie.Need-same-length-2 Inv-loop μ-loop
-same-length-2 c = search needs
-
-same-length-3 : tie.Need-same-length-3 Inv-loop μ-loop
-same-length-3 c = search needs
-
-same-length-4 : tie.Need-same-length-4 Inv-loop μ-loop
-same-length-4 c = search needs
-
-same-length-5 : tie.Need-same-length-5 Inv-loop μ-loop
-same-length-5 c = search needs
-
 returns : tie.Need-returns Inv-loop μ-loop
 returns c =
-    let l = c .before .before .before .loop in
-    let part = now (c .before .before .before .before .before .before .before .before .before .before .before .args .part) in
+    let at-loop : tie.At-loop Inv-loop μ-loop = search in
+    let start : tie.Start Inv-loop μ-loop = search in
+    let l = at-loop .loop in
+    let part = now (start .args .part) in
     (l .inv .0, record { said = l .inv .1 .said; steps = l .inv .1 .steps; past = λ o. drop-of-length-le part (ltb-false (l .r .at) (length part) (c .if1 .left)) })
-
-same-length-6 : tie.Need-same-length-6 Inv-loop μ-loop
-same-length-6 c = search needs
-
-same-length-7 : tie.Need-same-length-7 Inv-loop μ-loop
-same-length-7 c = search needs
-
-same-length-8 : tie.Need-same-length-8 Inv-loop μ-loop
-same-length-8 c = search needs
-
-same-length-9 : tie.Need-same-length-9 Inv-loop μ-loop
-same-length-9 c = search needs
-
-same-length-10 : tie.Need-same-length-10 Inv-loop μ-loop
-same-length-10 c = search needs
 
 returns-2 : tie.Need-returns-2 Inv-loop μ-loop
 returns-2 c =
@@ -103,18 +83,10 @@ take-all-spec =
     μ-loop
     loop-holds
     take-part-requires
-    print-requires
+    (λ c κs. search needs)
     loop-less
     loop-again
-    same-length
-    same-length-2
-    same-length-3
-    same-length-4
-    same-length-5
+    (λ c. search needs) (λ c. search needs) (λ c. search needs) (λ c. search needs) (λ c. search needs)
     returns
-    same-length-6
-    same-length-7
-    same-length-8
-    same-length-9
-    same-length-10
+    (λ c. search needs) (λ c. search needs) (λ c. search needs) (λ c. search needs) (λ c. search needs)
     returns-2)

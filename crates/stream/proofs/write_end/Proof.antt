@@ -8,23 +8,21 @@ use Rattle.stream.proofs.write_end.Tie as tie
 
 returns : tie.Need-returns
 returns c =
-    let e = not-true (c .before .before .before .args .r .on) (c .if1 .taken) in
+    let start : tie.Start = search in
+    let e = not-true (start .args .r .on) (c .if1 .taken) in
     record { closed = λ o. absurd (true≢false (sym o ∙ e)); stopped = λ o. refl }
-
-close-requires : tie.Need-close-requires
-close-requires c κs = search needs
-
-same-length : tie.Need-same-length
-same-length c = search needs
 
 returns-2 : tie.Need-returns-2
 returns-2 c =
-    let e = not-false (c .before .before .before .before .before .before .before .before .args .r .on) (c .before .before .before .before .before .if1 .left) in
-    let k = c .before .before .close in
+    let after-close : tie.After-close = search in
+    let else1 : tie.Else1 = search in
+    let start : tie.Start = search in
+    let e = not-false (start .args .r .on) (else1 .if1 .left) in
+    let k = after-close .close in
     record {
-      closed = λ o. record { out = now (c .before .before .before .before .before .before .before .before .args .out); exit = k .last .1 .0; count = k .result; wrote = k .ensures; prints = refl };
+      closed = λ o. record { out = now (start .args .out); exit = k .last .1 .0; count = k .result; wrote = k .ensures; prints = refl };
       stopped = λ o. absurd (true≢false (sym e ∙ o));
     }
 
 pub write-end-spec : {M : Type 1} → statement M
-write-end-spec = tie.close (tie.spec returns close-requires same-length returns-2)
+write-end-spec = tie.close (tie.spec returns (λ c κs. search needs) (λ c. search needs) returns-2)
