@@ -57,31 +57,31 @@ module _ (w : List ℕ) (i : ℕ) (old list : List ℕ) (d : Drawn) where
   promised new newList said e a = record { answer = rw e (a .answer); cells = rw e (a .cells); words = rw e (a .words); list = rw e (a .list) }
 
   -- a refusal leaves both buffers as they were
-  refusing : (k : ℕ) → drawSays w i (length old) (length list) ≡ refuses (by k) → Refuses k d → Draws w i old old list list d
-  refusing k e f = record { answer = rw e (f .number-is); cells = rw e (f .none); words = rw e; list = rw e }
+  refusing : (k : ℕ) → drawSays w i (length old) (length list) ≡ refuses (by k) → (x : Refusal) → x ≡ by k → Refuses x d → Draws w i old old list list d
+  refusing k e x q f = record { answer = rw e (f .says-so ∙ ap refuses q); cells = rw e (f .none); words = rw e; list = rw e }
 
-  pub draw-20 : wellFormed w ≡ false → Refuses 20 d → Draws w i old old list list d
+  pub draw-20 : wellFormed w ≡ false → (x : Refusal) → x ≡ by 20 → Refuses x d → Draws w i old old list list d
   unfolding drawSays
-  draw-20 e f = refusing 20 (not-formed _ answer w e) f
+  draw-20 e = refusing 20 (not-formed _ answer w e)
 
   module _ (s : Sound w) where
-    pub draw-23 : dueIn w ≡ 0 → Refuses 23 d → Draws w i old old list list d
+    pub draw-23 : dueIn w ≡ 0 → (x : Refusal) → x ≡ by 23 → Refuses x d → Draws w i old old list list d
     unfolding drawSays
-    draw-23 z f = refusing 23 (none-due drawRows answer w s z) f
+    draw-23 z = refusing 23 (none-due drawRows answer w s z)
 
     module _ (n : dueIn w ≡ 0 → ⊥) (board : List ℕ) (o : Odds) (p : Stands w board o) where
-      pub draw-28 : o .count ≡ 0 → Refuses 28 d → Draws w i old old list list d
+      pub draw-28 : o .count ≡ 0 → (x : Refusal) → x ≡ by 28 → Refuses x d → Draws w i old old list list d
       unfolding drawSays
-      draw-28 e f = refusing 28 (too-many drawRows answer w s n board o p e) f
+      draw-28 e = refusing 28 (too-many drawRows answer w s n board o p e)
 
       module _ (c : o .count ≡ 0 → ⊥) where
         further : drawSays w i (length old) (length list) ≡ byTable drawRows answer
         unfolding drawSays
         further = none-holds drawRows answer w s n board o p c
 
-        pub draw-27 : o .count ≤ i → Refuses 27 d → Draws w i old old list list d
+        pub draw-27 : o .count ≤ i → (x : Refusal) → x ≡ by 27 → Refuses x d → Draws w i old old list list d
         unfolding byTable
-        draw-27 h f = refusing 27 (further ∙ rw (le-ltb i (outcomes (stateOf w)) (let e = count-eq w board o p c in omega arith))) f
+        draw-27 h = refusing 27 (further ∙ rw (le-ltb i (outcomes (stateOf w)) (let e = count-eq w board o p c in omega arith)))
 
         module _ (h : i < o .count) where
           below : i < outcomes (stateOf w)
@@ -93,23 +93,21 @@ module _ (w : List ℕ) (i : ℕ) (old list : List ℕ) (d : Drawn) where
           cells-long : length (drawn (stateOf w) i) ≡ o .size
           cells-long = listed (stateOf w) i below .long ∙ sym (p .size-is)
 
-          pub draw-29 : length old < length w + o .size → Refuses 29 d → Draws w i old old list list d
+          pub draw-29 : length old < length w + o .size → (x : Refusal) → x ≡ by 29 → Refuses x d → Draws w i old old list list d
           unfolding byTable
-          draw-29 l f =
+          draw-29 l =
               refusing 29
               (further ∙ rw (lt-ltb i (outcomes (stateOf w)) below, lt-ltb (length old) (length (imageOf (afterDraw (stateOf w) i))) (omega (arith, long))))
-              f
 
           module _ (k : length w + o .size ≤ length old) where
             fits : ltb (length old) (length (imageOf (afterDraw (stateOf w) i))) ≡ false
             fits = le-ltb (length old) (length (imageOf (afterDraw (stateOf w) i))) (omega (arith, long))
 
-            pub list-29 : length list < o .size → Refuses 29 d → Draws w i old old list list d
+            pub list-29 : length list < o .size → (x : Refusal) → x ≡ by 29 → Refuses x d → Draws w i old old list list d
             unfolding byTable
-            list-29 l f =
+            list-29 l =
                 refusing 29
                 (further ∙ rw (lt-ltb i (outcomes (stateOf w)) below, fits, lt-ltb (length list) (length (drawn (stateOf w) i)) (omega (arith, cells-long))))
-                f
 
             module _ (l : o .size ≤ length list) where
               pub draw-gives : (new newList : List ℕ) → Answers answer old new list newList d → Draws w i old new list newList d

@@ -7,9 +7,9 @@ use Rattle.rules.specs.Image.{dueIn, imageOf, stateOf}
 use Rattle.rules.specs.Facts.{Sound}
 use Rattle.rules.specs.Chance.{outcomes, drawn, afterDraw}
 use Rattle.rules.specs.Calls.{Draw}
-use Rattle.rules.specs.Tables.{by}
 use Rattle.rules.specs.Says.{Says, refuses, seen, beside, lent, says}
 use Rattle.rules.specs.declared.Drawn.{Drawn}
+use Rattle.rules.specs.declared.Refusal.{Refusal}
 use Rattle.outcomes.specs.Odds.{Stands}
 use Rattle.outcomes.specs.declared.odds.Odds.{Odds}
 
@@ -32,7 +32,7 @@ pub record Answers (said : Says Draw) (old new oldList newList : List ℕ) (r : 
   pub words : new ≡ lent (λ d. imageOf (d .next)) old said
   pub list : newList ≡ lent (λ d. d .cells) oldList said
 
--- a refusal's number, and no cells
-pub record Refuses (number : ℕ) (r : Drawn) : Type 0 where
-  pub number-is : says (r .answer) ≡ refuses (by number)
+-- that refusal, and no cells
+pub record Refuses (why : Refusal) (r : Drawn) : Type 0 where
+  pub says-so : says (r .answer) ≡ refuses why
   pub none : r .cells ≡ 0

@@ -26,7 +26,7 @@ pub fn draw(image: &[u16], index: u64, out: &mut [u16], list: &mut [u16]) -> Dra
     ensures { λ r. ⌜ Draws (now (image .entry)) index (now (out .entry)) (now (out .exit)) (now (list .entry)) (now (list .exit)) r ⌝ }
 {
     if !well_formed(image) {
-        return refused(20);
+        return refused(refusals::by(20));
     }
     draw_due(image, index, out, list)
 }

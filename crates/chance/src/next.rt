@@ -8,6 +8,7 @@ use outcomes::pick_cells;
 use outcomes::split;
 use rules::Answer;
 use rules::Drawn;
+use rules::Refusal;
 ghost use mathlib.Core.Path.{_≡_};
 ghost use mathlib.Core.Bool.{not, _&&_, _||_};
 ghost use Prim.Native.Nat.{_-_, _≤_, _<_};
@@ -23,11 +24,11 @@ ghost use Rattle.boards.specs.Marks.{unmarked, Open};
 ghost use Rattle.chance.specs.Next.{nextWords, Growing};
 ghost use Rattle.chance.specs.Answers.{drawOf, Ready, Answers, Refuses};
 
-pub fn refused(number: u8) -> Drawn
-    ensures { λ r. ⌜ Refuses number r ⌝ }
+pub fn refused(why: Refusal) -> Drawn
+    ensures { λ r. ⌜ Refuses why r ⌝ }
 {
     Drawn {
-        answer: Answer::Refused(refusals::by(number)),
+        answer: Answer::Refused(why),
         cells: 0,
     }
 }
@@ -114,21 +115,21 @@ pub fn draw_due(image: &[u16], index: u64, out: &mut [u16], list: &mut [u16]) ->
     ensures { λ r. ⌜ Draws (now (image .entry)) index (now (out .entry)) (now (out .exit)) (now (list .entry)) (now (list .exit)) r ⌝ }
 {
     if image[2] == 0 {
-        return refused(23);
+        return refused(refusals::by(23));
     }
     let mut board = [0u8; 1024];
     let found = odds_of(image, &mut board);
     if found.count == 0 {
-        return refused(28);
+        return refused(refusals::by(28));
     }
     if found.count <= index {
-        return refused(27);
+        return refused(refusals::by(27));
     }
     if out.len() < image.len() + found.size {
-        return refused(29);
+        return refused(refusals::by(29));
     }
     if list.len() < found.size {
-        return refused(29);
+        return refused(refusals::by(29));
     }
     draw_into(image, index, found, &mut board, out, list)
 }

@@ -9,7 +9,7 @@ pub draw-spec : {M : Type 1} → statement M
 draw-spec =
     tie.close
     (tie.spec
-    (λ c κs. search needs) (λ c κs. search needs)
+    (λ c κs. search needs) (λ c κs. search needs) (λ c κs. search needs)
     (λ c. search (draw-20, failed))
     (λ c κs. search passed)
     (λ c. search needs) (λ c. search needs) (λ c. search needs))

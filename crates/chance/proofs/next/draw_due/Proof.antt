@@ -10,17 +10,17 @@ pub draw-due-spec : {M : Type 1} → statement M
 draw-due-spec =
     tie.close
     (tie.spec
-    (λ c. search needs) (λ c κs. search needs)
+    (λ c. search needs) (λ c κs. search needs) (λ c κs. search needs)
     (λ c. search draw-23)
     (λ c κs. search (needs, board-blank))
-    (λ c κs. search needs)
+    (λ c κs. search needs) (λ c κs. search needs)
     (λ c. search draw-28)
-    (λ c κs. search needs)
+    (λ c κs. search needs) (λ c κs. search needs)
     (λ c. search draw-27)
     (λ c. search words-fit)
-    (λ c κs. search needs)
+    (λ c κs. search needs) (λ c κs. search needs)
     (λ c. search draw-29)
-    (λ c κs. search needs)
+    (λ c κs. search needs) (λ c κs. search needs)
     (λ c. search list-29)
     (λ c κs. search draw-ready)
     (λ c. search needs) (λ c. search needs)
