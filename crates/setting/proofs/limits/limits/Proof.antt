@@ -49,8 +49,8 @@ returns-5 c =
 
 crowded-requires : tie.Need-crowded-requires
 crowded-requires c κs =
-    let f : tie.Else4 = search in
-    let g = f .before .before .before .before .before .before .before .args .setting .«grid_size» in
+    let s : tie.Start = search in
+    let g = s .args .setting .«grid_size» in
     let e : toZ w32 (ofZ w32 g) ≡ g = search needs in
     let h : ltZ (pos 32) g ≡ false = rw e at (c .before .if5 .left) in
     rw (c .side-of .ensures ∙ ap sideOf e) (side-small g h)
