@@ -1,5 +1,5 @@
 -- What each function of the consequences finds, from what its calls promise and the tests that it makes. Assumes nothing.
-use Prim.Native.Nat.{ℕ, _+_, _<_, _≤_}
+use Prim.Native.Nat.{ℕ, _+_, _*_, _<_, _≤_}
 use native.Mathlib.Omega.{arith}
 use mathlib.Core.Path.{_≡_, refl, sym, ap, _∙_}
 use mathlib.Core.Bool.{Bool, true, false, not, _&&_, _||_}
@@ -22,19 +22,18 @@ use Rattle.judge.specs.Loops.{Filling, Seeking, Passing}
 use Rattle.judge.proofs.Loops.{fill-none, fill-next, seek-next, seek-all, pass-here, pass-on, pass-all}
 use Rattle.consequences.specs.declared.after.After.{After}
 use Rattle.consequences.specs.declared.after.Tally.{Tally}
-use Rattle.consequences.specs.After.{settled, settledAt, gone, cells, living, causes, sizeOf, sizes, InImage, Short, Counted, Counting, holdsIn, killerIn, creditedTo, HasCell, Holder, KilledBy, Credited, eventAt}
+use Rattle.consequences.specs.After.{settled, settledAt, gone, cells, living, causes, sizeOf, sizes, PartIn, InImage, Short, Counted, Counting, holdsIn, killerIn, creditedTo, HasCell, Holder, KilledBy, Credited, eventAt}
 
 -- ---- the settled snakes: d is whether the cause is a death
 
 pub settled-so : (j : Judged) (d : Bool) → d ≡ dies (j .cause)
-    → record { heading = j .moved .heading; lives = j .moved .moves && not d; ate = j .moved .eats && not d; cause = j .cause; cell = j .moved .cell; start = j .moved .start; keep = j .moved .keep } ≡ settled j
+    → record { heading = j .moved .heading; lives = j .moved .moves && not d; ate = j .moved .eats && not d; cause = j .cause; cell = j .moved .cell; keep = j .moved .keep } ≡ settled j
 settled-so j d e = λ k. record {
   heading = j .moved .heading;
   lives = j .moved .moves && not (e k);
   ate = j .moved .eats && not (e k);
   cause = j .cause;
   cell = j .moved .cell;
-  start = j .moved .start;
   keep = j .moved .keep;
 }
 
@@ -96,19 +95,28 @@ count-all all n i alive deaths cells q l =
 -- ---- who killed
 
 -- a survivor's body is its cell and the rest; the dead are not searched
-module _ (w : List ℕ) (a : After) (cell : ℕ) where
-  pub cell-gone : not (a .lives) ≡ true → HasCell w a cell false
-  cell-gone h = record { is = rw (not-true (a .lives) h) }
+pub cell-gone : (w : List ℕ) (i : ℕ) (a : After) (cell : ℕ) → not (a .lives) ≡ true → HasCell w i a cell false
+cell-gone w i a cell h = record { is = rw (not-true (a .lives) h) }
 
-  pub cell-held : not (a .lives) ≡ false → (b : Bool) → b ≡ member cell (take (a .keep) (drop (a .start) w)) → HasCell w a cell (eqb cell (a .cell) || b)
+-- k is the place of the start
+module _ (w : List ℕ) (i : ℕ) (a : After) (q : PartIn w i a) (k : ℕ) (e : k ≡ 5 + 4 * i) where
+  pub start-word : Fits w64 (getD w k 0)
+  start-word = rw e (omega (arith, q .small))
+
+  pub part-fits : getD w k 0 + a .keep ≤ length w
+  part-fits = rw e (q .fits)
+
+  pub cell-held : (cell : ℕ) → not (a .lives) ≡ false → (b : Bool) → b ≡ member cell (take (a .keep) (drop (getD w k 0) w)) → HasCell w i a cell (eqb cell (a .cell) || b)
   unfolding member
-  cell-held h b e = record { is = rw (not-false (a .lives) h) (ap (λ (b : Bool). eqb cell (a .cell) || b) e) }
+  cell-held cell h b p = record {
+    is = rw (not-false (a .lives) h) (ap (λ (b : Bool). eqb cell (a .cell) || b) (p ∙ ap (λ (k : ℕ). member cell (take (a .keep) (drop (getD w k 0) w))) e));
+  }
 
-pub part-in : (w : List ℕ) (all : List After) → InImage w all → (j : ℕ) → getD all j gone .start + getD all j gone .keep ≤ length w
-part-in w all h j = h j
+pub part-in : (w : List ℕ) (all : List After) (n : ℕ) → InImage w all n → (j : ℕ) → j < n → PartIn w j (getD all j gone)
+part-in w all n h j l = h .parts j l
 
 module _ (w : List ℕ) (all : List After) (n cell j : ℕ) (q : Passing (holdsIn w all cell) n j) where
-  module _ (l : j < n) (b : Bool) (h : HasCell w (getD all j gone) cell b) where
+  module _ (l : j < n) (b : Bool) (h : HasCell w j (getD all j gone) cell b) where
     pub holder-here : b ≡ true → Holder w all n cell j
     holder-here t = record { is = pass-here (holdsIn w all cell) n j q l (sym (h .is) ∙ t) }
 

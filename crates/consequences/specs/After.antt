@@ -1,5 +1,5 @@
 -- The code's records of the snakes after the step, as the definition's snakes; the tests as the code makes them. Assumes nothing.
-use Prim.Native.Nat.{ℕ, _+_, _*_, _≤_}
+use Prim.Native.Nat.{ℕ, _+_, _*_, _<_, _≤_}
 use mathlib.Core.Bool.{Bool, false, not, _&&_, _||_}
 use mathlib.Core.List.{List}
 use mathlib.Core.Path.{_≡_}
@@ -14,6 +14,7 @@ use Rattle.rules.specs.declared.Cause.{Cause}
 use Rattle.rules.specs.declared.Cause.the-variants.{NoCause}
 use Rattle.rules.specs.declared.Event.{Event}
 use Rattle.rules.specs.Events.{dies}
+use Rattle.rules.specs.Image.{startAt}
 use Rattle.rules.specs.State.{Snake}
 use Rattle.rules.specs.Step.{killerOf}
 use Rattle.judge.specs.declared.Judged.{Judged}
@@ -27,7 +28,6 @@ settled j = record {
   heading = j .moved .heading;
   lives = j .moved .moves && not (dies (j .cause));
   cell = j .moved .cell;
-  start = j .moved .start;
   keep = j .moved .keep;
   ate = j .moved .eats && not (dies (j .cause));
   cause = j .cause;
@@ -38,18 +38,19 @@ settledAt js i = settled (getD js i untouched)
 
 -- a place of the array that no snake has
 abbrev pub gone : After
-gone = record { heading = Up; lives = false; cell = 0; start = 0; keep = 0; ate = false; cause = NoCause }
+gone = record { heading = Up; lives = false; cell = 0; keep = 0; ate = false; cause = NoCause }
 
-abbrev pub part : List ℕ → After → List ℕ
-part w a = partOf w (a .start) (a .keep)
+-- snake i: what it keeps of its body in the image, and the snake
+abbrev pub part : List ℕ → ℕ → After → List ℕ
+part w i a = partOf w (startAt w i) (a .keep)
 
-abbrev pub later : List ℕ → After → Snake
-later w a = record { heading = a .heading; alive = a .lives; body = bodyWith w (a .start) (a .keep) (a .cell) (a .lives) }
+abbrev pub later : List ℕ → ℕ → After → Snake
+later w i a = record { heading = a .heading; alive = a .lives; body = bodyWith w (startAt w i) (a .keep) (a .cell) (a .lives) }
 
 -- ---- what an array of them says, by number
 
 abbrev pub snakes : List ℕ → List After → ℕ → Snake
-snakes w all i = later w (getD all i gone)
+snakes w all i = later w i (getD all i gone)
 
 abbrev pub cells : List After → ℕ → ℕ
 cells all i = getD all i gone .cell
@@ -69,10 +70,19 @@ sizeOf a = a .keep + bit (a .lives)
 abbrev pub sizes : List After → ℕ → ℕ
 sizes all i = sizeOf (getD all i gone)
 
--- each rest is a part of the image, and short
-abbrev pub InImage : List ℕ → List After → Type 0
-InImage w all = (i : ℕ) → getD all i gone .start + getD all i gone .keep ≤ length w
+-- what snake i keeps is a part of the image
+pub record PartIn (w : List ℕ) (i : ℕ) (a : After) : Type 0 where
+  pub few : i < 8
+  pub words : 5 + 4 * i < length w
+  pub small : startAt w i < 65536
+  pub fits : startAt w i + a .keep ≤ length w
 
+-- and so of each of n
+pub record InImage (w : List ℕ) (all : List After) (n : ℕ) : Type 0 where
+  pub few : n ≤ 8
+  pub parts : (i : ℕ) → i < n → PartIn w i (getD all i gone)
+
+-- and it is short
 abbrev pub Short : List After → Type 0
 Short all = (i : ℕ) → getD all i gone .keep ≤ 1024
 
@@ -95,11 +105,11 @@ pub record Counting (all : List After) (n i alive deaths cells : ℕ) : Type 0 w
 -- ---- tests
 
 -- a survivor's body holds the cell
-abbrev pub holdsAt : List ℕ → After → ℕ → Bool
-holdsAt w a cell = later w a .alive && member cell (later w a .body)
+abbrev pub holdsAt : List ℕ → ℕ → After → ℕ → Bool
+holdsAt w i a cell = later w i a .alive && member cell (later w i a .body)
 
 abbrev pub holdsIn : List ℕ → List After → ℕ → ℕ → Bool
-holdsIn w all cell j = holdsAt w (getD all j gone) cell
+holdsIn w all cell j = holdsAt w j (getD all j gone) cell
 
 -- whom the death of a snake is credited to, of n
 abbrev pub killerIn : List ℕ → List After → ℕ → ℕ → ℕ
@@ -110,8 +120,8 @@ creditedTo to j i = eqb (getD to i 0) j
 
 -- ---- what each function finds
 
-pub record HasCell (w : List ℕ) (a : After) (cell : ℕ) (r : Bool) : Type 0 where
-  pub is : r ≡ holdsAt w a cell
+pub record HasCell (w : List ℕ) (i : ℕ) (a : After) (cell : ℕ) (r : Bool) : Type 0 where
+  pub is : r ≡ holdsAt w i a cell
 
 pub record Holder (w : List ℕ) (all : List After) (n cell r : ℕ) : Type 0 where
   pub is : r ≡ lowestFrom (holdsIn w all cell) 0 n

@@ -9,14 +9,13 @@ ghost use Prim.Native.Nat.{_≤_};
 ghost use Rattle.lists.specs.Below.{filled};
 ghost use Rattle.consequences.specs.After.{settled, settledAt, gone, sizeOf, Short, Counted};
 
-// A snake after the step: its body is the cell of its moved head, if it lives, and then the part of the image.
+// A snake after the step: its body is the cell of its moved head, if it lives, and then the first `keep` words of its body in the image.
 pub struct After {
     pub heading: Heading,
     pub lives: bool,
     pub ate: bool,
     pub cause: Cause,
     pub cell: u16,
-    pub start: u16,
     pub keep: u16,
 }
 
@@ -39,7 +38,6 @@ fn settle(j: Judged) -> After
         heading,
         lives: m.moves & lasts,
         cell: m.cell,
-        start: m.start,
         keep: m.keep,
         ate: m.eats & lasts,
         cause,
@@ -54,7 +52,6 @@ pub fn settle_all(judged: [Judged; 8], n: usize) -> [After; 8]
         heading: Heading::Up,
         lives: false,
         cell: 0,
-        start: 0,
         keep: 0,
         ate: false,
         cause: Cause::NoCause,

@@ -7,6 +7,8 @@ use mathlib.Core.List.{List}
 use lib.Dec.{eqb}
 use lib.IntN.{pos}
 use lib.ListN.{length, getD, take, drop, set, replicate}
+use mir.Val.{Fits}
+use mir.Syntax.{w64}
 use borrow.Author.Tests.{eq-eqb, ne-eqb, not-true, not-false}
 use Rattle.lists.specs.Choice.{_if_else_}
 use Rattle.lists.specs.Below.{someBelow, eachBelow, filled}
@@ -14,10 +16,10 @@ use Rattle.lists.specs.Lists.{member}
 use Rattle.lists.proofs.Lists.{rest-is}
 use Rattle.lists.proofs.Missing.{missing-part}
 use Rattle.lists.proofs.Tests.{ordered, less, more}
-use Rattle.lists.proofs.Below.{some-ext, some-never, some-false, each-at, each-past, each-ext, each-map, filled-is}
+use Rattle.lists.proofs.Below.{some-ext, some-never, some-false, each-at, each-past, each-map, filled-is}
 use Rattle.rules.specs.Grid.{same, inside, cellOf}
 use Rattle.rules.specs.State.{nobody}
-use Rattle.rules.specs.Image.{front, snakesIn, sideIn, foodStart, foodAt, stateOf}
+use Rattle.rules.specs.Image.{front, snakesIn, sideIn, startAt, foodAt, stateOf}
 use Rattle.rules.specs.Facts.{Sound}
 use Rattle.rules.proofs.Parts.{state-count}
 use Rattle.rules.specs.Step.{Moved, stays, movedOf, another, onBody, causeOf, transitionOf, stepped}
@@ -30,9 +32,9 @@ use Rattle.judge.specs.declared.Judged.{Judged}
 use Rattle.judge.specs.World.{still, shown, world, untouched, movesOf, causesOf, judgedWorld, movedWorld, Judges}
 use Rattle.judge.specs.Loops.{Filling, Seeking}
 use Rattle.judge.specs.Moving.{moveAt}
-use Rattle.judge.specs.Judging.{Rests, Judging, meetsAt, stopsAt, bodyCause, Meets, Stops, Stopped, OnBody, judgedAt}
+use Rattle.judge.specs.Judging.{Rests, RestIn, RestHolds, Judging, meetsAt, stopsAt, bodyCause, Meets, Stops, Stopped, OnBody, judgedAt}
 use Rattle.judge.proofs.Loops.{fill-none, fill-next, fill-all, seek-next, seek-all, seek-found, seek-on}
-use Rattle.judge.proofs.Moving.{origin-cell, shown-move, move-part, move-start, move-short, move-cell, move-inner}
+use Rattle.judge.proofs.Moving.{origin-cell, shown-move, move-part, move-short, move-cell, move-inner}
 
 -- ---- one cause
 
@@ -56,6 +58,18 @@ module _ (g n : ℕ) (m : ℕ → Moved) (i : ℕ) where
       let r : ℕ → Bool = λ j. member (cellOf g (m i .head)) (m j .rest) in
       sym (some-ext n (λ j. p j && r j) (λ j. p j && (s j || r j)) (λ j l. only-rest (p j) (s j) (r j) (some-never (λ j. p j && s j) n j l e)))
 
+-- the cause of a head on the grid, by its two tests
+module _ (w : List ℕ) (all : List Move) (n i cell : ℕ) where
+  body-by : {d e : Bool} → member cell (world w all i .rest) ≡ d → someBelow n (stopsAt w all i cell) ≡ e → (c : Cause) → c ≡ (SelfBody if d else OppBody if e else NoCause) → OnBody w all n i cell c
+  body-by p e c r = record { is = r ∙ sym (λ k. SelfBody if p k else OppBody if e k else NoCause) }
+
+  -- the cell is on no body at all
+  body-none : Rests w all → member cell (drop (front (snakesIn w)) w) ≡ false → OnBody w all n i cell NoCause
+  body-none r h =
+      body-by (r .clear i cell h)
+      (some-false (stopsAt w all i cell) n (λ j l. ap (λ (b : Bool). not (eqb i j) && getD all j still .moves && b) (r .clear j cell h) ∙ and-false (not (eqb i j) && getD all j still .moves)))
+      NoCause refl
+
 -- snake i of n, by the tests made so far
 module _ (w : List ℕ) (all : List Move) (n i : ℕ) (q : Judging w all n i) where
   abbrev me : Move
@@ -78,11 +92,19 @@ module _ (w : List ℕ) (all : List Move) (n i : ℕ) (q : Judging w all n i) wh
       pub cause-wall : not (me .inside) ≡ true → Wall ≡ causeOf (sideIn w) n (world w all) i
       cause-wall t = cause-by (sideIn w) n (world w all) i (not-false (me .moves) go) apart (inner ∙ not-true (me .inside) t) refl refl
 
-      pub cause-body : not (me .inside) ≡ false → (c : Cause) → OnBody w all n i (me .cell) c → c ≡ causeOf (sideIn w) n (world w all) i
-      cause-body t c b =
-          b .is
-          ∙ ap (bodyCause w all n i) (q .rests .cells i)
-          ∙ cause-by (sideIn w) n (world w all) i (not-false (me .moves) go) apart (inner ∙ not-false (me .inside) t) refl (heads-apart (sideIn w) n (world w all) i apart)
+      module _ (t : not (me .inside) ≡ false) where
+        pub cause-body : (c : Cause) → OnBody w all n i (me .cell) c → c ≡ causeOf (sideIn w) n (world w all) i
+        cause-body c b =
+            b .is
+            ∙ ap (bodyCause w all n i) (q .rests .cells i)
+            ∙ cause-by (sideIn w) n (world w all) i (not-false (me .moves) go) apart (inner ∙ not-false (me .inside) t) refl (heads-apart (sideIn w) n (world w all) i apart)
+
+        -- f is the first word after the records: the cell is on no body at all
+        pub cause-clear : (f : ℕ) → f ≡ 5 + 4 * n → (b : Bool) → b ≡ member (me .cell) (take (length w - f) (drop f w)) → not b ≡ true → NoCause ≡ causeOf (sideIn w) n (world w all) i
+        cause-clear f pf b e h =
+            let p : f ≡ front (snakesIn w) = omega (arith, q .snakes) in
+            let z = ap (λ (k : ℕ). member (me .cell) (drop k w)) (sym p) ∙ ap (member (me .cell)) (sym (rest-is w f)) ∙ sym e ∙ not-true b h in
+            cause-body NoCause (body-none w all n i (me .cell) (q .rests) z)
 
 -- ---- another's head
 
@@ -95,11 +117,37 @@ meets-next all n i p j found q l b e =
 pub meets-all : (all : List Move) (n i : ℕ) (p : Place) (j : ℕ) (found : Bool) → Seeking (meetsAt all i p) n j found → n ≤ j → Meets all n i p found
 meets-all all n i p j found q l = record { is = seek-all (meetsAt all i p) n j found q l }
 
+-- ---- a rest: k is the place of its start
+
+module _ (w : List ℕ) (j : ℕ) (m : Move) (q : RestIn w j m) (k : ℕ) (e : k ≡ 5 + 4 * j) where
+  pub start-word : Fits w64 (getD w k 0)
+  start-word = rw e (omega (arith, q .small))
+
+  pub rest-fits : getD w k 0 + m .keep ≤ length w
+  rest-fits = rw e (q .fits)
+
+  pub rest-held : (cell : ℕ) (r : Bool) → r ≡ member cell (take (m .keep) (drop (getD w k 0) w)) → RestHolds w j m cell r
+  rest-held cell r h = record { is = h ∙ ap (λ (k : ℕ). member cell (take (m .keep) (drop (getD w k 0) w))) e }
+
+pub rest-in : (w : List ℕ) (all : List Move) (n i : ℕ) → Judging w all n i → (j : ℕ) → j < n → RestIn w j (getD all j still)
+rest-in w all n i q j l =
+    let s = q .sound in
+    let h : j < snakesIn w = omega (arith, q .snakes) in
+    record {
+      few = omega (arith, s .snakes-max);
+      words = omega (arith, s .records-in);
+      small = omega (arith, s .bodies-in j h, s .total, s .small);
+      fits = q .rests .fits j h;
+    }
+
+pub own-in : (w : List ℕ) (all : List Move) (n i : ℕ) → Judging w all n i → RestIn w i (getD all i still)
+own-in w all n i q = rest-in w all n i q i (q .one)
+
 -- ---- another's rest
 
 module _ (w : List ℕ) (i j : ℕ) (m : Move) (cell : ℕ) where
-  stops-by : {a b : Bool} → eqb i j ≡ a → m .moves ≡ b → (r : Bool) → r ≡ (not a && b && member cell (shown w m .rest)) → Stops w i j m cell r
-  stops-by p q r e = record { is = e ∙ sym (λ k. not (p k) && q k && member cell (shown w m .rest)) }
+  stops-by : {a b : Bool} → eqb i j ≡ a → m .moves ≡ b → (r : Bool) → r ≡ (not a && b && member cell (shown w j m .rest)) → Stops w i j m cell r
+  stops-by p q r e = record { is = e ∙ sym (λ k. not (p k) && q k && member cell (shown w j m .rest)) }
 
   pub stops-self : i ≡ j → Stops w i j m cell false
   stops-self e = stops-by (eq-eqb i j e) refl false refl
@@ -108,11 +156,8 @@ module _ (w : List ℕ) (i j : ℕ) (m : Move) (cell : ℕ) where
     pub stops-still : not (m .moves) ≡ true → Stops w i j m cell false
     stops-still h = stops-by (ne-eqb i j o) (not-true (m .moves) h) false refl
 
-    pub stops-held : not (m .moves) ≡ false → (r : Bool) → r ≡ member cell (take (m .keep) (drop (m .start) w)) → Stops w i j m cell r
-    stops-held h r e = stops-by (ne-eqb i j o) (not-false (m .moves) h) r e
-
-pub rest-in : (w : List ℕ) (all : List Move) → Rests w all → (j : ℕ) → getD all j still .start + getD all j still .keep ≤ length w
-rest-in w all r j = r .fits j
+    pub stops-held : not (m .moves) ≡ false → (r : Bool) → RestHolds w j m cell r → Stops w i j m cell r
+    stops-held h r e = stops-by (ne-eqb i j o) (not-false (m .moves) h) r (e .is)
 
 module _ (w : List ℕ) (all : List Move) (n i cell : ℕ) where
   module _ (j : ℕ) (r : Bool) (s : Stops w i j (getD all j still) cell r) (l : j < n) where
@@ -127,30 +172,17 @@ module _ (w : List ℕ) (all : List Move) (n i cell : ℕ) where
 
 -- ---- the cause of a head on the grid
 
-module _ (w : List ℕ) (all : List Move) (n i cell : ℕ) (q : Judging w all n i) where
-  body-by : {d e : Bool} → member cell (world w all i .rest) ≡ d → someBelow n (stopsAt w all i cell) ≡ e → (c : Cause) → c ≡ (SelfBody if d else OppBody if e else NoCause) → OnBody w all n i cell c
-  body-by p e c r = record { is = r ∙ sym (λ k. SelfBody if p k else OppBody if e k else NoCause) }
-
-  -- f is the first word after the records: the cell is on no body at all
-  pub body-none : (f : ℕ) → f ≡ 5 + 4 * n → (b : Bool) → b ≡ member cell (take (length w - f) (drop f w)) → not b ≡ true → OnBody w all n i cell NoCause
-  body-none f pf b e t =
-      let r = q .rests in
-      let p : f ≡ front (snakesIn w) = omega (arith, q .snakes) in
-      let h : member cell (drop (front (snakesIn w)) w) ≡ false = ap (λ (k : ℕ). member cell (drop k w)) (sym p) ∙ ap (member cell) (sym (rest-is w f)) ∙ sym e ∙ not-true b t in
-      body-by (r .clear i cell h)
-      (some-false (stopsAt w all i cell) n (λ j l. ap (λ (b : Bool). not (eqb i j) && getD all j still .moves && b) (r .clear j cell h) ∙ and-false (not (eqb i j) && getD all j still .moves)))
-      NoCause refl
-
-  module _ (b : Bool) (e : b ≡ member cell (take (getD all i still .keep) (drop (getD all i still .start) w))) where
+module _ (w : List ℕ) (all : List Move) (n i cell : ℕ) where
+  module _ (b : Bool) (e : RestHolds w i (getD all i still) cell b) where
     pub body-own : b ≡ true → OnBody w all n i cell SelfBody
-    body-own t = body-by (sym e ∙ t) refl SelfBody refl
+    body-own t = body-by w all n i cell (sym (e .is) ∙ t) refl SelfBody refl
 
     module _ (f : b ≡ false) (s : Bool) (z : Stopped w all n i cell s) where
       pub body-other : s ≡ true → OnBody w all n i cell OppBody
-      body-other t = body-by (sym e ∙ f) (sym (z .is) ∙ t) OppBody refl
+      body-other t = body-by w all n i cell (sym (e .is) ∙ f) (sym (z .is) ∙ t) OppBody refl
 
       pub body-clear : s ≡ false → OnBody w all n i cell NoCause
-      body-clear t = body-by (sym e ∙ f) (sym (z .is) ∙ t) NoCause refl
+      body-clear t = body-by w all n i cell (sym (e .is) ∙ f) (sym (z .is) ∙ t) NoCause refl
 
 -- ---- the array of moves
 
@@ -158,39 +190,43 @@ module _ (w acts : List ℕ) (s : Sound w) (all : List Move) (q : all ≡ filled
   all-at : (j : ℕ) → getD all j still ≡ getD (eachBelow (snakesIn w) (moveAt w acts)) j still
   all-at j = ap (λ (l : List Move). getD l j still) q ∙ filled-is (moveAt w acts) (snakesIn w) 8 still j
 
-  inside-at : (P : Move → Type 0) → P still → ((i : ℕ) → i < snakesIn w → P (moveAt w acts i)) → (j : ℕ) → P (getD all j still)
+  -- what holds of each snake's move, and of what is still, holds of the array
+  inside-at : (P : ℕ → Move → Type 0) → ((j : ℕ) → P j still) → ((i : ℕ) → i < snakesIn w → P i (moveAt w acts i)) → (j : ℕ) → P j (getD all j still)
   inside-at P p f j = elim (ordered j (snakesIn w)) [
     | less l t ↦ rw (all-at j, each-at (snakesIn w) (moveAt w acts) still j l) (f j l)
-    | more l t ↦ rw (all-at j, each-past (snakesIn w) (moveAt w acts) still j l) p
+    | more l t ↦ rw (all-at j, each-past (snakesIn w) (moveAt w acts) still j l) (p j)
   ]
 
-  part-at : (j : ℕ) → getD all j still .start + getD all j still .keep ≤ foodStart w
-  part-at = inside-at (λ m. m .start + m .keep ≤ foodStart w) (omega arith) (λ i l. move-part w s i l (getD acts i 0))
+  part-at : (j : ℕ) → j < snakesIn w → startAt w j + getD all j still .keep ≤ length w
+  part-at j l = rw (all-at j, each-at (snakesIn w) (moveAt w acts) still j l) (move-part w s j l (getD acts j 0))
 
   short-at : (j : ℕ) → getD all j still .keep ≤ 1024
-  short-at = inside-at (λ m. m .keep ≤ 1024) (omega arith) (λ i l. move-short w s i l (getD acts i 0))
+  short-at = inside-at (λ j m. m .keep ≤ 1024) (λ j. omega arith) (λ i l. move-short w s i l (getD acts i 0))
 
-  clear-at : (x : ℕ) → member x (drop (front (snakesIn w)) w) ≡ false → (j : ℕ) → member x (shown w (getD all j still) .rest) ≡ false
+  clear-at : (x : ℕ) → member x (drop (front (snakesIn w)) w) ≡ false → (j : ℕ) → member x (shown w j (getD all j still) .rest) ≡ false
   unfolding member
-  clear-at x e = inside-at (λ m. member x (shown w m .rest) ≡ false) refl (λ i l. missing-part x w (front (snakesIn w)) (moveAt w acts i .start) (moveAt w acts i .keep) (move-start w s i l (getD acts i 0)) e)
+  clear-at x e = inside-at (λ j m. member x (shown w j m .rest) ≡ false) (λ j. refl) (λ i l. missing-part x w (front (snakesIn w)) (startAt w i) (moveAt w acts i .keep) (omega (arith, s .starts i l)) e)
 
   cell-at : (j : ℕ) → getD all j still .cell ≡ cellOf (sideIn w) (getD all j still .head)
-  cell-at = inside-at (λ m. m .cell ≡ cellOf (sideIn w) (m .head)) (origin-cell (sideIn w)) (λ i l. move-cell w s i l (getD acts i 0))
+  cell-at = inside-at (λ j m. m .cell ≡ cellOf (sideIn w) (m .head)) (λ j. origin-cell (sideIn w)) (λ i l. move-cell w s i l (getD acts i 0))
 
   inner-at : (j : ℕ) → getD all j still .moves ≡ true → getD all j still .inside ≡ inside (pos (sideIn w)) (getD all j still .head)
-  inner-at = inside-at (λ m. m .moves ≡ true → m .inside ≡ inside (pos (sideIn w)) (m .head)) (λ t. absurd (false≢true t)) (λ i l. move-inner w s i l (getD acts i 0))
+  inner-at = inside-at (λ j m. m .moves ≡ true → m .inside ≡ inside (pos (sideIn w)) (m .head)) (λ j t. absurd (false≢true t)) (λ i l. move-inner w s i l (getD acts i 0))
 
   all-rests : Rests w all
-  all-rests = record { fits = λ j. omega (arith, part-at j, s .total); clear = λ j x e. clear-at x e j; cells = cell-at; inner = inner-at }
+  all-rests = record { fits = part-at; clear = λ j x e. clear-at x e j; cells = cell-at; inner = inner-at }
 
   past-still : (j : ℕ) → snakesIn w ≤ j → getD all j still ≡ still
   past-still j l = all-at j ∙ each-past (snakesIn w) (moveAt w acts) still j l
 
   world-at : (j : ℕ) → world w all j ≡ movedWorld w acts j
-  world-at j =
-      ap (shown w) (all-at j)
-      ∙ each-map (shown w) (snakesIn w) (moveAt w acts) still j
-      ∙ ap (λ (l : List Moved). getD l j (stays nobody)) (each-ext (snakesIn w) (λ i. shown w (moveAt w acts i)) (movedOf (stateOf w) acts) (λ i l. shown-move w s i l acts))
+  world-at j = elim (ordered j (snakesIn w)) [
+    | less l t ↦
+        ap (shown w j) (all-at j ∙ each-at (snakesIn w) (moveAt w acts) still j l)
+        ∙ shown-move w s j l acts
+        ∙ sym (each-at (snakesIn w) (movedOf (stateOf w) acts) (stays nobody) j l)
+    | more l t ↦ ap (shown w j) (past-still j l) ∙ sym (each-past (snakesIn w) (movedOf (stateOf w) acts) (stays nobody) j l)
+  ]
 
   world-is : world w all ≡ movedWorld w acts
   world-is = λ k j. world-at j k
@@ -226,14 +262,14 @@ module _ (w acts : List ℕ) (s : Sound w) (all : List Move) (q : all ≡ filled
         causes-at j = ap (λ (z : Judged). z .cause) (judged-at j) ∙ each-map (λ (z : Judged). z .cause) (snakesIn w) (judgedAt w all (snakesIn w)) untouched j
 
         world-judged : judgedWorld w r ≡ world w all
-        world-judged = λ k j. shown w (moves-at j k)
+        world-judged = λ k j. shown w j (moves-at j k)
 
         pub judges : Judges w acts r
         judges = record {
           moved = world-judged ∙ world-is;
           causes = λ k j. (causes-at j ∙ ap (λ (m : ℕ → Moved). getD (eachBelow (snakesIn w) (causeOf (sideIn w) (snakesIn w) m)) j NoCause) (sym world-judged)) k;
           cells = λ j. rw (moves-at j) (cell-at j);
-          parts = λ j. rw (moves-at j) (all-rests .fits j);
+          parts = λ j l. rw (moves-at j) (part-at j l);
           short = λ j. rw (moves-at j) (short-at j);
         }
 

@@ -17,7 +17,7 @@ use Rattle.lists.proofs.Lists.{part-long}
 use Rattle.rules.specs.Headings.{headingOf, turned, actionOf}
 use Rattle.rules.specs.Grid.{ahead, inside, cellOf, placeOf}
 use Rattle.rules.specs.State.{Snake}
-use Rattle.rules.specs.Image.{word, front, snakesIn, sideIn, startAt, lengthAt, headingAt, aliveAt, foodStart, bodyAt, foodAt, snakeAt, stateOf}
+use Rattle.rules.specs.Image.{word, snakesIn, sideIn, startAt, lengthAt, headingAt, aliveAt, bodyAt, foodAt, snakeAt, stateOf}
 use Rattle.rules.specs.Facts.{Sound}
 use Rattle.rules.specs.Promises.{Turns}
 use Rattle.rules.proofs.Parts.{state-snake, body-in}
@@ -36,16 +36,19 @@ use Rattle.judge.proofs.Loops.{fill-none, fill-next, fill-all}
 
 -- ---- one snake
 
-module _ (w : List ℕ) (start len : ℕ) (fit : start + len ≤ length w) where
-  rest-kept : (e : Bool) → take (len if e else len - 1) (drop start w) ≡ (take len (drop start w) if e else take (length (take len (drop start w)) - 1) (take len (drop start w)))
-  rest-kept true = refl
-  rest-kept false = rw (part-long w start len fit) (sym (take-take (len - 1) len (drop start w) (omega arith)))
+module _ (w : List ℕ) (i len : ℕ) (fit : startAt w i + len ≤ length w) where
+  abbrev body : List ℕ
+  body = take len (drop (startAt w i) w)
 
-  shown-goes : (g : ℕ) (h : Heading) (p : Place) (e : Bool) → shown w (goesTo g start len h p e) ≡ goes (take len (drop start w)) h p e
+  rest-kept : (e : Bool) → take (len if e else len - 1) (drop (startAt w i) w) ≡ (body if e else take (length body - 1) body)
+  rest-kept true = refl
+  rest-kept false = rw (part-long w (startAt w i) len fit) (sym (take-take (len - 1) len (drop (startAt w i) w) (omega arith)))
+
+  shown-goes : (g : ℕ) (h : Heading) (p : Place) (e : Bool) → shown w i (goesTo g len h p e) ≡ goes body h p e
   shown-goes g h p e = λ k. record { moves = true; heading = h; head = p; rest = rest-kept e k; eats = e }
 
-  first-cell : 0 < len → word w start ≡ getD (take len (drop start w)) 0 0
-  first-cell room = let n : start + 0 ≡ start = omega arith in rw (getD-take, getD-drop, n)
+  first-cell : 0 < len → word w (startAt w i) ≡ getD body 0 0
+  first-cell room = let n : startAt w i + 0 ≡ startAt w i = omega arith in rw (getD-take, getD-drop, n)
 
 either : (P : Move → Type 0) (b : Bool) (m n : Move) → P m → P n → P (m if b else n)
 either P true m n p q = p
@@ -61,51 +64,44 @@ origin-cell g = zero-either (inside (pos g) (record { row = pos 0; col = pos 0 }
 
 module _ (w : List ℕ) (s : Sound w) (i : ℕ) (l : i < snakesIn w) where
   move-is : (a : ℕ) (b : Bool) → eqb (aliveAt w i) 1 ≡ b
-      → shown w (going w (startAt w i) (lengthAt w i) (turned (headingOf (headingAt w i)) (actionOf a)) if b else staying (startAt w i) (lengthAt w i) (headingOf (headingAt w i)))
+      → shown w i (going w (startAt w i) (lengthAt w i) (turned (headingOf (headingAt w i)) (actionOf a)) if b else staying (lengthAt w i) (headingOf (headingAt w i)))
       ≡ (let h = turned (headingOf (headingAt w i)) (actionOf a) in
       let p = headTo (sideIn w) h (getD (bodyAt w i) 0 0) in
       goes (bodyAt w i) h p (onFood (sideIn w) (foodAt w) p) if b else stays (snakeAt w i))
   move-is a true e =
       let h = turned (headingOf (headingAt w i)) (actionOf a) in
-      let q = first-cell w (startAt w i) (lengthAt w i) (body-in w s i l) (s .living i l (eqb-true _ _ e)) in
+      let q = first-cell w i (lengthAt w i) (body-in w s i l) (s .living i l (eqb-true _ _ e)) in
       let p : ℕ → Place = headTo (sideIn w) h in
-      shown-goes w (startAt w i) (lengthAt w i) (body-in w s i l) (sideIn w) h (p (word w (startAt w i))) (onFood (sideIn w) (foodAt w) (p (word w (startAt w i))))
+      shown-goes w i (lengthAt w i) (body-in w s i l) (sideIn w) h (p (word w (startAt w i))) (onFood (sideIn w) (foodAt w) (p (word w (startAt w i))))
       ∙ ap (λ (c : ℕ). goes (bodyAt w i) h (p c) (onFood (sideIn w) (foodAt w) (p c))) q
   move-is a false e = refl
 
-  pub shown-move : (acts : List ℕ) → shown w (moveAt w acts i) ≡ movedOf (stateOf w) acts i
+  pub shown-move : (acts : List ℕ) → shown w i (moveAt w acts i) ≡ movedOf (stateOf w) acts i
   unfolding moveBy stateOf
   shown-move acts = move-is (getD acts i 0) (eqb (aliveAt w i) 1) refl ∙ ap (λ (z : Snake). move (sideIn w) (foodAt w) z (getD acts i 0)) (sym (state-snake w i l))
 
   -- what holds of a snake that goes on, and of one that stays
-  each-way : (P : Move → Type 0) → ((h : Heading) (p : Place) (e : Bool) → P (goesTo (sideIn w) (startAt w i) (lengthAt w i) h p e))
-      → ((h : Heading) → P (staying (startAt w i) (lengthAt w i) h)) → (a : ℕ) → P (moveBy w i a)
+  each-way : (P : Move → Type 0) → ((h : Heading) (p : Place) (e : Bool) → P (goesTo (sideIn w) (lengthAt w i) h p e))
+      → ((h : Heading) → P (staying (lengthAt w i) h)) → (a : ℕ) → P (moveBy w i a)
   unfolding moveBy
   each-way P f q a =
       let h = headingOf (headingAt w i) in
       let t = turned h (actionOf a) in
       let p = headTo (sideIn w) t (word w (startAt w i)) in
-      either P (eqb (aliveAt w i) 1) (going w (startAt w i) (lengthAt w i) t) (staying (startAt w i) (lengthAt w i) h) (f t p (onFood (sideIn w) (foodAt w) p)) (q h)
+      either P (eqb (aliveAt w i) 1) (going w (startAt w i) (lengthAt w i) t) (staying (lengthAt w i) h) (f t p (onFood (sideIn w) (foodAt w) p)) (q h)
 
-  abbrev Within : Move → Type 0
-  Within m = (m .start ≡ startAt w i) × (m .keep ≤ lengthAt w i)
+  fed : (h : Heading) (p : Place) (e : Bool) → goesTo (sideIn w) (lengthAt w i) h p e .keep ≤ lengthAt w i
+  fed h p true = omega arith
+  fed h p false = omega arith
 
-  fed : (h : Heading) (p : Place) (e : Bool) → Within (goesTo (sideIn w) (startAt w i) (lengthAt w i) h p e)
-  fed h p true = (refl, omega arith)
-  fed h p false = (refl, omega arith)
+  keep-le : (a : ℕ) → moveBy w i a .keep ≤ lengthAt w i
+  keep-le = each-way (λ m. m .keep ≤ lengthAt w i) fed (λ h. omega arith)
 
-  keep-le : (a : ℕ) → Within (moveBy w i a)
-  keep-le = each-way Within fed (λ h. (refl, omega arith))
-
-  pub move-part : (a : ℕ) → moveBy w i a .start + moveBy w i a .keep ≤ foodStart w
-  move-part a = omega (arith, keep-le a .0, keep-le a .1, s .bodies-in i l)
-
-  -- after the records
-  pub move-start : (a : ℕ) → front (snakesIn w) ≤ moveBy w i a .start
-  move-start a = omega (arith, keep-le a .0, s .starts i l)
+  pub move-part : (a : ℕ) → startAt w i + moveBy w i a .keep ≤ length w
+  move-part a = omega (arith, keep-le a, s .bodies-in i l, s .total)
 
   pub move-short : (a : ℕ) → moveBy w i a .keep ≤ 1024
-  move-short a = omega (arith, keep-le a .1, s .lengths i l, s .area-max)
+  move-short a = omega (arith, keep-le a, s .lengths i l, s .area-max)
 
   pub move-cell : (a : ℕ) → moveBy w i a .cell ≡ cellOf (sideIn w) (moveBy w i a .head)
   move-cell = each-way (λ m. m .cell ≡ cellOf (sideIn w) (m .head)) (λ h p e. refl) (λ h. origin-cell (sideIn w))
@@ -139,24 +135,24 @@ module _ (w : List ℕ) (start : ℕ) (here : Place) (ph : here ≡ placeOf (sid
   here-near len a = rw ph (near-cell (sideIn w) (word w start) (omega (arith, a .sound .cells start (a .after) (a .words), a .sound .area-max)))
 
   pub goes-so : (h : Heading) (p : Place) → p ≡ ahead h here → (b : Bool) → b ≡ inside (pos (sideIn w)) p → (x : ℕ) → x ≡ cellOf (sideIn w) p → (e : Bool) → OnFood w b x e
-      → (len k : ℕ) → Kept len e k → record { moves = true; heading = h; eats = e; inside = b; head = p; cell = x; start = start; keep = k } ≡ going w start len h
+      → (len k : ℕ) → Kept len e k → record { moves = true; heading = h; eats = e; inside = b; head = p; cell = x; keep = k } ≡ going w start len h
   goes-so h p pp b pb x px e pe len k pk =
       let pt : p ≡ headTo (sideIn w) h (word w start) = pp ∙ ap (ahead h) ph in
       let pi : b ≡ inside (pos (sideIn w)) (headTo (sideIn w) h (word w start)) = pb ∙ ap (inside (pos (sideIn w))) pt in
       let pc : x ≡ cellOf (sideIn w) (headTo (sideIn w) h (word w start)) = px ∙ ap (cellOf (sideIn w)) pt in
       let po : e ≡ onFood (sideIn w) (foodAt w) (headTo (sideIn w) h (word w start)) = pe .is ∙ (λ t. pi t && member (pc t) (foodAt w)) in
       let pl = pk .is ∙ ap (λ (b : Bool). len if b else len - 1) po in
-      λ t. record { moves = true; heading = h; eats = po t; inside = pi t; head = pt t; cell = pc t; start = start; keep = pl t }
+      λ t. record { moves = true; heading = h; eats = po t; inside = pi t; head = pt t; cell = pc t; keep = pl t }
 
 -- ---- z is snake i's record
 
 module _ (w : List ℕ) (i : ℕ) (z : SnakeRecord) (q : z ≡ recordAt w i) where
   move-by : {b : Bool} (a : ℕ) → z .alive ≡ b
-      → (going w (z .start) (z .len) (turned (z .heading) (actionOf a)) if b else staying (z .start) (z .len) (z .heading)) ≡ moveBy w i a
+      → (going w (z .start) (z .len) (turned (z .heading) (actionOf a)) if b else staying (z .len) (z .heading)) ≡ moveBy w i a
   unfolding moveBy
   move-by a t =
       let e = sym t ∙ ap (λ (z : SnakeRecord). z .alive) q in
-      λ k. going w (q k .start) (q k .len) (turned (q k .heading) (actionOf a)) if e k else staying (q k .start) (q k .len) (q k .heading)
+      λ k. going w (q k .start) (q k .len) (turned (q k .heading) (actionOf a)) if e k else staying (q k .len) (q k .heading)
 
   pub living-at : Sound w → i < snakesIn w → z .alive ≡ true → LivingAt w (z .start) (z .len)
   living-at s l t =
@@ -169,7 +165,7 @@ module _ (w : List ℕ) (i : ℕ) (z : SnakeRecord) (q : z ≡ recordAt w i) whe
   pub living-moves : (a : ℕ) (r : RelativeAction) → r ≡ actionOf a → (t : Heading) → Turns (z .heading) r t → z .alive ≡ true → (m : Move) → m ≡ going w (z .start) (z .len) t → m ≡ moveBy w i a
   living-moves a r pr t pt e m pm = pm ∙ ap (going w (z .start) (z .len)) (pt .answer ∙ ap (turned (z .heading)) pr) ∙ move-by a e
 
-  pub corpse-stays : (a : ℕ) → z .alive ≡ false → staying (z .start) (z .len) (z .heading) ≡ moveBy w i a
+  pub corpse-stays : (a : ℕ) → z .alive ≡ false → staying (z .len) (z .heading) ≡ moveBy w i a
   corpse-stays a e = move-by a e
 
 -- ---- all of them

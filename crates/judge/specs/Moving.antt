@@ -32,23 +32,24 @@ pub record OnFood (w : List ℕ) (inside : Bool) (cell : ℕ) (r : Bool) : Type 
 pub record Kept (len : ℕ) (eats : Bool) (r : ℕ) : Type 0 where
   pub is : r ≡ (len if eats else len - 1)
 
--- on a grid of side g the body of `len` words from `start` on goes on to p, heading h; e where p is on food
-abbrev pub goesTo : ℕ → ℕ → ℕ → Heading → Place → Bool → Move
-goesTo g start len h p e = record { moves = true; heading = h; eats = e; inside = inside (pos g) p; head = p; cell = cellOf g p; start = start; keep = len if e else len - 1 }
+-- on a grid of side g a body of `len` words goes on to p, heading h; e where p is on food
+abbrev pub goesTo : ℕ → ℕ → Heading → Place → Bool → Move
+goesTo g len h p e = record { moves = true; heading = h; eats = e; inside = inside (pos g) p; head = p; cell = cellOf g p; keep = len if e else len - 1 }
 
+-- the body starts at `start`
 abbrev pub going : List ℕ → ℕ → ℕ → Heading → Move
 going w start len h =
     let p = headTo (sideIn w) h (word w start) in
-    goesTo (sideIn w) start len h p (onFood (sideIn w) (foodAt w) p)
+    goesTo (sideIn w) len h p (onFood (sideIn w) (foodAt w) p)
 
-abbrev pub staying : ℕ → ℕ → Heading → Move
-staying start len h = record { moves = false; heading = h; eats = false; inside = false; head = record { row = pos 0; col = pos 0 }; cell = 0; start = start; keep = len }
+abbrev pub staying : ℕ → Heading → Move
+staying len h = record { moves = false; heading = h; eats = false; inside = false; head = record { row = pos 0; col = pos 0 }; cell = 0; keep = len }
 
 -- snake i acts a
 unfoldable pub moveBy : List ℕ → ℕ → ℕ → Move
 moveBy w i a =
     let h = headingOf (headingAt w i) in
-    going w (startAt w i) (lengthAt w i) (turned h (actionOf a)) if eqb (aliveAt w i) 1 else staying (startAt w i) (lengthAt w i) h
+    going w (startAt w i) (lengthAt w i) (turned h (actionOf a)) if eqb (aliveAt w i) 1 else staying (lengthAt w i) h
 
 abbrev pub moveAt : List ℕ → List ℕ → ℕ → Move
 moveAt w acts i = moveBy w i (getD acts i 0)

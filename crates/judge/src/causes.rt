@@ -6,13 +6,13 @@ use rules::Cause;
 use rules::Heading;
 use rules::Place;
 ghost use mathlib.Core.Path.{_≡_};
-ghost use Prim.Native.Nat.{_+_, _≤_};
+ghost use Prim.Native.Nat.{_≤_};
 ghost use lib.ListN.{length};
 ghost use Rattle.rules.specs.Image.{snakesIn, sideIn};
 ghost use Rattle.rules.specs.Facts.{Sound};
 ghost use Rattle.rules.specs.Step.{causeOf};
 ghost use Rattle.judge.specs.World.{world, Judges};
-ghost use Rattle.judge.specs.Judging.{Rests, Judging, Meets, Stops, Stopped, OnBody};
+ghost use Rattle.judge.specs.Judging.{RestIn, RestHolds, Judging, Meets, Stops, Stopped, OnBody};
 
 // Whether another snake than i moved to the same place.
 fn head_on(all: [Move; 8], n: usize, i: usize, head: Place) -> bool
@@ -29,9 +29,18 @@ fn head_on(all: [Move; 8], n: usize, i: usize, head: Place) -> bool
     found
 }
 
+// Whether the rest of snake j's body holds a cell.
+fn rest_holds(image: &[u16], j: usize, you: Move, cell: u16) -> bool
+    requires { ⌜ RestIn (now image) j you ⌝ }
+    ensures { λ r. ⌜ RestHolds (now (image .entry)) j you cell r ⌝ }
+{
+    let start = image[layout::start_at(j)] as usize;
+    image::holds_in(image, start, you.keep as usize, cell)
+}
+
 // Whether snake j is another than i that moved and has the cell in the rest of its body; a corpse is not searched.
 fn stops(image: &[u16], i: usize, j: usize, you: Move, cell: u16) -> bool
-    requires { ⌜ you .start + you .keep ≤ length (now image) ⌝ }
+    requires { ⌜ RestIn (now image) j you ⌝ }
     ensures { λ r. ⌜ Stops (now (image .entry)) i j you cell r ⌝ }
 {
     if i == j {
@@ -40,13 +49,12 @@ fn stops(image: &[u16], i: usize, j: usize, you: Move, cell: u16) -> bool
     if !you.moves {
         return false;
     }
-    image::holds_in(image, you.start as usize, you.keep as usize, cell)
+    rest_holds(image, j, you, cell)
 }
 
 // Whether some snake has the cell so. Heads are not asked: a head there was head-on.
 fn stopped(image: &[u16], all: [Move; 8], n: usize, i: usize, cell: u16) -> bool
-    requires { ⌜ n ≤ 8 ⌝ }
-    requires { ⌜ Rests (now image) all ⌝ }
+    requires { ⌜ Judging (now image) all n i ⌝ }
     ensures { λ r. ⌜ Stopped (now (image .entry)) all n i cell r ⌝ }
 {
     let mut j = 0;
@@ -60,16 +68,13 @@ fn stopped(image: &[u16], all: [Move; 8], n: usize, i: usize, cell: u16) -> bool
     false
 }
 
-// Most heads are on no body and no food: one search over the words of both tells that, before any body is searched by itself.
+// The cause of a head on the grid that meets no other: the own rest, then the others'.
 fn body_cause(image: &[u16], all: [Move; 8], n: usize, i: usize, cell: u16) -> Cause
     requires { ⌜ Judging (now image) all n i ⌝ }
     ensures { λ r. ⌜ OnBody (now (image .entry)) all n i cell r ⌝ }
 {
-    if !lists::holds(&image[layout::front(n)..], cell) {
-        return Cause::NoCause;
-    }
     let me = all[i];
-    if image::holds_in(image, me.start as usize, me.keep as usize, cell) {
+    if rest_holds(image, i, me, cell) {
         return Cause::SelfBody;
     }
     if stopped(image, all, n, i, cell) {
@@ -93,6 +98,10 @@ fn cause_of(image: &[u16], all: [Move; 8], n: usize, i: usize) -> Cause
     if !me.inside {
         return Cause::Wall;
     }
+    // Most heads are on no body and no food: one search over the words of both tells that, before any body is searched by itself.
+    if !lists::holds(&image[layout::front(n)..], me.cell) {
+        return Cause::NoCause;
+    }
     body_cause(image, all, n, i, me.cell)
 }
 
@@ -112,7 +121,6 @@ pub fn judge(image: &[u16], actions: &[u64]) -> [Judged; 8]
             inside: false,
             head: Place { row: 0, col: 0 },
             cell: 0,
-            start: 0,
             keep: 0,
         },
         cause: Cause::NoCause,

@@ -7,7 +7,8 @@ use rules::Cause;
 use rules::Heading;
 use rules::Place;
 
-// A snake after the move: its head, whether that is inside the grid, and its cell there; the rest of its body is the part of the image of `keep` words from `start` on.
+// A snake after the move: its head, whether that is inside the grid, and its cell there; the rest is the first `keep` words of its body in the image.
+// Sixteen bytes: eight of them are copied in a few instructions.
 pub struct Move {
     pub moves: bool,
     pub heading: Heading,
@@ -15,7 +16,6 @@ pub struct Move {
     pub inside: bool,
     pub head: Place,
     pub cell: u16,
-    pub start: u16,
     pub keep: u16,
 }
 

@@ -48,7 +48,6 @@ fn goes_on(image: &[u16], start: u16, len: u16, heading: Heading) -> Move
         inside,
         head,
         cell,
-        start,
         keep: kept(len, eats),
     }
 }
@@ -72,7 +71,6 @@ fn moved(image: &[u16], i: usize, action: u64) -> Move
         inside: false,
         head: Place { row: 0, col: 0 },
         cell: 0,
-        start: snake.start,
         keep: snake.len,
     }
 }
@@ -89,7 +87,6 @@ pub fn move_all(image: &[u16], actions: &[u64]) -> [Move; 8]
         inside: false,
         head: Place { row: 0, col: 0 },
         cell: 0,
-        start: 0,
         keep: 0,
     }; 8];
     let mut i = 0;

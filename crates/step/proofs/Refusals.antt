@@ -145,7 +145,7 @@ module _ (s : Setting) (w acts : List ℕ) (v : Verdict) (a : Asks s w acts v) (
 -- ---- a judged array is ready to be applied
 
 pub judged-ready : (w acts : List ℕ) (all : List Judged) → Judges w acts all → Ready w all
-judged-ready w acts all j = record { causes = cause-judged w acts all j; cells = λ i h. j .cells i; parts = λ i h. j .parts i; short = λ i h. j .short i }
+judged-ready w acts all j = record { causes = cause-judged w acts all j; cells = λ i h. j .cells i; parts = j .parts; short = λ i h. j .short i }
 
 pub step-so : (s : Setting) (w acts : List ℕ) (all : List Judged) → Judges w acts all → (old new : List ℕ) (r : Stepped)
     → Applied (transitionOf s (sideIn w) (snakesIn w) (foodAt w) (judgedWorld w all)) old new r → Applied (stepped s (stateOf w) acts) old new r

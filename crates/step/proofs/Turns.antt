@@ -1,5 +1,5 @@
 -- The turns of the loops that write the records and the bodies of the next image. Assumes nothing.
-use mathlib.Core.Path.{_≡_, refl, ap, subst, _∙_}
+use mathlib.Core.Path.{_≡_, refl, sym, ap, subst, _∙_}
 use mathlib.Core.List.{List, [], _∷_}
 use Prim.Native.Nat.{ℕ, _+_, _*_, _<_, _≤_}
 use native.Mathlib.Omega.{arith}
@@ -13,10 +13,11 @@ use Rattle.lists.specs.Written.{Written}
 use Rattle.lists.proofs.Below.{sum-none, sum-next}
 use Rattle.lists.proofs.Runs.{written-long, run-start, run-next, run-room}
 use Rattle.lists.proofs.Writes.{length-write, turn-start, turn-next}
+use Rattle.cells.specs.Writers.{bodyWith}
 use Rattle.rules.specs.Headings.{numberOf}
 use Rattle.rules.specs.Image.{front}
 use Rattle.consequences.specs.declared.after.After.{After}
-use Rattle.consequences.specs.After.{gone, sizeOf, sizes, Short}
+use Rattle.consequences.specs.After.{gone, sizeOf, sizes, InImage, Short}
 use Rattle.consequences.proofs.Laws.{size-le}
 use Rattle.step.specs.Next.{recordIn, bodyIn, RecordsTo, BodiesTo}
 use Rattle.step.proofs.Words.{records-long}
@@ -70,21 +71,43 @@ records-all d all n i out start q l = let e : i ≡ n = omega (arith, q .along) 
 -- ---- bodies
 
 module _ (d : List ℕ) (from : ℕ) (w : List ℕ) (all : List After) (n : ℕ) where
-  pub bodies-none : n ≤ 8 → from + length (concatBelow n (bodyIn w all)) ≤ length d → BodiesTo d from w all n 0 d from
-  bodies-none few room = record { few = few; along = omega arith; room = room; long = refl; run = run-start d from (bodyIn w all) }
+  pub bodies-none : InImage w all n → from + length (concatBelow n (bodyIn w all)) ≤ length d → BodiesTo d from w all n 0 d from
+  bodies-none parts room = record { parts = parts; along = omega arith; room = room; long = refl; run = run-start d from (bodyIn w all) }
 
   module _ (i : ℕ) (out : List ℕ) (at : ℕ) (q : BodiesTo d from w all n i out at) where
-    pub body-fits : i < n → at + length (bodyIn w all i) ≤ length out
-    body-fits l = omega (arith, run-room d from (bodyIn w all) i n at out (q .run) l, q .room, q .long)
+    -- k is the place of snake i's start
+    module _ (l : i < n) (k : ℕ) (e : k ≡ 5 + 4 * i) where
+      abbrev a : After
+      a = getD all i gone
 
-    pub bodies-next : i < n → (new : List ℕ) (r : ℕ) → Written out at (bodyIn w all i) new r → BodiesTo d from w all n (i + 1) new r
-    bodies-next l new r y = record {
-      few = q .few;
-      along = omega arith;
-      room = q .room;
-      long = written-long out at (bodyIn w all i) new r y (body-fits l) ∙ q .long;
-      run = run-next d from (bodyIn w all) i at out new r (omega (arith, q .room)) (q .run) y;
-    }
+      body-at : bodyIn w all i ≡ bodyWith w (getD w k 0) (a .keep) (a .cell) (a .lives)
+      body-at = ap (λ (k : ℕ). bodyWith w (getD w k 0) (a .keep) (a .cell) (a .lives)) (sym e)
+
+      room-next : at + length (bodyIn w all i) ≤ length out
+      room-next = omega (arith, run-room d from (bodyIn w all) i n at out (q .run) l, q .room, q .long)
+
+      pub place-in : k < length w
+      place-in = omega (arith, q .parts .parts i l .words)
+
+      pub start-fits-word : Fits w64 (getD w k 0)
+      start-fits-word = rw e (omega (arith, q .parts .parts i l .small))
+
+      pub body-fits : at + length (bodyWith w (getD w k 0) (a .keep) (a .cell) (a .lives)) ≤ length out
+      body-fits = rw (← body-at) room-next
+
+      pub part-there : getD w k 0 + a .keep ≤ length w
+      part-there = rw e (q .parts .parts i l .fits)
+
+      pub bodies-next : (new : List ℕ) (r : ℕ) → Written out at (bodyWith w (getD w k 0) (a .keep) (a .cell) (a .lives)) new r → BodiesTo d from w all n (i + 1) new r
+      bodies-next new r z =
+          let y : Written out at (bodyIn w all i) new r = rw (← body-at) at z in
+          record {
+            parts = q .parts;
+            along = omega arith;
+            room = q .room;
+            long = written-long out at (bodyIn w all i) new r y room-next ∙ q .long;
+            run = run-next d from (bodyIn w all) i at out new r (omega (arith, q .room)) (q .run) y;
+          }
 
     pub bodies-all : n ≤ i → Written d from (concatBelow n (bodyIn w all)) out at
     bodies-all l = let e : i ≡ n = omega (arith, q .along) in subst (λ (k : ℕ). Written d from (concatBelow k (bodyIn w all)) out at) e (q .run)

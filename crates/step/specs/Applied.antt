@@ -9,7 +9,7 @@ use Rattle.lists.specs.Choice.{_if_else_}
 use Rattle.rules.specs.declared.Stepped.{Stepped}
 use Rattle.rules.specs.Events.{blank, eight}
 use Rattle.rules.specs.Grid.{cellOf}
-use Rattle.rules.specs.Image.{snakesIn, sideIn, imageOf}
+use Rattle.rules.specs.Image.{snakesIn, sideIn, startAt, imageOf}
 use Rattle.rules.specs.Tables.{by}
 use Rattle.rules.specs.Says.{Says, refuses, gives, seen, beside, lent, says}
 use Rattle.rules.specs.Step.{causeOf, Transition}
@@ -20,7 +20,7 @@ use Rattle.judge.specs.World.{movesOf, causesOf, judgedWorld}
 pub record Ready (w : List ℕ) (js : List Judged) : Type 0 where
   pub causes : (i : ℕ) → i < snakesIn w → causesOf js i ≡ causeOf (sideIn w) (snakesIn w) (judgedWorld w js) i
   pub cells : (i : ℕ) → i < snakesIn w → movesOf js i .cell ≡ cellOf (sideIn w) (movesOf js i .head)
-  pub parts : (i : ℕ) → i < snakesIn w → movesOf js i .start + movesOf js i .keep ≤ length w
+  pub parts : (i : ℕ) → i < snakesIn w → startAt w i + movesOf js i .keep ≤ length w
   pub short : (i : ℕ) → i < snakesIn w → movesOf js i .keep ≤ 1024
 
 -- 29 is the last refusal of a step

@@ -30,23 +30,16 @@ pub fn write_records(out: &mut [u16], all: [After; 8], n: usize)
 }
 
 pub fn write_bodies(out: &mut [u16], from: usize, image: &[u16], all: [After; 8], n: usize) -> usize
-    requires { ⌜ (n ≤ 8) × (from + length (concatBelow n (bodyIn (now image) all)) ≤ length (now out)) ⌝ }
-    requires { ⌜ InImage (now image) all ⌝ }
+    requires { ⌜ from + length (concatBelow n (bodyIn (now image) all)) ≤ length (now out) ⌝ }
+    requires { ⌜ InImage (now image) all n ⌝ }
     ensures { λ r. ⌜ Written (now (out .entry)) from (concatBelow n (bodyIn (now (image .entry)) all)) (now (out .exit)) r ⌝ }
 {
     let mut at = from;
     let mut i = 0;
     while i < n {
         let a = all[i];
-        at = image::write_body(
-            out,
-            at,
-            image,
-            a.start as usize,
-            a.keep as usize,
-            a.cell,
-            a.lives,
-        );
+        let start = image[layout::start_at(i)] as usize;
+        at = image::write_body(out, at, image, start, a.keep as usize, a.cell, a.lives);
         i += 1;
     }
     at

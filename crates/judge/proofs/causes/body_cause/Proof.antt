@@ -1,7 +1,7 @@
--- `judge::body_cause` meets its contract: what stands nowhere after the records stands in no rest; else the own rest is searched, then the others' (`Judging`).
+-- `judge::body_cause` meets its contract: the own rest is searched, then the others' (`Judging`).
 -- Assumes nothing.
 use borrow.Author.Needs.{needs}
-use Rattle.judge.proofs.Judging.{body-none, rest-in, body-own, body-other, body-clear}
+use Rattle.judge.proofs.Judging.{own-in, body-own, body-other, body-clear}
 use Rattle.judge.proofs.causes.body_cause.Statement.{statement}
 use Rattle.judge.proofs.causes.body_cause.Tie as tie
 
@@ -9,10 +9,8 @@ pub body-cause-spec : {M : Type 1} → statement M
 body-cause-spec =
     tie.close
     (tie.spec
-    (λ c κs. search needs) (λ c. search needs) (λ c. search needs) (λ c. search needs) (λ c. search needs) (λ c κs. search needs)
-    (λ c. search body-none)
-    (λ c. search needs) (λ c. search needs) (λ c. search needs) (λ c. search needs)
-    (λ c κs. search rest-in)
+    (λ c. search needs) (λ c. search needs)
+    (λ c κs. search own-in)
     (λ c. search body-own)
     (λ c κs. search needs)
     (λ c. search body-other)

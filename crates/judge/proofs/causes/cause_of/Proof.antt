@@ -1,7 +1,7 @@
 -- `judge::cause_of` meets its contract: each return is the definition's choice by the tests made so far (`Judging`).
 -- Assumes nothing.
 use borrow.Author.Needs.{needs}
-use Rattle.judge.proofs.Judging.{cause-stays, cause-meets, cause-wall, cause-body}
+use Rattle.judge.proofs.Judging.{cause-stays, cause-meets, cause-wall, cause-clear, cause-body}
 use Rattle.judge.proofs.causes.cause_of.Statement.{statement}
 use Rattle.judge.proofs.causes.cause_of.Tie as tie
 
@@ -14,5 +14,7 @@ cause-of-spec =
     (λ c κs. search needs)
     (λ c. search cause-meets)
     (λ c. search cause-wall)
+    (λ c κs. search needs) (λ c. search needs) (λ c. search needs) (λ c. search needs) (λ c. search needs) (λ c κs. search needs)
+    (λ c. search cause-clear)
     (λ c κs. search needs)
     (λ c. search cause-body))

@@ -11,5 +11,5 @@ stops-spec =
     (tie.spec
     (λ c. search stops-self)
     (λ c. search stops-still)
-    (λ c. search needs) (λ c. search needs) (λ c κs. search needs)
+    (λ c κs. search needs)
     (λ c. search stops-held))

@@ -2,9 +2,8 @@
 -- Assumes nothing.
 use Prim.Native.Nat.{_-_}
 use borrow.Author.Needs.{needs}
-use Rattle.consequences.proofs.Laws.{part-in}
 use Rattle.step.specs.Next.{BodiesTo}
-use Rattle.step.proofs.Turns.{bodies-none, body-fits, bodies-next, bodies-all}
+use Rattle.step.proofs.Turns.{bodies-none, place-in, start-fits-word, body-fits, part-there, bodies-next, bodies-all}
 use Rattle.step.proofs.bodies.write_bodies.Statement.{statement}
 use Rattle.step.proofs.bodies.write_bodies.Tie as tie
 
@@ -21,8 +20,12 @@ write-bodies-spec =
     Inv-loop
     μ-loop
     (λ c. search bodies-none)
-    (λ c. search needs) (λ c. search needs) (λ c. search needs) (λ c. search needs)
-    (λ c κs. search (body-fits, part-in))
+    (λ c. search needs) (λ c. search needs) (λ c κs. search needs)
+    (λ c. search needs)
+    (λ c. search place-in)
+    (λ c. search start-fits-word)
+    (λ c. search needs)
+    (λ c κs. search (body-fits, part-there))
     (λ c. search needs) (λ c. search needs)
     (λ c. search bodies-next)
     (λ c. search needs)
