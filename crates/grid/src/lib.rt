@@ -1,4 +1,4 @@
-// Headings, actions by number, and places: a row and a column, perhaps off the grid. Signed numbers are met here and where snakes are placed, nowhere else.
+// Headings, actions by number, and places: a row and a column, perhaps off the grid. Of the rules' code, rows and columns are signed here and where snakes are placed alone.
 use rules::Heading;
 use rules::Place;
 use rules::RelativeAction;
@@ -26,7 +26,7 @@ fn less(x: i32) -> i32
 }
 
 // cw of the Rust.
-pub fn clockwise(heading: Heading) -> Heading
+fn clockwise(heading: Heading) -> Heading
     ensures { λ r. ⌜ r ≡ clockwise heading ⌝ }
 {
     match heading {
@@ -38,7 +38,7 @@ pub fn clockwise(heading: Heading) -> Heading
 }
 
 // ccw of the Rust.
-pub fn counterclockwise(heading: Heading) -> Heading
+fn counterclockwise(heading: Heading) -> Heading
     ensures { λ r. ⌜ r ≡ counterclockwise heading ⌝ }
 {
     match heading {
@@ -99,7 +99,7 @@ pub fn ahead(heading: Heading, p: Place) -> Place
 }
 
 // in_bounds of the Rust.
-pub fn is_inside(g: i32, p: Place) -> bool
+fn is_inside(g: i32, p: Place) -> bool
     ensures { λ r. ⌜ r ≡ inside g p ⌝ }
 {
     let row = p.row;

@@ -30,7 +30,7 @@ fn kept(len: u16, eats: bool) -> u16
     if eats { len } else { len - 1 }
 }
 
-// The body of `len` words from `start` on goes one place on. Nothing else asks for a neighbour or for the cell of a head.
+// The body of `len` words from `start` on goes one place on. Nothing else of a step asks for a neighbour or for the cell of a head.
 fn goes_on(image: &[u16], start: u16, len: u16, heading: Heading) -> Move
     requires { ⌜ LivingAt (now image) start len ⌝ }
     ensures { λ r. ⌜ r ≡ going (now (image .entry)) start len heading ⌝ }

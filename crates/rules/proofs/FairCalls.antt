@@ -1,6 +1,6 @@
 -- Demand 3 of the calls' answers and buffers: whatever meets the promises of count, draw and rank answers P, draws fairly and ranks back. Assumes nothing.
 use Prim.Native.Nat.{ℕ, zero, suc, _+_, _-_, _^_, _<_, _≤_, min}
-use native.Mathlib.Nat.{le-refl, le-trans, not-suc-le-zero, le-of-suc-le-suc}
+use native.Mathlib.Nat.{pos-of-ne-zero, le-refl, le-trans, not-suc-le-zero, le-of-suc-le-suc}
 use native.Mathlib.Omega.{arith}
 use mathlib.Core.Path.{_≡_, refl, sym, ap, subst, _∙_}
 use mathlib.Core.Bool.{Bool, true, false, not}
@@ -34,8 +34,9 @@ use Rattle.rules.proofs.Facts.{sound}
 use Rattle.rules.proofs.Tables.{table-gives, table-given, table-seen}
 use Rattle.rules.proofs.Image.{state-back}
 use Rattle.rules.proofs.Parts.{state-food}
+use Rattle.rules.proofs.FreeCells.{free-short}
 use Rattle.rules.proofs.DrawFacts.{after-due, next-long}
-use Rattle.rules.proofs.Fairness.{fair, settled, birth-count, born, born-full}
+use Rattle.rules.proofs.Fairness.{fair, settled, birth-count, birth-few, born, born-full}
 use Rattle.rules.proofs.Again.{draw-again}
 use Rattle.rules.proofs.Births.{chain-ends}
 
@@ -55,13 +56,9 @@ module _ (w : List ℕ) where
       let some = eqb-false (dueIn w) 0 (row-out (countOrder w ++ rows) 1 none) in
       record {
         formed = not-false (wellFormed w) (row-out (countOrder w ++ rows) 0 none);
-        due = positive (dueIn w) some;
+        due = pos-of-ne-zero some;
         fits = ltb-false (2 ^ 64 - 1) (outcomes (stateOf w)) (row-out (countOrder w ++ rows) 2 none);
       }
-    where
-      positive : (n : ℕ) → (n ≡ 0 → ⊥) → 0 < n
-      positive zero h = absurd (h refl)
-      positive (suc n) h = omega arith
 
   -- the count answers P, the product of k factors from n downward
   pub count-answers : Countable w → (r : Number) → Counts w r → r ≡ Value (falling (length (free (stateOf w))) (drawSize (stateOf w)))
@@ -204,14 +201,15 @@ module _ (w l : List ℕ) (i : ℕ) (c : Ranks w l (Value i)) where
 
   -- and with room such a draw is answered, and writes that list
   pub rank-forth : (old new list cells : List ℕ) (r : Drawn) → Draws w i old new list cells r → length w + length l ≤ length old → length l ≤ length list
-      → (r .answer ≡ Done (length w + length l)) × (take (length l) cells ≡ l)
+      → (r .answer ≡ Done (length w + length l)) × (r .cells ≡ length l) × (take (length l) cells ≡ l)
   rank-forth old new list cells r p room list-room =
       let f = fair-image w (ranked .formed) in
       let k : length l ≡ drawSize (stateOf w) = sym (ap length (f .forth l can-rank)) ∙ f .long (rankOf (stateOf w) l) (f .ranks l can-rank) in
       let q : Drawable w i old list = record { countable = ranked; below = rw (none-held .1) at (f .ranks l can-rank); room = omega arith; list-room = omega arith } in
-      rw k (draw-comes w i old new list cells r p q .0, list-forth _ _ (draw-wrote w i old new list cells r p q))
+      let d = draw-comes w i old new list cells r p q in
+      rw k (d .0, d .1, list-forth _ _ (draw-wrote w i old new list cells r p q))
 
--- each list of k different free cells ranks as one index below P, whose draw is that list
+-- each list of k different free cells ranks as one index below P: what a draw of it lists is that list, and no other index's draw lists it
 pub rank-answers : (w l : List ℕ) → Countable w → canRank (stateOf w) l ≡ true → (r : Number) → Ranks w l r → RanksAsOne w l r
 rank-answers w l q h r c =
     let e = ranks-as w l q h r c in
@@ -251,13 +249,14 @@ module _ (w : List ℕ) (i : ℕ) (image list : List ℕ) (d : DrawWrote w i ima
   pub draw-changes : stateOf w .birth ≡ false → Changed w image list 0 false
   draw-changes b = let s = settled (stateOf w) i b in changed 0 false (s .due) (s .birth)
 
-  -- 'A birth draw takes 1 from due, or sets it to 0 when n = 0; birth stays unless due was 1 or n was 0'
+  -- 'A birth draw takes 1 from due ..; birth stays unless due was 1', where a cell is free
   pub birth-changes : stateOf w .birth ≡ true → 0 < length (free (stateOf w)) → Changed w image list (stateOf w .due - 1) (not (eqb (stateOf w .due) 1))
   birth-changes b some =
       let t = stateOf w in
       let s = born t b i (rw (birth-count t b some) at (written-below w i image list d)) in
       changed (t .due - 1) (not (eqb (t .due) 1)) (s .due) (s .birth)
 
+  -- '.. or sets it to 0 when n = 0; birth stays unless .. n was 0'
   pub full-changes : stateOf w .birth ≡ true → length (free (stateOf w)) ≡ 0 → Changed w image list 0 false
   full-changes b none = let s = born-full (stateOf w) b i none .0 in changed 0 false (s .due) (s .birth)
 
@@ -266,6 +265,14 @@ module _ (w : List ℕ) (i : ℕ) (image list : List ℕ) (d : DrawWrote w i ima
   written-again = ap wellFormed (written-image w i image list d) ∙ draw-again w i (answered w i image list d .counted .formed) (written-below w i image list d)
 
 -- ---- a chain of draws at birth: image j + 1 is what draw j wrote, and each draw with food due is answered
+
+-- at birth a well-formed image with food due has few outcomes, so that with room an index below them is answered
+pub birth-countable : (w : List ℕ) → wellFormed w ≡ true → 0 < dueIn w → stateOf w .birth ≡ true → Countable w
+unfolding stateOf
+birth-countable w ok due b =
+    let t = stateOf w in
+    let s = sound w ok in
+    record { formed = ok; due = due; fits = le-trans (birth-few t b) (omega (arith, free-short t, s .area-max)) }
 
 -- as it is with room, and one of the chain where the next image is what it wrote
 pub chain-draw : (image : ℕ → List ℕ) (index : ℕ → ℕ) (j : ℕ) (old new list cells : List ℕ) (r : Drawn) → Draws (image j) (index j) old new list cells r

@@ -4,7 +4,7 @@
 use mathlib.Core.Path.{_≡_, refl, _∙_}
 use mathlib.Core.Bool.{true, false, _&&_}
 use mathlib.Core.List.{List, [], _∷_}
-use Prim.Native.Nat.{ℕ, zero, suc, _-_, _%_, _<_, min}
+use Prim.Native.Nat.{ℕ, zero, suc, _+_, _-_, _%_, _<_, _≤_, min}
 use native.Mathlib.Nat.{mul-one, sub-zero, mod-eq-of-lt, lt-irrefl}
 use native.Mathlib.Omega.{arith}
 use lib.Dec.{eqb}
@@ -14,7 +14,7 @@ use Rattle.lists.specs.Below.{countBelow}
 use Rattle.lists.specs.Lists.{all, member, distinct, ascending}
 use Rattle.lists.specs.Products.{falling, factorial}
 use Rattle.lists.specs.Equal.{sameList}
-use Rattle.lists.proofs.Tests.{and-left, and-right, both}
+use Rattle.lists.proofs.Tests.{and-left, and-right, both, ordered, less, more}
 use Rattle.lists.proofs.Members.{all-member, all-members}
 use Rattle.rules.specs.State.{State}
 use Rattle.rules.specs.Fair.{Fair, Settled, Born}
@@ -112,6 +112,14 @@ module _ (t : State) (b : t .birth ≡ true) where
       go : (n : ℕ) → falling n 1 ≡ n
       go zero = refl
       go (suc n) = mul-one (suc n)
+
+  -- and 1 where none is: at most one more than the free cells
+  pub birth-few : outcomes t ≤ length (free t) + 1
+  unfolding outcomes falling
+  birth-few = elim (ordered 0 (length (free t))) [
+    | less h e ↦ omega (arith, birth-count h)
+    | more h e ↦ let z : drawSize t ≡ 0 = birth-size t b ∙ omega arith in rw z (omega arith)
+  ]
 
   birth-cell : (i : ℕ) → i < length (free t) → drawn t i ≡ getD (free t) i 0 ∷ []
   unfolding drawn drawnFrom digits pick

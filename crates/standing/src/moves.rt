@@ -1,6 +1,6 @@
 // The match as a value: what a move makes of it, which events its line shows, and its last line.
 use crate::Match;
-use crate::ranks::placings;
+use crate::placings::placings;
 use events::mark;
 use events::no_events;
 use layout::alive_at;

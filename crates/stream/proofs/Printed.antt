@@ -13,7 +13,7 @@ use Rattle.referee.specs.Run.{Took, Closed, deskAfter, Run, holds, goes, stops,
 use Rattle.referee.specs.declared.Desk.{Desk}
 use Rattle.referee.proofs.Whole.{run-prints}
 use Rattle.stream.specs.Steps.{Fresh, Takes, Waits, Step, waits, takes, Steps, none, more, front, Last, stopped, nothing, last, Ends, Replay, reads, finishes}
-use Rattle.stream.specs.declared.Reader.{Reader}
+use Rattle.stream.specs.declared.Progress.{Progress}
 
 -- ---- the bytes before a newline, and none
 
@@ -42,14 +42,14 @@ like x y z w run = rw (← x, ← y, ← z, ← w) run
 
 -- ---- a part
 
-module _ (part : List ℕ) (r : Reader) (line image s : List ℕ) where
+module _ (part : List ℕ) (r : Progress) (line image s : List ℕ) where
   -- where the steps lead: to a run from there on, or to the end of one
-  data Leads (q : Reader) (after new said : List ℕ) : Type 0 where
+  data Leads (q : Progress) (after new said : List ℕ) : Type 0 where
     on : (t : List ℕ) → q .on ≡ true → Holds after (q .fill) t
         → ((input printed : List ℕ) → Run (q .desk) new t (drop (q .at) part ++ input) printed → Run (r .desk) image s (drop (r .at) part ++ input) (said ++ printed)) → Leads q after new said
     off : q .on ≡ false → ((input : List ℕ) → Run (r .desk) image s (drop (r .at) part ++ input) said) → Leads q after new said
 
-  module _ (q p : Reader) (before after old new said out t : List ℕ)
+  module _ (q p : Progress) (before after old new said out t : List ℕ)
       (f : (input printed : List ℕ) → Run (q .desk) old t (drop (q .at) part ++ input) printed → Run (r .desk) image s (drop (r .at) part ++ input) (said ++ printed)) where
     lead-waits : Holds before (q .fill) t → q .on ≡ true → Waits q p part before after old new → Leads p after new (said ++ take (p .text) out)
     lead-waits k o w =
@@ -80,23 +80,23 @@ module _ (part : List ℕ) (r : Reader) (line image s : List ℕ) where
         let e : up ++ (10 ∷ (drop (p .at) part ++ input)) ≡ drop (q .at) part ++ input = sym (append-assoc up (10 ∷ drop (p .at) part) input) ∙ ap (λ (l : List ℕ). l ++ input) (sym c) in
         f input (take (p .text) out) (like refl refl e refl g))
 
-  lead-on : (q p : Reader) (before after old new said out : List ℕ) → Leads q before old said → q .on ≡ true → Step q p part before after old new out → Leads p after new (said ++ take (p .text) out)
+  lead-on : (q p : Progress) (before after old new said out : List ℕ) → Leads q before old said → q .on ≡ true → Step q p part before after old new out → Leads p after new (said ++ take (p .text) out)
   lead-on q p before after old new said out (off e g) o x = absurd (true≢false (sym o ∙ e))
   lead-on q p before after old new said out (on t e h f) o (waits w) = lead-waits q p before after old new said out t f h o w
   lead-on q p before after old new said out (on t e h f) o (takes c k) = lead-takes q p before after old new said out t f (k .turned .more) h c k refl
 
-  leads : {q : Reader} {after new said : List ℕ} → Holds line (r .fill) s → r .on ≡ true → Steps part r line image q after new said → Leads q after new said
+  leads : {q : Progress} {after new said : List ℕ} → Holds line (r .fill) s → r .on ≡ true → Steps part r line image q after new said → Leads q after new said
   leads h e none = on s e h (λ input printed run. run)
   leads h e (more {q = q} {p = p} {before = before} {after = after} {old = old} {new = new} {said = said} out steps o x) = lead-on q p before after old new said out (leads h e steps) o x
 
--- a reader that was stopped stays so
-stays-off : {part : List ℕ} {r : Reader} {line image : List ℕ} {q : Reader} {after new said : List ℕ} → r .on ≡ false → Steps part r line image q after new said → (q .on ≡ false) × (said ≡ [])
+-- a stream that was stopped stays so
+stays-off : {part : List ℕ} {r : Progress} {line image : List ℕ} {q : Progress} {after new said : List ℕ} → r .on ≡ false → Steps part r line image q after new said → (q .on ≡ false) × (said ≡ [])
 stays-off e none = (e, refl)
 stays-off e (more out steps o x) = absurd (true≢false (sym o ∙ stays-off e steps .0))
 
 -- ---- the end of the input
 
-module _ (r q : Reader) (n : ℕ) (line old new lent out : List ℕ) (x : Ends q n out) where
+module _ (r q : Progress) (n : ℕ) (line old new lent out : List ℕ) (x : Ends q n out) where
   end-off : r .on ≡ false → Last r q line old new lent → take (q .text) lent ++ take n out ≡ []
   end-off e (stopped f o i t) = rw (no-text (q .text) lent t, no-text n out (x .stopped o))
   end-off e (nothing f d o i t) = rw (no-text (q .text) lent t, no-text n out (x .stopped (o ∙ e)))
@@ -125,14 +125,14 @@ module _ (r q : Reader) (n : ℕ) (line old new lent out : List ℕ) (x : Ends q
 
 -- ---- the whole input
 
-silent : {r : Reader} {line image input printed : List ℕ} → r .on ≡ false → Replay r line image input printed → printed ≡ []
+silent : {r : Progress} {line image input printed : List ℕ} → r .on ≡ false → Replay r line image input printed → printed ≡ []
 silent e (reads part all rest) =
     let p = stays-off e (all .steps) in
     let q = silent (p .0) rest in
     rw (p .1, q)
 silent e (finishes {r = r} {n = n} {line = line} {old = old} {new = new} {out = out} i f) = end-off r (f .after) n line old new (f .lent) out (f .ends) e (f .last)
 
-run-of : {r : Reader} {line image input printed : List ℕ} (s : List ℕ) → Holds line (r .fill) s → r .on ≡ true → Replay r line image input printed → Run (r .desk) image s input printed
+run-of : {r : Progress} {line image input printed : List ℕ} (s : List ℕ) → Holds line (r .fill) s → r .on ≡ true → Replay r line image input printed → Run (r .desk) image s input printed
 run-of s h e (reads {r = r} {q = q} {before = before} {after = after} {old = old} {new = new} {input = input} {printed = printed} part all rest) = elim (leads part (front r) before old s h e (all .steps)) [
   | on t o k f ↦ let a = run-of t k o rest in f input printed (like refl refl (ap (λ (l : List ℕ). l ++ input) (sym (all .past o))) refl a)
   | off o f ↦ like refl refl refl (sym (append-nil (all .said)) ∙ ap (λ (l : List ℕ). all .said ++ l) (sym (silent o rest))) (f input)
@@ -141,5 +141,5 @@ run-of s h e (finishes {r = r} {n = n} {line = line} {old = old} {new = new} {in
     like refl refl (sym (i e)) refl (end-runs r (f .after) n line old new (f .lent) out (f .ends) s h e (f .last))
 
 -- whatever stands in the buffers before
-pub reader-prints : (r : Reader) (line image input printed : List ℕ) → Fresh r → Replay r line image input printed → printed ≡ replayOf input
-reader-prints r line image input printed e x = run-prints (r .desk) image input printed (e .begun) (run-of [] (held-none line (r .fill) (e .fill)) (e .on) x)
+pub stream-prints : (r : Progress) (line image input printed : List ℕ) → Fresh r → Replay r line image input printed → printed ≡ replayOf input
+stream-prints r line image input printed e x = run-prints (r .desk) image input printed (e .begun) (run-of [] (held-none line (r .fill) (e .fill)) (e .on) x)

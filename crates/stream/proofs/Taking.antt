@@ -1,4 +1,4 @@
--- From what `feed` and `take_line` promise to what a step of the reader does. Assumes nothing.
+-- From what `feed` and `take_line` promise to what a step of the stream does. Assumes nothing.
 use Prim.Native.Nat.{ℕ, suc, _+_, _-_, _<_, _≤_}
 use native.Mathlib.Nat.{sub-zero}
 use native.Mathlib.Omega.{arith}
@@ -18,7 +18,7 @@ use Rattle.referee.specs.Run.{Took}
 use Rattle.referee.specs.declared.Turned.{Turned}
 use Rattle.stream.specs.Room.{Ready}
 use Rattle.stream.specs.Steps.{Takes, Step, waits, takes, Steps}
-use Rattle.stream.specs.declared.Reader.{Reader}
+use Rattle.stream.specs.declared.Progress.{Progress}
 
 -- ---- where a line ends
 
@@ -38,12 +38,9 @@ cut-newline (x ∷ s) h = newline-by (eqb x 10) x s refl (cut-newline s) h
 below : (a b : ℕ) → a ≤ b → (a ≡ b → ⊥) → a < b
 below a b h e = elim (ordered a b) [ less l t ↦ l | more l t ↦ absurd (e (omega arith)) ]
 
-pub some : (k : ℕ) → (k ≡ 0 → ⊥) → 0 < k
-some k e = below 0 k (omega arith) (λ q. e (sym q))
-
 -- ---- the line that is held
 
-pub took-held : (r : Reader) (line image new next list out exit : List ℕ) (t : Turned) → Ready r line image next list out
+pub took-held : (r : Progress) (line image new next list out exit : List ℕ) (t : Turned) → Ready r line image next list out
     → Plays (lineSays (r .desk) (take (r .desk .words) image) (take (r .fill - 0) (drop 0 line)) (length next) (length list)) (r .desk .game) image new out exit t
     → (s : List ℕ) → Holds line (r .fill) s → Took (r .desk) image (s ++ []) new (take (t .text) exit) t
 took-held r line image new next list out exit t e p s h =
@@ -53,7 +50,7 @@ took-held r line image new next list out exit t e p s h =
 
 -- ---- what came, up to the end of a line
 
-module _ (r : Reader) (part before after old : List ℕ) (end fill : ℕ) (e : end ≡ r .at + length (upTo 10 (drop (r .at) part))) (a : r .at < length part)
+module _ (r : Progress) (part before after old : List ℕ) (end fill : ℕ) (e : end ≡ r .at + length (upTo 10 (drop (r .at) part))) (a : r .at < length part)
     (f : Feeds before after (r .fill) fill (take (end - r .at) (drop (r .at) part))) where
   abbrev left : List ℕ
   left = drop (r .at) part
@@ -64,7 +61,7 @@ module _ (r : Reader) (part before after old : List ℕ) (end fill : ℕ) (e : e
   fed : (s : List ℕ) → Holds before (r .fill) s → Holds after fill (s ++ upTo 10 left)
   fed s h = let g = f .holds s h in rw (← lent-is) g
 
-  pub step-waits : (q : Reader) (out : List ℕ) → end ≡ length part → q .at ≡ end + 1 → q .fill ≡ fill → q .desk ≡ r .desk → q .text ≡ 0 → q .on ≡ r .on → Step r q part before after old old out
+  pub step-waits : (q : Progress) (out : List ℕ) → end ≡ length part → q .at ≡ end + 1 → q .fill ≡ fill → q .desk ≡ r .desk → q .text ≡ 0 → q .on ≡ r .on → Step r q part before after old old out
   step-waits q out n p i d t o =
       let w : upTo 10 left ≡ left = cut-whole left (omega (arith, length-drop (r .at) part)) in
       let m : length part ≤ q .at = omega arith in
@@ -78,7 +75,7 @@ module _ (r : Reader) (part before after old : List ℕ) (end fill : ℕ) (e : e
         on = o;
       }
 
-  pub step-takes : {h q : Reader} {new out : List ℕ} → end ≤ length part → (end ≡ length part → ⊥) → q .at ≡ end + 1 → h .fill ≡ fill → h .desk ≡ r .desk → Takes h q after [] old new out → Step r q part before after old new out
+  pub step-takes : {h q : Progress} {new out : List ℕ} → end ≤ length part → (end ≡ length part → ⊥) → q .at ≡ end + 1 → h .fill ≡ fill → h .desk ≡ r .desk → Takes h q after [] old new out → Step r q part before after old new out
   step-takes {h = h} {q = q} {new = new} {out = out} m w p i d t =
       let n = below end (length part) m w in
       let b : left ≡ upTo 10 left ++ (10 ∷ drop (suc (length (upTo 10 left))) left) = cut-newline left (omega (arith, length-drop (r .at) part)) in
@@ -99,12 +96,12 @@ module _ (r : Reader) (part before after old : List ℕ) (end fill : ℕ) (e : e
 
 -- ---- a part, step by step
 
-pub record Stepped (part : List ℕ) (r : Reader) (line image : List ℕ) (q : Reader) (after new : List ℕ) : Type 0 where
+pub record Stepped (part : List ℕ) (r : Progress) (line image : List ℕ) (q : Progress) (after new : List ℕ) : Type 0 where
   pub said : List ℕ
   pub steps : Steps part r line image q after new said
 
 -- whether its text could be written is no part of a step
-pub printed-or-not : {r q : Reader} {part before after old new out : List ℕ} (heard : Bool) → Step r q part before after old new out
+pub printed-or-not : {r q : Progress} {part before after old new out : List ℕ} (heard : Bool) → Step r q part before after old new out
     → Step r (record { desk = q .desk; fill = q .fill; at = q .at; text = q .text; on = q .on; heard = heard }) part before after old new out
 printed-or-not heard (waits w) = waits record { whole = w .whole; past = w .past; held = w .held; desk = w .desk; image = w .image; text = w .text; on = w .on }
 printed-or-not heard (takes e t) = takes e record { turned = t .turned; took = t .took; desk = t .desk; fill = t .fill; on = t .on }

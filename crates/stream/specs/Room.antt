@@ -3,10 +3,10 @@ use Prim.Native.Nat.{ℕ, _≤_}
 use mathlib.Core.Path.{_≡_}
 use mathlib.Core.List.{List}
 use lib.ListN.{length}
-use Rattle.stream.specs.declared.Reader.{Reader}
+use Rattle.stream.specs.declared.Progress.{Progress}
 
 -- the image and the bytes that are held stand in their buffers
-pub record Ready (r : Reader) (line image next list out : List ℕ) : Type 0 where
+pub record Ready (r : Progress) (line image next list out : List ℕ) : Type 0 where
   pub held : r .fill ≤ length line
   pub wide : 201 ≤ length line
   pub words : r .desk .words ≤ length image

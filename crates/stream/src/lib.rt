@@ -12,7 +12,7 @@ ghost use Rattle.stream.specs.Steps.{Fresh, Takes, Step, TakesAll, Last,
 
 // What is kept from part to part: the desk, how many bytes of a line are held, where to go on in what came, how many bytes the text to print has,
 // whether the replay goes on, and whether all texts could be written.
-pub struct Reader {
+pub struct Progress {
     pub desk: Desk,
     pub fill: usize,
     pub at: usize,
@@ -22,11 +22,11 @@ pub struct Reader {
 }
 
 // Before anything came.
-pub fn start() -> Reader
+pub fn start() -> Progress
     ensures { λ q. ⌜ Fresh q ⌝ }
 {
     let desk = referee::new_desk();
-    Reader {
+    Progress {
         desk,
         fill: 0,
         at: 0,
@@ -46,14 +46,14 @@ fn print(heard: bool, out: &[u8], n: usize) -> bool {
 
 // The line that is held.
 fn take_held(
-    r: Reader,
+    r: Progress,
     at: usize,
     line: &[u8],
     image: &mut [u16],
     next: &mut [u16],
     list: &mut [u16],
     out: &mut [u8],
-) -> Reader
+) -> Progress
     requires { ⌜ Ready r (now line) (now image) (now next) (now list) (now out) ⌝ }
     ensures { λ q. ⌜ Ready q (now (line .entry)) (now (image .exit)) (now (next .exit)) (now (list .exit)) (now (out .exit)) ⌝ }
     ensures { λ q. ⌜ Takes r q (now (line .entry)) [] (now (image .entry)) (now (image .exit)) (now (out .exit)) ⌝ }
@@ -68,7 +68,7 @@ fn take_held(
         game,
         words: t.words,
     };
-    Reader {
+    Progress {
         desk,
         fill: 0, // a new line
         at,
@@ -80,14 +80,14 @@ fn take_held(
 
 // What came, up to the end of a line: the line is taken there, or held where no newline came.
 fn take_part(
-    r: Reader,
+    r: Progress,
     part: &[u8],
     line: &mut [u8],
     image: &mut [u16],
     next: &mut [u16],
     list: &mut [u16],
     out: &mut [u8],
-) -> Reader
+) -> Progress
     requires { ⌜ Ready r (now line) (now image) (now next) (now list) (now out) ⌝ }
     requires { ⌜ r .at < length (now part) ⌝ }
     ensures { λ q. ⌜ Ready q (now (line .exit)) (now (image .exit)) (now (next .exit)) (now (list .exit)) (now (out .exit)) ⌝ }
@@ -98,7 +98,7 @@ fn take_part(
     let end = parsing::line_end(part, at);
     let fill = parsing::feed(line, r.fill, &part[at..end]);
     let desk = r.desk;
-    let held = Reader {
+    let held = Progress {
         desk,
         fill,
         at: end + 1,
@@ -114,20 +114,20 @@ fn take_part(
 
 // All lines that end in what came, each printed; what is left of it is held.
 pub fn take_all(
-    first: Reader,
+    first: Progress,
     part: &[u8],
     line: &mut [u8],
     image: &mut [u16],
     next: &mut [u16],
     list: &mut [u16],
     out: &mut [u8],
-) -> Reader
+) -> Progress
     requires { ⌜ Ready first (now line) (now image) (now next) (now list) (now out) ⌝ }
     ensures { λ q. ⌜ Ready q (now (line .exit)) (now (image .exit)) (now (next .exit)) (now (list .exit)) (now (out .exit)) ⌝ }
     ensures { λ q. ⌜ TakesAll first q (now (part .entry)) (now (line .entry)) (now (line .exit)) (now (image .entry)) (now (image .exit)) ⌝ }
 {
     let desk = first.desk;
-    let mut r = Reader {
+    let mut r = Progress {
         desk,
         fill: first.fill,
         at: 0,
@@ -144,19 +144,19 @@ pub fn take_all(
 
 // The last line, where no newline ended it.
 fn take_last(
-    r: Reader,
+    r: Progress,
     line: &[u8],
     image: &mut [u16],
     next: &mut [u16],
     list: &mut [u16],
     out: &mut [u8],
-) -> Reader
+) -> Progress
     requires { ⌜ Ready r (now line) (now image) (now next) (now list) (now out) ⌝ }
     ensures { λ q. ⌜ Ready q (now (line .entry)) (now (image .exit)) (now (next .exit)) (now (list .exit)) (now (out .exit)) ⌝ }
     ensures { λ q. ⌜ Last r q (now (line .entry)) (now (image .entry)) (now (image .exit)) (now (out .exit)) ⌝ }
 {
     let desk = r.desk;
-    let kept = Reader {
+    let kept = Progress {
         desk,
         fill: r.fill,
         at: 0,
@@ -173,7 +173,7 @@ fn take_last(
     take_held(r, 0, line, image, next, list, out)
 }
 
-fn write_end(r: Reader, out: &mut [u8]) -> usize
+fn write_end(r: Progress, out: &mut [u8]) -> usize
     requires { ⌜ 462 ≤ length (now out) ⌝ }
     ensures { λ n. ⌜ Ends r n (now (out .exit)) ⌝ }
 {
@@ -186,7 +186,7 @@ fn write_end(r: Reader, out: &mut [u8]) -> usize
 
 // The end of the input: the last line and the placings, each printed. It answers how many bytes of `out` show the placings.
 pub fn finish(
-    r: Reader,
+    r: Progress,
     line: &[u8],
     image: &mut [u16],
     next: &mut [u16],

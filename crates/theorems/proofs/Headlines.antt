@@ -17,8 +17,8 @@ pub use Rattle.theorems.proofs.Definitions.{turn-is, check-is, body-is,
 pub use Rattle.rules.proofs.Examples.{examples-hold, more-hold}
 -- Demand 2: what a program prints that takes the lines of its input one by one is the replay of that input
 pub use Rattle.referee.proofs.Whole.{run-prints}
--- Demand 2: what the reader gives to print, part by part of what is read, is the replay of all that is read
-pub use Rattle.stream.proofs.Printed.{reader-prints}
+-- Demand 2: what the stream gives to print, part by part of what is read, is the replay of all that is read
+pub use Rattle.stream.proofs.Printed.{stream-prints}
 -- Demand 2: the cell ahead shows above the head, for each heading
 pub use Rattle.rules.proofs.View.{ahead-above}
 -- Demand 2: a corpse changes no one's fate; a casualty that lost has someone alive

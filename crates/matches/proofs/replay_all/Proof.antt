@@ -6,7 +6,7 @@ use Rattle.matches.proofs.replay_all.Statement.{statement}
 use Rattle.matches.proofs.replay_all.Tie as tie
 
 abbrev Inv-loop : tie.InvT-loop
-Inv-loop line₀ image₀ next₀ list₀ out₀ f₀ turns₀ line image next list out f turns = Ready (f .reader) line image next list out × (length line ≡ length line₀) × (length image ≡ length image₀) × (length next ≡ length next₀) × (length list ≡ length list₀) × (length out ≡ length out₀)
+Inv-loop line₀ image₀ next₀ list₀ out₀ f₀ turns₀ line image next list out f turns = Ready (f .progress) line image next list out × (length line ≡ length line₀) × (length image ≡ length image₀) × (length next ≡ length next₀) × (length list ≡ length list₀) × (length out ≡ length out₀)
 
 abbrev μ-loop : tie.MeasureT-loop
 μ-loop line₀ image₀ next₀ list₀ out₀ f₀ turns₀ line image next list out f turns = turns

@@ -2,7 +2,7 @@ use borrow.Author.Needs.{needs}
 use borrow.Author.Tests.{not-true, not-false}
 use mathlib.Core.Path.{refl}
 use Rattle.stream.specs.Steps.{stopped, nothing, last}
-use Rattle.stream.proofs.Taking.{some}
+use native.Mathlib.Nat.{pos-of-ne-zero}
 use Rattle.stream.proofs.take_last.Statement.{statement}
 use Rattle.stream.proofs.take_last.Tie as tie
 
@@ -27,7 +27,7 @@ returns-3 c =
     let start : tie.Start = search in
     let r = start .args .r in
     let k = after-take-held .take-held in
-    (k .ensures .0, last (not-false (r .on) (else1 .if1 .left)) (some (r .fill) (else2 .if2 .left)) (k .ensures .1 .0))
+    (k .ensures .0, last (not-false (r .on) (else1 .if1 .left)) (pos-of-ne-zero (else2 .if2 .left)) (k .ensures .1 .0))
 
 pub take-last-spec : {M : Type 1} → statement M
 take-last-spec =

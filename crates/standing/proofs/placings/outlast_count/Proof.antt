@@ -5,8 +5,8 @@ use Rattle.standing.specs.Placings.{outlasts}
 use Rattle.lists.proofs.Below.{count-none, count-next, count-le}
 use native.Mathlib.Omega.{arith}
 use borrow.Author.Needs.{needs}
-use Rattle.standing.proofs.ranks.outlast_count.Statement.{statement}
-use Rattle.standing.proofs.ranks.outlast_count.Tie as tie
+use Rattle.standing.proofs.placings.outlast_count.Statement.{statement}
+use Rattle.standing.proofs.placings.outlast_count.Tie as tie
 
 abbrev Inv-loop : tie.InvT-loop
 Inv-loop n i deaths k₀ j₀ k j = (j ≤ n) × (k ≡ countBelow j (outlasts deaths i))

@@ -5,8 +5,8 @@ use Rattle.standing.specs.Placings.{placingOf, outlasts}
 use Rattle.lists.proofs.Below.{count-le}
 use borrow.Author.Tests.{eq-eqb, ne-eqb}
 use borrow.Author.Needs.{needs}
-use Rattle.standing.proofs.ranks.placing_of.Statement.{statement}
-use Rattle.standing.proofs.ranks.placing_of.Tie as tie
+use Rattle.standing.proofs.placings.placing_of.Statement.{statement}
+use Rattle.standing.proofs.placings.placing_of.Tie as tie
 
 returns : tie.Need-returns
 unfolding placingOf

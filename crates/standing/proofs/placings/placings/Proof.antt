@@ -7,8 +7,8 @@ use Rattle.lists.specs.Below.{filled}
 use Rattle.lists.proofs.Below.{filled-none, filled-more}
 use native.Mathlib.Omega.{arith}
 use borrow.Author.Needs.{needs}
-use Rattle.standing.proofs.ranks.placings.Statement.{statement}
-use Rattle.standing.proofs.ranks.placings.Tie as tie
+use Rattle.standing.proofs.placings.placings.Statement.{statement}
+use Rattle.standing.proofs.placings.placings.Tie as tie
 
 abbrev Inv-loop : tie.InvT-loop
 Inv-loop deaths n out₀ i₀ out i = (i ≤ n) × (out ≡ filled (placingOf n deaths) i 8 0)
