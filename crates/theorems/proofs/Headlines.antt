@@ -40,14 +40,14 @@ pub use Rattle.rules.proofs.FairCalls.{count-answers, draw-comes, draw-wrote, l
 pub use Rattle.rules.proofs.FairCalls.{rank-back, list-forth, rank-forth, rank-answers, list-one}
 -- Demand 3, of the calls' answers: each set of k free cells comes of exactly k! indices
 pub use Rattle.rules.proofs.FairCalls.{sets-fair}
--- Demand 3, of the calls' answers: nothing else changes but what is due, and at birth whether it is birth; at birth, and there without a free cell
+-- Demand 3, of the calls' answers: beside the food nothing changes but what is due, and at birth whether it is birth; at birth, and there without a free cell
 pub use Rattle.rules.specs.Fair.{Changed}
 pub use Rattle.rules.proofs.FairCalls.{draw-changes, birth-changes, full-changes}
 -- Demand 3: a list of 20 cells holds whatever a draw gives
 pub use Rattle.theorems.proofs.Longest.{longest-list}
 -- Demand 3: a birth chain with p due ends after exactly min(p, n + 1) draws
 pub use Rattle.rules.proofs.Births.{chain-count}
-pub use Rattle.rules.proofs.FairCalls.{chain-draw, chain-ended, chain-not-before}
+pub use Rattle.rules.proofs.FairCalls.{birth-countable, chain-draw, chain-ended, chain-not-before}
 -- Tightness: two answers that meet one promise are equal, and so are the lent buffers
 pub use Rattle.rules.proofs.Answers.{one-turn, one-check, one-verdict, one-start, one-step, one-view, one-count, one-draw, one-rank, one-actor, one-legal, one-key, one-truncation, one-reward, one-space, one-action-space, one-body}
 -- Tightness: two parts that the body query may hand back have equal words at one address
