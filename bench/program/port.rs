@@ -19,15 +19,15 @@ pub const PLANE_NUMBERS: usize = 5120;
 
 pub fn setting(s: &Setting) -> FlatSetting {
     FlatSetting {
-        snakes: s.snakes,
-        grid: s.grid,
-        size: s.length,
-        last: false,
-        lead_set: false,
-        lead: 0,
-        food: s.food,
-        ticks_set: false,
-        ticks: 0,
+        num_snakes: s.num_snakes,
+        grid_size: s.grid_size,
+        initial_length: s.initial_length,
+        play_to_last: false,
+        win_food_lead_set: false,
+        win_food_lead: 0,
+        initial_food_count: s.initial_food_count,
+        max_ticks_set: false,
+        max_ticks: 0,
     }
 }
 

@@ -5,12 +5,12 @@ use crate::states::{Setting, State};
 
 pub fn game(s: &Setting) -> Snake {
     Snake {
-        num_snakes: s.snakes as usize,
-        grid_size: s.grid,
-        initial_length: s.length as usize,
+        num_snakes: s.num_snakes as usize,
+        grid_size: s.grid_size,
+        initial_length: s.initial_length as usize,
         play_to_last: false,
         win_food_lead: None,
-        initial_food_count: s.food as usize,
+        initial_food_count: s.initial_food_count as usize,
         max_ticks: None,
     }
 }

@@ -31,7 +31,7 @@ fn settings(t: &mut Tally, name: &str, s: &Setting) {
     }
     let mut out = vec![0; port::IMAGE_WORDS];
     let answer = port::initial_state(port::setting(s), &mut out);
-    let wanted = rust::image(&rust::game(s).initial_state(), s.grid as u16);
+    let wanted = rust::image(&rust::game(s).initial_state(), s.grid_size as u16);
     t.same(&format!("initial_state, {name}"), &out[..answer.words], &wanted[..]);
 }
 

@@ -7,13 +7,13 @@ pub struct Snake {
     pub alive: bool,
 }
 
-/// Snakes, grid, length and food of a setting; no lead, no last ticks, not played to the last.
+/// A setting without win_food_lead and max_ticks, not played to the last.
 #[derive(Clone, Copy)]
 pub struct Setting {
-    pub snakes: u64,
-    pub grid: i32,
-    pub length: u64,
-    pub food: u64,
+    pub num_snakes: u64,
+    pub grid_size: i32,
+    pub initial_length: u64,
+    pub initial_food_count: u64,
 }
 
 pub struct State {
@@ -28,7 +28,7 @@ pub struct State {
     pub fatal: Vec<u64>,
 }
 
-pub const BIG: Setting = Setting { snakes: 8, grid: 32, length: 16, food: 5 };
+pub const BIG: Setting = Setting { num_snakes: 8, grid_size: 32, initial_length: 16, initial_food_count: 5 };
 
 impl State {
     pub fn image(&self, due: u16) -> Vec<u16> {
@@ -151,7 +151,7 @@ pub fn five() -> Vec<State> {
             10,
             vec![line(4, 4, -1, 1, 5), line(5, 5, 1, 3, 5)],
             vec![77],
-            Setting { snakes: 2, grid: 10, length: 5, food: 1 },
+            Setting { num_snakes: 2, grid_size: 10, initial_length: 5, initial_food_count: 1 },
             &[(0, 2)], // both heads on one cell
         ),
         state(
@@ -159,7 +159,7 @@ pub fn five() -> Vec<State> {
             16,
             hairpins(16, 4, 10, 10),
             column(16, 4, 14),
-            Setting { snakes: 4, grid: 16, length: 10, food: 4 },
+            Setting { num_snakes: 4, grid_size: 16, initial_length: 10, initial_food_count: 4 },
             &into_wall_and_body,
         ),
         state("large", 32, hairpins(32, 8, 24, 20), column(32, 8, 28), BIG, &into_wall_and_body),
@@ -236,11 +236,11 @@ pub fn thirty() -> State {
         side: 10,
         snakes: vec![line(2, 8, -1, 1, 8), line(7, 1, 1, 3, 8)],
         food: vec![55],
-        setting: Setting { snakes: 2, grid: 10, length: 5, food: 1 },
+        setting: Setting { num_snakes: 2, grid_size: 10, initial_length: 5, initial_food_count: 1 },
         fatal: vec![0; 2],
     }
 }
 
 /// Settings whose check is measured beside those of the states: the longest bodies accepted, and a length without end.
-pub const LONGEST: Setting = Setting { snakes: 2, grid: 32, length: 71, food: 1 };
-pub const ENDLESS: Setting = Setting { snakes: 2, grid: 32, length: u64::MAX, food: 1 };
+pub const LONGEST: Setting = Setting { num_snakes: 2, grid_size: 32, initial_length: 71, initial_food_count: 1 };
+pub const ENDLESS: Setting = Setting { num_snakes: 2, grid_size: 32, initial_length: u64::MAX, initial_food_count: 1 };

@@ -27,7 +27,7 @@ static bool untouched(const uint16_t *words, size_t count) {
 }
 
 static void short_events(void) {
-    lundaspro_setting setting = {.snakes = 2, .grid = 3, .size = 1};
+    lundaspro_setting setting = {.num_snakes = 2, .grid_size = 3, .initial_length = 1};
     uint64_t actions[2] = {0, 7};
     uint16_t out[20], events[9];
     for (int i = 0; i < 20; i++) out[i] = 9;
@@ -43,13 +43,13 @@ static void short_events(void) {
     image[2] = 1;
     CHECK(lundaspro_step(setting, image, 14, actions, 2, out, 20, events, 7).refusal == 22);
     image[2] = 0;
-    setting.grid = 4;
+    setting.grid_size = 4;
     CHECK(lundaspro_step(setting, image, 14, actions, 2, out, 20, events, 7).refusal == 21);
-    setting.size = 0;
+    setting.initial_length = 0;
     CHECK(lundaspro_step(setting, image, 13, actions, 2, out, 20, events, 7).refusal == 2);
-    setting.size = 1;
+    setting.initial_length = 1;
     CHECK(lundaspro_step(setting, image, 13, actions, 2, out, 20, events, 7).refusal == 20);
-    setting.grid = 3;
+    setting.grid_size = 3;
     actions[0] = 0;
     lundaspro_stepped a = lundaspro_step(setting, image, 14, actions, 2, out, 20, events, 8);
     CHECK(a.refusal == 0 && a.terminal && a.words == 14 && out[13] == 1);
@@ -59,10 +59,10 @@ static void short_events(void) {
 
 static void other_bits(void) {
     lundaspro_weights weights = {.step = 1.0, .food = 2.0};
-    CHECK(lundaspro_reward(weights, 128 | LUNDASPRO_ATE).sum == 3.0);
+    CHECK(lundaspro_reward(weights, 128 | LUNDASPRO_ATE_FOOD).sum == 3.0);
     CHECK(lundaspro_truncation(image, 14, 0, 65535).event == 127);
     CHECK(lundaspro_truncation(image, 14, 1, 128 + 256 * 5).event == 0);
-    CHECK(lundaspro_truncation(image, 14, 0, 256 * LUNDASPRO_HEAD_ON).event == 256 * LUNDASPRO_HEAD_ON + LUNDASPRO_SURVIVED);
+    CHECK(lundaspro_truncation(image, 14, 0, 256 * LUNDASPRO_HEAD_ON).event == 256 * LUNDASPRO_HEAD_ON + LUNDASPRO_SURVIVED_TO_MAX_TICKS);
     CHECK(lundaspro_relative_to_absolute(255, 0) == LUNDASPRO_LEFT);
     CHECK(lundaspro_relative_to_absolute(0, 255) == LUNDASPRO_RIGHT);
 }
@@ -85,9 +85,9 @@ static void bodies(void) {
 
 /* The calls that need no more than their answer read. */
 static void every_other_call(void) {
-    lundaspro_setting setting = {.snakes = 2, .grid = 3, .size = 1, .lead_set = true, .lead = 0, .ticks_set = true, .ticks = 5};
+    lundaspro_setting setting = {.num_snakes = 2, .grid_size = 3, .initial_length = 1, .win_food_lead_set = true, .win_food_lead = 0, .max_ticks_set = true, .max_ticks = 5};
     CHECK(lundaspro_validate(setting) == 3);
-    setting.lead_set = false;
+    setting.win_food_lead_set = false;
     CHECK(lundaspro_validate(setting) == 0);
     CHECK(lundaspro_well_formed(image, 14) && !lundaspro_well_formed(image, 13));
     lundaspro_actor_answer actor = lundaspro_actor(image, 14);

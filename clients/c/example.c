@@ -21,10 +21,10 @@ static void keep(size_t count) {
 }
 
 static void put_event(uint16_t event) {
-    static const uint16_t bits[] = {LUNDASPRO_KILLED, LUNDASPRO_WON, LUNDASPRO_LOST, LUNDASPRO_DREW, LUNDASPRO_SURVIVED};
+    static const uint16_t bits[] = {LUNDASPRO_KILLED_OPPONENT, LUNDASPRO_WON, LUNDASPRO_LOST, LUNDASPRO_DREW, LUNDASPRO_SURVIVED_TO_MAX_TICKS};
     if (event == 0) putchar('-');
-    if (event & LUNDASPRO_ATE) putchar('a');
-    if (LUNDASPRO_CAUSE(event) != LUNDASPRO_NO_CAUSE) putchar(" WSOH"[LUNDASPRO_CAUSE(event)]);
+    if (event & LUNDASPRO_ATE_FOOD) putchar('a');
+    if (LUNDASPRO_DEATH_CAUSE(event) != LUNDASPRO_NO_CAUSE) putchar(" WSOH"[LUNDASPRO_DEATH_CAUSE(event)]);
     for (int i = 0; i < 5; i++)
         if (event & bits[i]) putchar("kwlxy"[i]);
 }
@@ -64,7 +64,7 @@ static int move(lundaspro_setting setting, uint64_t first, uint64_t second) {
 }
 
 int main(void) {
-    lundaspro_setting setting = {.snakes = 2, .grid = 3, .size = 1, .food = 1};
+    lundaspro_setting setting = {.num_snakes = 2, .grid_size = 3, .initial_length = 1, .initial_food_count = 1};
     lundaspro_written start = lundaspro_initial_state(setting, image, LUNDASPRO_IMAGE_WORDS);
     if (start.refusal != 0) return refused(start.refusal);
     words = start.words;

@@ -55,14 +55,14 @@ extern "C" {
 
 /* An event is one number: the bits below and 256 times the cause. Read by truncation and reward, any other bit is ignored
  * and a cause above 4 is none. */
-#define LUNDASPRO_ATE 1
+#define LUNDASPRO_ATE_FOOD 1
 #define LUNDASPRO_DIED 2
-#define LUNDASPRO_KILLED 4
+#define LUNDASPRO_KILLED_OPPONENT 4
 #define LUNDASPRO_WON 8
 #define LUNDASPRO_LOST 16
 #define LUNDASPRO_DREW 32
-#define LUNDASPRO_SURVIVED 64
-#define LUNDASPRO_CAUSE(event) ((event) / 256)
+#define LUNDASPRO_SURVIVED_TO_MAX_TICKS 64
+#define LUNDASPRO_DEATH_CAUSE(event) ((event) / 256)
 #define LUNDASPRO_NO_CAUSE 0
 #define LUNDASPRO_WALL 1
 #define LUNDASPRO_SELF_BODY 2
@@ -80,17 +80,17 @@ extern "C" {
 #define LUNDASPRO_TURN_LEFT 1
 #define LUNDASPRO_TURN_RIGHT 2
 
-/* A match's setting; lead and ticks count only where the flag before them is set. */
+/* A match's setting; win_food_lead and max_ticks count only where the flag before them is set. No call here reads max_ticks. */
 typedef struct {
-    uint64_t snakes;
-    int32_t grid;
-    uint64_t size; /* initial length */
-    bool last;     /* play_to_last */
-    bool lead_set;
-    uint64_t lead; /* win_food_lead */
-    uint64_t food; /* initial food count */
-    bool ticks_set;
-    uint64_t ticks; /* max_ticks: no call here reads it */
+    uint64_t num_snakes;
+    int32_t grid_size;
+    uint64_t initial_length;
+    bool play_to_last;
+    bool win_food_lead_set;
+    uint64_t win_food_lead;
+    uint64_t initial_food_count;
+    bool max_ticks_set;
+    uint64_t max_ticks;
 } lundaspro_setting;
 
 typedef struct {
@@ -195,7 +195,7 @@ lundaspro_number lundaspro_rank(const uint16_t *image, size_t image_len, const u
 lundaspro_written lundaspro_observe(const uint16_t *image, size_t image_len, uint64_t agent, float *obs, size_t obs_len);
 
 /* The sizes and bounds of an observation. Refusal 5. */
-lundaspro_space lundaspro_observation_space(int32_t grid);
+lundaspro_space lundaspro_observation_space(int32_t grid_size);
 
 /* Three actions, always. */
 lundaspro_space lundaspro_action_space(void);
@@ -209,7 +209,7 @@ lundaspro_actor_answer lundaspro_actor(const uint16_t *image, size_t image_len);
 /* Which actions an agent has. Refusals 20, 26. */
 lundaspro_legal lundaspro_legal_actions(const uint16_t *image, size_t image_len, uint64_t agent);
 
-/* The event with its survival flag set to whether the agent lives. Refusals 20, 26. */
+/* The event with survived_to_max_ticks set to whether the agent lives. Refusals 20, 26. */
 lundaspro_marked lundaspro_truncation(const uint16_t *image, size_t image_len, uint64_t agent, uint16_t event);
 
 /* The reward of an event. Refusal 31, for infinities and NaN, flagged or not. */

@@ -3,7 +3,7 @@
 //! ```no_run
 //! # fn main() -> Result<(), lundaspro::Refusal> {
 //! use lundaspro::Setting;
-//! let setting = Setting { snakes: 2, grid: 3, size: 1, food: 1, ..Setting::default() };
+//! let setting = Setting { num_snakes: 2, grid_size: 3, initial_length: 1, initial_food_count: 1, ..Setting::default() };
 //! let start = setting.initial_state()?;
 //! let drawn = start.draw(2)?;
 //! let moved = drawn.next.step(&setting, &[0, 0])?;
@@ -26,35 +26,30 @@ pub const LIST_WORDS: usize = 20;
 /// An observation has at most this many numbers.
 pub const PLANE_NUMBERS: usize = 5120;
 
-/// A match's setting.
+/// A match's setting, by the names of the Rust's `Snake`. No call reads `max_ticks`.
 #[derive(Clone, Copy, Debug, Default, PartialEq, Eq)]
 pub struct Setting {
-    pub snakes: u64,
-    pub grid: i32,
-    /// The initial length.
-    pub size: u64,
-    /// play_to_last.
-    pub last: bool,
-    /// win_food_lead.
-    pub lead: Option<u64>,
-    /// The initial food count.
-    pub food: u64,
-    /// max_ticks; no call reads it.
-    pub ticks: Option<u64>,
+    pub num_snakes: u64,
+    pub grid_size: i32,
+    pub initial_length: u64,
+    pub play_to_last: bool,
+    pub win_food_lead: Option<u64>,
+    pub initial_food_count: u64,
+    pub max_ticks: Option<u64>,
 }
 
 impl Setting {
     fn flat(&self) -> raw::Setting {
         raw::Setting {
-            snakes: self.snakes,
-            grid: self.grid,
-            size: self.size,
-            last: self.last,
-            lead_set: self.lead.is_some(),
-            lead: self.lead.unwrap_or(0),
-            food: self.food,
-            ticks_set: self.ticks.is_some(),
-            ticks: self.ticks.unwrap_or(0),
+            num_snakes: self.num_snakes,
+            grid_size: self.grid_size,
+            initial_length: self.initial_length,
+            play_to_last: self.play_to_last,
+            win_food_lead_set: self.win_food_lead.is_some(),
+            win_food_lead: self.win_food_lead.unwrap_or(0),
+            initial_food_count: self.initial_food_count,
+            max_ticks_set: self.max_ticks.is_some(),
+            max_ticks: self.max_ticks.unwrap_or(0),
         }
     }
 
@@ -80,42 +75,42 @@ pub enum Cause {
     HeadOn,
 }
 
-/// What a step brought one snake.
+/// What a step brought one snake, by the names of the Rust's `StepEvent`.
 #[derive(Clone, Copy, Debug, Default, PartialEq, Eq, Hash)]
 pub struct Event {
-    pub ate: bool,
+    pub ate_food: bool,
     pub died: bool,
-    pub cause: Option<Cause>,
-    pub killed: bool,
+    pub death_cause: Option<Cause>,
+    pub killed_opponent: bool,
     pub won: bool,
     pub lost: bool,
     pub drew: bool,
-    pub survived: bool,
+    pub survived_to_max_ticks: bool,
 }
 
 impl Event {
     /// The event of a number as the library writes it; other bits are ignored.
     pub fn from_number(number: u16) -> Event {
         Event {
-            ate: number & 1 != 0,
+            ate_food: number & 1 != 0,
             died: number & 2 != 0,
-            cause: match number / 256 {
+            death_cause: match number / 256 {
                 1 => Some(Cause::Wall),
                 2 => Some(Cause::SelfBody),
                 3 => Some(Cause::OppBody),
                 4 => Some(Cause::HeadOn),
                 _ => None,
             },
-            killed: number & 4 != 0,
+            killed_opponent: number & 4 != 0,
             won: number & 8 != 0,
             lost: number & 16 != 0,
             drew: number & 32 != 0,
-            survived: number & 64 != 0,
+            survived_to_max_ticks: number & 64 != 0,
         }
     }
 
     pub fn number(self) -> u16 {
-        let cause = match self.cause {
+        let cause = match self.death_cause {
             None => 0,
             Some(Cause::Wall) => 1,
             Some(Cause::SelfBody) => 2,
@@ -123,13 +118,13 @@ impl Event {
             Some(Cause::HeadOn) => 4,
         };
         let flags = [
-            self.ate,
+            self.ate_food,
             self.died,
-            self.killed,
+            self.killed_opponent,
             self.won,
             self.lost,
             self.drew,
-            self.survived,
+            self.survived_to_max_ticks,
         ];
         flags
             .iter()
@@ -269,7 +264,7 @@ impl Image {
         Refusal::check(a.refusal).map(|()| &[0, 1, 2][..usize::from(a.actions)])
     }
 
-    /// The event with its survival flag set to whether the agent lives. Refusals 20, 26.
+    /// The event with `survived_to_max_ticks` set to whether the agent lives. Refusals 20, 26.
     pub fn truncation(&self, agent: u64, event: Event) -> Result<Event, Refusal> {
         let a = unsafe {
             raw::lundaspro_truncation(self.0.as_ptr(), self.0.len(), agent, event.number())
@@ -333,8 +328,8 @@ fn space(a: raw::Space) -> Result<Space, Refusal> {
 }
 
 /// Refusal 5.
-pub fn observation_space(grid: i32) -> Result<Space, Refusal> {
-    space(unsafe { raw::lundaspro_observation_space(grid) })
+pub fn observation_space(grid_size: i32) -> Result<Space, Refusal> {
+    space(unsafe { raw::lundaspro_observation_space(grid_size) })
 }
 
 /// Three actions: never refused.

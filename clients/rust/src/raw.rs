@@ -8,7 +8,8 @@ macro_rules! records {
 
 records! {
     Setting {
-        snakes: u64, grid: i32, size: u64, last: bool, lead_set: bool, lead: u64, food: u64, ticks_set: bool, ticks: u64,
+        num_snakes: u64, grid_size: i32, initial_length: u64, play_to_last: bool, win_food_lead_set: bool, win_food_lead: u64,
+        initial_food_count: u64, max_ticks_set: bool, max_ticks: u64,
     }
     Weights { step: f64, food: f64, loss: f64, draw: f64, kill: f64, win: f64, survival: f64 }
     Written { refusal: u8, words: usize }
@@ -63,7 +64,7 @@ extern "C" {
         obs: *mut f32,
         obs_len: usize,
     ) -> Written;
-    pub fn lundaspro_observation_space(grid: i32) -> Space;
+    pub fn lundaspro_observation_space(grid_size: i32) -> Space;
     pub fn lundaspro_action_space() -> Space;
     pub fn lundaspro_length_cell(image: *const u16, image_len: usize) -> Key;
     pub fn lundaspro_actor(image: *const u16, image_len: usize) -> Actor;

@@ -2,9 +2,9 @@
 mod spaces;
 mod turns;
 
+pub use grid::relative_to_absolute;
 pub use spaces::action_space;
 pub use spaces::observation_space;
 pub use turns::actor;
 pub use turns::legal_actions;
-pub use turns::relative_to_absolute;
 pub use turns::truncation;

@@ -7,10 +7,10 @@ pub fn observation_space(grid: i32) -> Space
     ensures { λ r. ⌜ ObservationSpace grid r ⌝ }
 {
     if 32 < grid {
-        return Space::Refused(5);
+        return Space::Refused(refusals::by(5));
     }
     if grid < 1 {
-        return Space::Refused(5);
+        return Space::Refused(refusals::by(5));
     }
     let side = grid as usize;
     Space::Box {

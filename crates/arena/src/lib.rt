@@ -20,6 +20,7 @@ pub use rules::Legal;
 pub use rules::LengthCell;
 pub use rules::Limit;
 pub use rules::Number;
+pub use rules::Refusal;
 pub use rules::RelativeAction;
 pub use rules::Reward;
 pub use rules::Setting;

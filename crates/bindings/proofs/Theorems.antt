@@ -1,8 +1,8 @@
 -- The flat forms lose nothing: an event's number tells the event, refusal 0 that an answer came, and two flat answers that meet one
 -- promise are equal, with the lent memory. Assumes nothing.
-use Prim.Native.Nat.{ℕ, zero, suc}
+use Prim.Native.Nat.{ℕ}
 use mathlib.Core.Path.{_≡_, refl, sym, ap, _∙_}
-use mathlib.Core.Bool.{Bool, true, false, not, _&&_, false≢true}
+use mathlib.Core.Bool.{Bool, true, false, not, _&&_}
 use mathlib.Core.List.{List, [], _∷_}
 use lib.Dec.{eqb, ltb}
 use borrow.Author.Tests.{eqb-true}
@@ -11,9 +11,9 @@ use lib.Ieee.{Float}
 use lib.ListN.{getD}
 use Rattle.lists.specs.Choice.{_if_else_}
 use Rattle.lists.specs.Lists.{every, all}
-use Rattle.lists.specs.Tables.{Table}
+use Rattle.rules.specs.Tables.{Table}
 use Rattle.lists.proofs.Tests.{and-left, and-right, every-at}
-use Rattle.lists.proofs.Tables.{numbered}
+use Rattle.rules.proofs.Tables.{numbered}
 use Rattle.rules.specs.State.{snakeOf}
 use Rattle.rules.specs.Image.{stateOf}
 use Rattle.rules.specs.Step.{Transition, stepped}
@@ -60,7 +60,7 @@ cause-of p h OppBody = every-at (p NoCause ∷ p Wall ∷ p SelfBody ∷ p OppBo
 cause-of p h HeadOn = every-at (p NoCause ∷ p Wall ∷ p SelfBody ∷ p OppBody ∷ p HeadOn ∷ []) 4 h
 
 abbrev event : Cause → Bool → Bool → Bool → Bool → Bool → Bool → Bool → Event
-event c a d k w l x y = record { ate = a; died = d; cause = c; killed = k; won = w; lost = l; drew = x; survived = y }
+event c a d k w l x y = record { «ate_food» = a; died = d; «death_cause» = c; «killed_opponent» = k; won = w; lost = l; drew = x; «survived_to_max_ticks» = y }
 
 abbrev allEvents : (Event → Bool) → Bool
 allEvents p =
@@ -68,7 +68,7 @@ allEvents p =
 
 event-of : (p : Event → Bool) → allEvents p ≡ true → (e : Event) → p e ≡ true
 event-of p h e =
-    flag-of _ (flag-of _ (flag-of _ (flag-of _ (flag-of _ (flag-of _ (flag-of _ (cause-of _ h (e .cause)) (e .ate)) (e .died)) (e .killed)) (e .won)) (e .lost)) (e .drew)) (e .survived)
+    flag-of _ (flag-of _ (flag-of _ (flag-of _ (flag-of _ (flag-of _ (flag-of _ (cause-of _ h (e .«death_cause»)) (e .«ate_food»)) (e .died)) (e .«killed_opponent»)) (e .won)) (e .lost)) (e .drew)) (e .«survived_to_max_ticks»)
 
 abbrev sameFlag : Bool → Bool → Bool
 sameFlag a b = b if a else not b
@@ -80,8 +80,8 @@ flag-is false false h = refl
 
 abbrev parts : Event → Event → List Bool
 parts e f =
-    sameFlag (e .ate) (f .ate) ∷ sameFlag (e .died) (f .died) ∷ eqb (causeNumber (e .cause)) (causeNumber (f .cause)) ∷ sameFlag (e .killed) (f .killed)
-    ∷ sameFlag (e .won) (f .won) ∷ sameFlag (e .lost) (f .lost) ∷ sameFlag (e .drew) (f .drew) ∷ sameFlag (e .survived) (f .survived) ∷ []
+    sameFlag (e .«ate_food») (f .«ate_food») ∷ sameFlag (e .died) (f .died) ∷ eqb (causeNumber (e .«death_cause»)) (causeNumber (f .«death_cause»)) ∷ sameFlag (e .«killed_opponent») (f .«killed_opponent»)
+    ∷ sameFlag (e .won) (f .won) ∷ sameFlag (e .lost) (f .lost) ∷ sameFlag (e .drew) (f .drew) ∷ sameFlag (e .«survived_to_max_ticks») (f .«survived_to_max_ticks») ∷ []
 
 cause-back : (c : Cause) → causeIn (causeNumber c) ≡ c
 cause-back NoCause = refl
@@ -93,9 +93,9 @@ cause-back HeadOn = refl
 same-event : (e f : Event) → every (parts e f) ≡ true → e ≡ f
 same-event e f h =
     let at : (k : ℕ) → getD (parts e f) k true ≡ true = λ k. every-at (parts e f) k h in
-    let c = sym (cause-back (e .cause)) ∙ ap causeIn (eqb-true (causeNumber (e .cause)) (causeNumber (f .cause)) (at 2)) ∙ cause-back (f .cause) in
-    λ i. event (c i) (flag-is (e .ate) (f .ate) (at 0) i) (flag-is (e .died) (f .died) (at 1) i) (flag-is (e .killed) (f .killed) (at 3) i) (flag-is (e .won) (f .won) (at 4) i)
-    (flag-is (e .lost) (f .lost) (at 5) i) (flag-is (e .drew) (f .drew) (at 6) i) (flag-is (e .survived) (f .survived) (at 7) i)
+    let c = sym (cause-back (e .«death_cause»)) ∙ ap causeIn (eqb-true (causeNumber (e .«death_cause»)) (causeNumber (f .«death_cause»)) (at 2)) ∙ cause-back (f .«death_cause») in
+    λ i. event (c i) (flag-is (e .«ate_food») (f .«ate_food») (at 0) i) (flag-is (e .died) (f .died) (at 1) i) (flag-is (e .«killed_opponent») (f .«killed_opponent») (at 3) i) (flag-is (e .won) (f .won) (at 4) i)
+    (flag-is (e .lost) (f .lost) (at 5) i) (flag-is (e .drew) (f .drew) (at 6) i) (flag-is (e .«survived_to_max_ticks») (f .«survived_to_max_ticks») (at 7) i)
 
 tried : allEvents (λ e. every (parts (eventIn (eventNumber e)) e)) ≡ true
 unfolding bothFlags allCauses eventNumber every
@@ -107,19 +107,17 @@ event-back e = same-event (eventIn (eventNumber e)) e (event-of (λ e. every (pa
 -- ---- no call refuses by 0, so that refusal 0 says that an answer came
 
 unfoldable pub named : {A : Type 0} → Says A → Bool
-named (refuses zero) = false
-named (refuses (suc k)) = true
+named (refuses k) = ltb 0 (k .number)
 named (gives a) = true
 
 pub table-named : {A : Type 0} (t : Table) (a : A) → numbered t ≡ true → named (byTable t (gives a)) ≡ true
 unfolding named byTable all
 table-named [] a h = refl
-table-named (e ∷ es) a h = go (e .0) (e .1) (and-left (ltb 0 (e .0)) (numbered es) h) (table-named es a (and-right (ltb 0 (e .0)) (numbered es) h))
+table-named (e ∷ es) a h = go (e .1) (and-left (ltb 0 (e .0 .number)) (numbered es) h) (table-named es a (and-right (ltb 0 (e .0 .number)) (numbered es) h))
   where
-    go : (n : ℕ) (b : Bool) → ltb 0 n ≡ true → named (byTable es (gives a)) ≡ true → named (refuses n if b else byTable es (gives a)) ≡ true
-    go zero b z q = absurd (false≢true z)
-    go (suc n) true z q = refl
-    go (suc n) false z q = q
+    go : (b : Bool) → ltb 0 (e .0 .number) ≡ true → named (byTable es (gives a)) ≡ true → named (refuses (e .0) if b else byTable es (gives a)) ≡ true
+    go true z q = z
+    go false z q = q
 
 module _ (w : List ℕ) (a : ℕ) where
   pub count-named : named (countSays w) ≡ true

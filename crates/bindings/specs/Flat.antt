@@ -47,13 +47,13 @@ limitIn b n = Is n if b else Unset
 
 abbrev pub settingIn : FlatSetting → Setting
 settingIn s = record {
-  snakes = s .snakes;
-  grid = s .grid;
-  size = s .size;
-  last = s .last;
-  lead = limitIn (s .«lead_set») (s .lead);
-  food = s .food;
-  ticks = limitIn (s .«ticks_set») (s .ticks);
+  «num_snakes» = s .«num_snakes»;
+  «grid_size» = s .«grid_size»;
+  «initial_length» = s .«initial_length»;
+  «play_to_last» = s .«play_to_last»;
+  «win_food_lead» = limitIn (s .«win_food_lead_set») (s .«win_food_lead»);
+  «initial_food_count» = s .«initial_food_count»;
+  «max_ticks» = limitIn (s .«max_ticks_set») (s .«max_ticks»);
 }
 
 abbrev pub weightsIn : FlatWeights → Weights
@@ -73,80 +73,80 @@ isOdd n = eqb (n % 2) 1
 -- the flags by their bits; bit 128 and causes above 4 mean nothing
 abbrev pub eventIn : ℕ → Event
 eventIn n = record {
-  ate = isOdd n;
+  «ate_food» = isOdd n;
   died = isOdd (n / 2);
-  cause = causeIn (n / 256);
-  killed = isOdd (n / 4);
+  «death_cause» = causeIn (n / 256);
+  «killed_opponent» = isOdd (n / 4);
   won = isOdd (n / 8);
   lost = isOdd (n / 16);
   drew = isOdd (n / 32);
-  survived = isOdd (n / 64);
+  «survived_to_max_ticks» = isOdd (n / 64);
 }
 
 -- ---- what an answer is as numbers: refusal 0 and what came, or the number and zeros
 
 abbrev pub low : Event → ℕ
-low e = (1 if e .ate else 0) + (2 if e .died else 0) + (4 if e .killed else 0) + (8 if e .won else 0)
+low e = (1 if e .«ate_food» else 0) + (2 if e .died else 0) + (4 if e .«killed_opponent» else 0) + (8 if e .won else 0)
 
 abbrev pub high : Event → ℕ
-high e = (16 if e .lost else 0) + (32 if e .drew else 0) + (64 if e .survived else 0)
+high e = (16 if e .lost else 0) + (32 if e .drew else 0) + (64 if e .«survived_to_max_ticks» else 0)
 
 unfoldable pub eventNumber : Event → ℕ
-eventNumber e = low e + high e + 256 * causeNumber (e .cause)
+eventNumber e = low e + high e + 256 * causeNumber (e .«death_cause»)
 
 abbrev pub flatVerdict : Says (Unit {0}) → ℕ
-flatVerdict (refuses k) = k
+flatVerdict (refuses k) = k .number
 flatVerdict (gives u) = 0
 
 abbrev pub flatWritten : Says ℕ → FlatWritten
-flatWritten (refuses k) = record { refusal = k; words = 0 }
+flatWritten (refuses k) = record { refusal = k .number; words = 0 }
 flatWritten (gives n) = record { refusal = 0; words = n }
 
 abbrev pub flatNumber : Says ℕ → FlatNumber
-flatNumber (refuses k) = record { refusal = k; value = 0 }
+flatNumber (refuses k) = record { refusal = k .number; value = 0 }
 flatNumber (gives n) = record { refusal = 0; value = n }
 
 abbrev pub flatKey : Says (Option ℕ) → FlatKey
-flatKey (refuses k) = record { refusal = k; some = false; key = 0 }
+flatKey (refuses k) = record { refusal = k .number; some = false; key = 0 }
 flatKey (gives none) = record { refusal = 0; some = false; key = 0 }
 flatKey (gives (some n)) = record { refusal = 0; some = true; key = n }
 
 abbrev pub flatActor : Says Bool → FlatActor
-flatActor (refuses k) = record { refusal = k; chance = false }
+flatActor (refuses k) = record { refusal = k .number; chance = false }
 flatActor (gives b) = record { refusal = 0; chance = b }
 
 -- the legal actions are those below the number
 abbrev pub flatLegal : Says (List ℕ) → FlatLegal
-flatLegal (refuses k) = record { refusal = k; actions = 0 }
+flatLegal (refuses k) = record { refusal = k .number; actions = 0 }
 flatLegal (gives l) = record { refusal = 0; actions = length l }
 
 abbrev pub flatMarked : Says Event → FlatMarked
-flatMarked (refuses k) = record { refusal = k; event = 0 }
+flatMarked (refuses k) = record { refusal = k .number; event = 0 }
 flatMarked (gives e) = record { refusal = 0; event = eventNumber e }
 
 abbrev pub flatSum : Says Float → FlatSum
-flatSum (refuses k) = record { refusal = k; sum = ofBits binary64 0 }
+flatSum (refuses k) = record { refusal = k .number; sum = ofBits binary64 0 }
 flatSum (gives x) = record { refusal = 0; sum = x }
 
 abbrev pub noBox : ℕ → Bool → ℕ → FlatSpace
 noBox k d n = record { refusal = k; discrete = d; count = n; planes = 0; rows = 0; cols = 0; low = lit false; high = lit false }
 
 abbrev pub flatSpace : Says Shape → FlatSpace
-flatSpace (refuses k) = noBox k false 0
+flatSpace (refuses k) = noBox (k .number) false 0
 flatSpace (gives (box p h w l t)) = record { refusal = 0; discrete = false; count = 0; planes = p; rows = h; cols = w; low = l; high = t }
 flatSpace (gives (discrete n)) = noBox 0 true n
 
 abbrev pub flatStepped : Says Transition → FlatStepped
-flatStepped (refuses k) = record { refusal = k; terminal = false; words = 0 }
+flatStepped (refuses k) = record { refusal = k .number; terminal = false; words = 0 }
 flatStepped (gives o) = record { refusal = 0; terminal = o .terminal; words = length (imageOf (o .next)) }
 
 abbrev pub flatDrawn : Says Draw → FlatDrawn
-flatDrawn (refuses k) = record { refusal = k; words = 0; cells = 0 }
+flatDrawn (refuses k) = record { refusal = k .number; words = 0; cells = 0 }
 flatDrawn (gives d) = record { refusal = 0; words = length (imageOf (d .next)); cells = length (d .cells) }
 
 abbrev pub partIn : Answer → ℕ → FlatDrawn
 partIn (Done n) c = record { refusal = 0; words = n; cells = c }
-partIn (Refused k) c = record { refusal = k; words = 0; cells = c }
+partIn (Refused k) c = record { refusal = k .number; words = 0; cells = c }
 
 -- a draw's answer, part by part
 abbrev pub drawnParts : Drawn → FlatDrawn
@@ -174,7 +174,12 @@ pub record Tells (x : Says Transition) (old new told tells : List ℕ) (r : Flat
   pub words : new ≡ lent (λ o. imageOf (o .next)) old x
   pub events : tells ≡ lent (λ o. tellsOf (eight (o .events))) told x
 
--- the room for an image: none where there is none for eight events, which is 29 in its own place
+-- a step that has no room for the events: what x says of the answer, and the image's words untouched
+pub record Untold (x : Says Transition) (old new : List ℕ) (r : FlatStepped) : Type 0 where
+  pub answer : r ≡ flatStepped x
+  pub words : new ≡ old
+
+-- the room for an image: none where there is none for eight events, which is 29 where its row stands
 unfoldable pub roomBeside : ℕ → ℕ → ℕ
 roomBeside room events = 0 if ltb events 8 else room
 

@@ -26,7 +26,7 @@ pub fn verdict(a: Verdict) -> u8
 {
     match a {
         Verdict::Accepted => 0,
-        Verdict::Refused(no) => no,
+        Verdict::Refused(r) => r.number,
     }
 }
 
@@ -38,8 +38,8 @@ pub fn written(a: Answer) -> FlatWritten
             refusal: 0,
             words: n,
         },
-        Answer::Refused(no) => FlatWritten {
-            refusal: no,
+        Answer::Refused(r) => FlatWritten {
+            refusal: r.number,
             words: 0,
         },
     }
@@ -53,8 +53,8 @@ pub fn number(a: Number) -> FlatNumber
             refusal: 0,
             value: n,
         },
-        Number::Refused(no) => FlatNumber {
-            refusal: no,
+        Number::Refused(r) => FlatNumber {
+            refusal: r.number,
             value: 0,
         },
     }
@@ -74,8 +74,8 @@ pub fn key(a: LengthCell) -> FlatKey
             some: false,
             key: 0,
         },
-        LengthCell::Refused(no) => FlatKey {
-            refusal: no,
+        LengthCell::Refused(r) => FlatKey {
+            refusal: r.number,
             some: false,
             key: 0,
         },
@@ -94,8 +94,8 @@ pub fn actor(a: Actor) -> FlatActor
             refusal: 0,
             chance: false,
         },
-        Actor::Refused(no) => FlatActor {
-            refusal: no,
+        Actor::Refused(r) => FlatActor {
+            refusal: r.number,
             chance: false,
         },
     }
@@ -113,8 +113,8 @@ pub fn legal(a: Legal) -> FlatLegal
             refusal: 0,
             actions: 0,
         },
-        Legal::Refused(no) => FlatLegal {
-            refusal: no,
+        Legal::Refused(r) => FlatLegal {
+            refusal: r.number,
             actions: 0,
         },
     }
@@ -128,8 +128,8 @@ pub fn marked(a: Truncated) -> FlatMarked
             refusal: 0,
             event: event_number(e),
         },
-        Truncated::Refused(no) => FlatMarked {
-            refusal: no,
+        Truncated::Refused(r) => FlatMarked {
+            refusal: r.number,
             event: 0,
         },
     }
@@ -140,8 +140,8 @@ pub fn sum(a: Reward) -> FlatSum
 {
     match a {
         Reward::Sum(x) => FlatSum { refusal: 0, sum: x },
-        Reward::Refused(no) => FlatSum {
-            refusal: no,
+        Reward::Refused(r) => FlatSum {
+            refusal: r.number,
             sum: 0.0,
         },
     }
@@ -183,6 +183,6 @@ pub fn shape(a: Space) -> FlatSpace
             high,
         },
         Space::Discrete(n) => no_box(0, true, n),
-        Space::Refused(no) => no_box(no, false, 0),
+        Space::Refused(r) => no_box(r.number, false, 0),
     }
 }

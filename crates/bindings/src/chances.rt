@@ -27,8 +27,8 @@ fn drawn(a: Drawn) -> FlatDrawn
             words: n,
             cells,
         },
-        Answer::Refused(no) => FlatDrawn {
-            refusal: no,
+        Answer::Refused(r) => FlatDrawn {
+            refusal: r.number,
             words: 0,
             cells,
         },

@@ -28,15 +28,15 @@ pub use views::lundaspro_truncation;
 // A setting; lead and ticks count where the flag before them is set.
 #[repr(C)]
 pub struct FlatSetting {
-    pub snakes: u64,
-    pub grid: i32,
-    pub size: u64,
-    pub last: bool,
-    pub lead_set: bool,
-    pub lead: u64,
-    pub food: u64,
-    pub ticks_set: bool,
-    pub ticks: u64,
+    pub num_snakes: u64,
+    pub grid_size: i32,
+    pub initial_length: u64,
+    pub play_to_last: bool,
+    pub win_food_lead_set: bool,
+    pub win_food_lead: u64,
+    pub initial_food_count: u64,
+    pub max_ticks_set: bool,
+    pub max_ticks: u64,
 }
 
 #[repr(C)]

@@ -7,14 +7,17 @@ use crate::answers::verdict;
 use crate::answers::written;
 use crate::readings::setting_in;
 use crate::tells::put_events;
+use layout::length_at;
+use layout::start_at;
 use rules::Answer;
 use rules::Setting;
 ghost use mathlib.Core.Path.{_≡_};
 ghost use Prim.Native.Nat.{_≤_};
 ghost use lib.ListN.{length};
+ghost use Rattle.rules.specs.Facts.{Sound};
 ghost use Rattle.rules.specs.Image.{wellFormed};
 ghost use Rattle.rules.specs.Calls.{settingSays, stepSays};
-ghost use Rattle.bindings.specs.Flat.{settingIn, flatVerdict, flatStepped, FlatBody, FlatStarts, Tells, FlatSteps};
+ghost use Rattle.bindings.specs.Flat.{settingIn, flatVerdict, FlatBody, FlatStarts, Tells, Untold, FlatSteps};
 
 #[no_mangle]
 pub extern "C" fn lundaspro_well_formed(image: &[u16]) -> bool
@@ -31,13 +34,21 @@ pub extern "C" fn lundaspro_body(image: &[u16], snake: u64) -> FlatPart
     if !arena::well_formed(image) {
         return FlatPart { start: 0, len: 0 };
     }
+    part_in(image, snake)
+}
+
+// The same in a checked image.
+fn part_in(image: &[u16], snake: u64) -> FlatPart
+    requires { ⌜ Sound (now image) ⌝ }
+    ensures { λ r. ⌜ FlatBody (now (image .entry)) snake r ⌝ }
+{
     if image[0] as u64 <= snake {
         return FlatPart { start: 0, len: 0 };
     }
-    let at = 4 * snake as usize;
+    let i = snake as usize;
     FlatPart {
-        start: image[5 + at] as usize,
-        len: image[6 + at] as usize,
+        start: image[start_at(i)] as usize,
+        len: image[length_at(i)] as usize,
     }
 }
 
@@ -74,8 +85,8 @@ fn step_told(
     let told = done.events;
     let answer = done.answer;
     match answer {
-        Answer::Refused(no) => FlatStepped {
-            refusal: no,
+        Answer::Refused(r) => FlatStepped {
+            refusal: r.number,
             terminal: false,
             words: 0,
         },
@@ -92,7 +103,7 @@ fn step_told(
 
 // No room for the events is no room: 29 where it comes, or what comes before it.
 fn step_untold(setting: Setting, image: &[u16], actions: &[u64], out: &mut [u16]) -> FlatStepped
-    ensures { λ r. ⌜ (r ≡ flatStepped (stepSays setting (now (image .entry)) (now (actions .entry)) 0)) × (now (out .exit) ≡ now (out .entry)) ⌝ }
+    ensures { λ r. ⌜ Untold (stepSays setting (now (image .entry)) (now (actions .entry)) 0) (now (out .entry)) (now (out .exit)) r ⌝ }
 {
     let done = arena::step(setting, image, actions, &mut out[0..0]);
     let answer = done.answer;

@@ -18,16 +18,16 @@ fn limit_in(set: bool, number: u64) -> Limit
 pub fn setting_in(s: FlatSetting) -> Setting
     ensures { λ r. ⌜ r ≡ settingIn s ⌝ }
 {
-    let lead = limit_in(s.lead_set, s.lead);
-    let ticks = limit_in(s.ticks_set, s.ticks);
+    let lead = limit_in(s.win_food_lead_set, s.win_food_lead);
+    let ticks = limit_in(s.max_ticks_set, s.max_ticks);
     Setting {
-        snakes: s.snakes,
-        grid: s.grid,
-        size: s.size,
-        last: s.last,
-        lead,
-        food: s.food,
-        ticks,
+        num_snakes: s.num_snakes,
+        grid_size: s.grid_size,
+        initial_length: s.initial_length,
+        play_to_last: s.play_to_last,
+        win_food_lead: lead,
+        initial_food_count: s.initial_food_count,
+        max_ticks: ticks,
     }
 }
 
@@ -57,13 +57,13 @@ pub fn event_in(number: u16) -> Event
 {
     let cause = cause_in(number / 256);
     Event {
-        ate: is_odd(number),
+        ate_food: is_odd(number),
         died: is_odd(number / 2),
-        cause,
-        killed: is_odd(number / 4),
+        death_cause: cause,
+        killed_opponent: is_odd(number / 4),
         won: is_odd(number / 8),
         lost: is_odd(number / 16),
         drew: is_odd(number / 32),
-        survived: is_odd(number / 64),
+        survived_to_max_ticks: is_odd(number / 64),
     }
 }

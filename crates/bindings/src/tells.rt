@@ -19,9 +19,12 @@ fn marked(flag: bool, value: u16) -> u16
 pub fn event_number(e: Event) -> u16
     ensures { λ r. ⌜ r ≡ eventNumber e ⌝ }
 {
-    let cause = e.cause;
-    let low = marked(e.ate, 1) + marked(e.died, 2) + marked(e.killed, 4) + marked(e.won, 8);
-    let high = marked(e.lost, 16) + marked(e.drew, 32) + marked(e.survived, 64);
+    let cause = e.death_cause;
+    let low = marked(e.ate_food, 1)
+        + marked(e.died, 2)
+        + marked(e.killed_opponent, 4)
+        + marked(e.won, 8);
+    let high = marked(e.lost, 16) + marked(e.drew, 32) + marked(e.survived_to_max_ticks, 64);
     low + high + 256 * cause_number(cause)
 }
 

@@ -93,6 +93,6 @@ pub extern "C" fn lundaspro_relative_to_absolute(heading: u8, action: u8) -> u8
     ensures { λ r. ⌜ r ≡ numberOf (turned (headingOf heading) (actionOf action)) ⌝ }
 {
     let h = image::heading_of(heading as u16);
-    let a = places::action_of(action as u64);
+    let a = grid::action_of(action as u64);
     image::number_of(arena::relative_to_absolute(h, a)) as u8
 }

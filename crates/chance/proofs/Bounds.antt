@@ -1,22 +1,29 @@
--- What bounds a draw: the squares of the board, the free cells, 64 bits. Assumes nothing.
-use mathlib.Core.Path.{_≡_}
+-- What bounds a draw: the squares of the board, the free cells, 64 bits; and what stays due after it. Assumes nothing.
+use mathlib.Core.Path.{_≡_, ap, _∙_}
+use mathlib.Core.Bool.{Bool, true, false, not, _&&_}
 use mathlib.Core.List.{List}
 use Prim.Native.Nat.{ℕ, _-_, _≤_, _<_, _^_}
 use native.Mathlib.Omega.{arith}
-use lib.ListN.{length}
-use borrow.Author.Tests.{ltb-false}
+use lib.Dec.{eqb}
+use borrow.Author.Tests.{ltb-false, not-true, not-false, eq-eqb, ne-eqb}
+use Rattle.lists.specs.Choice.{_if_else_}
 use Rattle.lists.specs.Products.{falling}
 use Rattle.rules.specs.Image.{stateOf}
-use Rattle.rules.specs.Chance.{outcomes}
-use Rattle.rules.proofs.FreeCells.{from-few}
-use Rattle.odds.specs.Marks.{marked, unmarked}
-use Rattle.odds.specs.Odds.{Stands}
-use Rattle.odds.specs.declared.odds.Odds.{Odds}
-use Rattle.odds.proofs.Marking.{count-in}
+use Rattle.rules.specs.Chance.{outcomes, digits, pick, drawnFrom}
+use Rattle.boards.proofs.Scans.{unmarked-few}
+use Rattle.boards.specs.Marks.{unmarked, Open}
+use Rattle.outcomes.specs.Odds.{Stands}
+use Rattle.outcomes.specs.declared.odds.Odds.{Odds}
+use Rattle.outcomes.proofs.Marking.{count-in}
 
-pub unmarked-few : (b : List ℕ) (n : ℕ) → length (unmarked b n) ≤ n
-unfolding unmarked
-unmarked-few b n = from-few (marked b) n 0
+module _ (n left : ℕ) (board : List ℕ) (o : Open n left board) where
+  pub left-most : left ≤ 1024
+  left-most = omega (arith, o .left-is, o .area-max, unmarked-few board n)
+
+  -- the digits of an index, and the cells that they pick
+  pub list-drawn : (ds cells : List ℕ) (k i : ℕ) → ds ≡ digits left k i → cells ≡ pick (unmarked board n) ds → cells ≡ drawnFrom (unmarked board n) k i
+  unfolding drawnFrom
+  list-drawn ds cells k i e q = q ∙ ap (pick (unmarked board n)) (e ∙ ap (λ (m : ℕ). digits m k i) (o .left-is))
 
 module _ (w board : List ℕ) (r : Odds) (o : Stands w board r) where
   pub size-le : r .size ≤ r .free
@@ -25,3 +32,16 @@ module _ (w board : List ℕ) (r : Odds) (o : Stands w board r) where
   pub count-fits : (r .count ≡ 0 → ⊥) → falling (r .free) (r .size) < 2 ^ 64
   unfolding outcomes
   count-fits n = rw (o .free-is, o .size-is) (let l = ltb-false (2 ^ 64 - 1) (outcomes (stateOf w)) (count-in w board r o n) in omega arith)
+
+-- ---- what stays due after a draw
+
+module _ (b : Bool) (due left : ℕ) where
+  pub due-none : not b ≡ true → 0 ≡ (due - 1 if b && not (eqb left 0) else 0)
+  due-none t = rw (not-true b t)
+
+  module _ (t : not b ≡ false) where
+    pub due-full : left ≡ 0 → 0 ≡ (due - 1 if b && not (eqb left 0) else 0)
+    due-full e = rw (not-false b t, eq-eqb left 0 e)
+
+    pub due-less : (left ≡ 0 → ⊥) → due - 1 ≡ (due - 1 if b && not (eqb left 0) else 0)
+    due-less n = rw (not-false b t, ne-eqb left 0 n)

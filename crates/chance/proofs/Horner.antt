@@ -3,25 +3,31 @@ use mathlib.Core.Path.{_≡_, refl, sym, ap, ap₂, _∙_}
 use mathlib.Core.Bool.{true, false, _&&_}
 use mathlib.Core.List.{List, [], _∷_}
 use Prim.Native.Nat.{ℕ, suc, _+_, _-_, _*_, _≤_, _<_, _^_}
-use native.Mathlib.Nat.{le-trans, lt-irrefl, mul-assoc, add-mul, zero-mul, zero-add}
+use native.Mathlib.Nat.{le-trans, mul-assoc, add-mul, zero-mul, zero-add}
 use native.Mathlib.Numerals.{add-one}
 use native.Mathlib.Omega.{arith}
+use mir.Syntax.{w64}
+use mir.Val.{Fits}
 use lib.Arith.{digits-lt}
-use lib.ListN.{length, getD, set, drop, drop-of-length-le, length-drop}
+use lib.ListN.{length, getD, set, drop, drop-of-length-le, length-drop, length-set}
 use lib.Seq.{drop-cons}
 use Rattle.lists.specs.Lists.{member, without, place}
 use Rattle.lists.specs.Products.{falling}
 use Rattle.lists.proofs.Tests.{both, and-left, and-right}
-use Rattle.lists.proofs.Members.{agree, clash, fails, length-without, place-lt}
+use Rattle.lists.proofs.Members.{agree, fails, length-without, place-lt}
 use Rattle.lists.proofs.Products.{falling-next, falling-first, falling-mono, falling-none}
 use Rattle.rules.specs.State.{State}
+use Rattle.rules.specs.Tables.{by}
+use Rattle.rules.specs.Says.{refuses, gives}
+use Rattle.rules.specs.declared.Refusal.{Refusal}
+use Rattle.rules.specs.declared.Number.the-variants.{Value, Refused}
 use Rattle.rules.specs.Chance.{free, drawSize, rankIn, canRank}
-use Rattle.rules.proofs.FreeCells.{place-scan, of-from, free-distinct}
+use Rattle.rules.proofs.FreeCells.{free-distinct}
 use Rattle.rules.proofs.Draws.{InTurn, in-turn, turn-among, turn-distinct}
 use Rattle.rules.proofs.Fairness.{ranked-listed, listed-ranked}
-use Rattle.odds.specs.Marks.{marked, unmarked}
-use Rattle.odds.proofs.Scans.{mark-yes, mark-no, open-member, unmarked-set}
-use Rattle.chance.specs.Ranking.{inTurn}
+use Rattle.boards.specs.Marks.{unmarked}
+use Rattle.boards.proofs.Scans.{mark-no, open-member, unmarked-set, square-place, off-board, taken-square}
+use Rattle.chance.specs.Ranking.{inTurn, rankLeft, Rankable, Ranked, RankedTo}
 
 -- ---- the test
 
@@ -51,7 +57,7 @@ wrong-length t l n = fails (canRank t l) (λ h. n (ranked-listed t l h .long))
 -- ---- a turn of the loop, at cell j of the list
 
 module _ (cells l : List ℕ) (j : ℕ) where
-  pub turn-end : length l ≤ j → inTurn cells (drop j l) ≡ true
+  turn-end : length l ≤ j → inTurn cells (drop j l) ≡ true
   unfolding inTurn
   turn-end h = rw (drop-of-length-le l h)
 
@@ -59,13 +65,13 @@ module _ (cells l : List ℕ) (j : ℕ) where
   unfolding inTurn
   turn-left h = rw (drop-cons l j 0 h, add-one j)
 
-  pub turn-fails : j < length l → member (getD l j 0) cells ≡ false → inTurn cells (drop j l) ≡ false
+  turn-fails : j < length l → member (getD l j 0) cells ≡ false → inTurn cells (drop j l) ≡ false
   turn-fails h e = rw (turn-left h, e)
 
-  pub turn-next : j < length l → member (getD l j 0) cells ≡ true → inTurn cells (drop j l) ≡ inTurn (without (getD l j 0) cells) (drop (j + 1) l)
+  turn-next : j < length l → member (getD l j 0) cells ≡ true → inTurn cells (drop j l) ≡ inTurn (without (getD l j 0) cells) (drop (j + 1) l)
   turn-next h e = rw (turn-left h, e)
 
-  pub rank-end : length l ≤ j → rankIn cells (drop j l) ≡ 0
+  rank-end : length l ≤ j → rankIn cells (drop j l) ≡ 0
   unfolding rankIn
   rank-end h = rw (drop-of-length-le l h)
 
@@ -74,15 +80,11 @@ module _ (cells l : List ℕ) (j : ℕ) where
   unfolding rankIn
   rank-left h = rw (drop-cons l j 0 h, add-one j, length-drop (suc j) l)
 
--- the rank so far, r, times what the cells left can do, and their own rank
-abbrev pub rankLeft : List ℕ → List ℕ → ℕ → ℕ → ℕ
-rankLeft cells l j r = r * falling (length cells) (length l - j) + rankIn cells (drop j l)
-
 spread : (r m p f q : ℕ) → (r * m + p) * f + q ≡ r * (m * f) + (p * f + q)
 spread r m p f q = omega (arith, add-mul (r * m) p f, mul-assoc r m f)
 
 module _ (cells l : List ℕ) (j r : ℕ) (h : j < length l) (e : member (getD l j 0) cells ≡ true) where
-  pub rank-next : rankLeft (without (getD l j 0) cells) l (j + 1) (r * length cells + place (getD l j 0) cells) ≡ rankLeft cells l j r
+  rank-next : rankLeft (without (getD l j 0) cells) l (j + 1) (r * length cells + place (getD l j 0) cells) ≡ rankLeft cells l j r
   rank-next =
       let c = getD l j 0 in
       let w = without c cells in
@@ -96,36 +98,21 @@ module _ (cells l : List ℕ) (j r : ℕ) (h : j < length l) (e : member (getD l
 
 -- the rank so far is below the product so far, so that it fits
 module _ (n j k r p : ℕ) (b : r < falling n j) (g : p < n - j) where
-  pub rank-below : r * (n - j) + p < falling n (j + 1)
+  rank-below : r * (n - j) + p < falling n (j + 1)
   rank-below = rw (falling-next n j) (digits-lt b g)
 
-  pub rank-fits : j < k → k ≤ n → falling n k < 2 ^ 64 → r * (n - j) + p < 2 ^ 64
+  rank-fits : j < k → k ≤ n → falling n k < 2 ^ 64 → r * (n - j) + p < 2 ^ 64
   rank-fits h m f = le-trans rank-below (le-trans (falling-mono n (j + 1) k (omega arith) m) (omega arith))
-
--- ---- on the board
-
-module _ (b : List ℕ) (area c : ℕ) where
-  pub square-place : c < area → getD b c 0 ≡ 0 → place c (unmarked b area) ≡ length (unmarked b c)
-  unfolding unmarked
-  square-place h u = place-scan (marked b) area c h (mark-no b c u)
-
-  pub off-board : area ≤ c → member c (unmarked b area) ≡ false
-  unfolding unmarked
-  off-board h = fails (member c (unmarked b area)) (λ m. let r = of-from (marked b) area 0 c m .1 in lt-irrefl c (omega arith))
-
-  pub taken-square : (getD b c 0 ≡ 0 → ⊥) → member c (unmarked b area) ≡ false
-  unfolding unmarked
-  taken-square u = fails (member c (unmarked b area)) (λ m. clash (mark-yes b c u) (of-from (marked b) area 0 c m .0))
 
 -- ---- before the first cell, and after the last
 
-pub rank-start : (cells l : List ℕ) → rankLeft cells l 0 0 ≡ rankIn cells l
+rank-start : (cells l : List ℕ) → rankLeft cells l 0 0 ≡ rankIn cells l
 rank-start cells l = ap (λ (k : ℕ). k + rankIn cells l) (zero-mul (falling (length cells) (length l - 0))) ∙ zero-add (rankIn cells l)
 
-pub rank-small : (n : ℕ) → 0 < falling n 0
+rank-small : (n : ℕ) → 0 < falling n 0
 rank-small n = rw falling-none (omega arith)
 
-pub rank-done : (cells l : List ℕ) (j r : ℕ) → length l ≤ j → rankLeft cells l j r ≡ r
+rank-done : (cells l : List ℕ) (j r : ℕ) → length l ≤ j → rankLeft cells l j r ≡ r
 rank-done cells l j r h =
     let e : length l - j ≡ 0 = omega arith in
     rw (e, falling-none, rank-end cells l j h) (omega arith)
@@ -136,24 +123,80 @@ module _ (b l : List ℕ) (area free j r p : ℕ) where
   x = getD l j 0
 
   module _ (h : j < length l) (k : x < length b) (g : x < area) (u : getD b x 0 ≡ 0) (n : length (unmarked b area) + j ≡ free) (e : p ≡ length (unmarked b x)) where
-    pub here : member x (unmarked b area) ≡ true
+    here : member x (unmarked b area) ≡ true
     here = open-member b x area g (mark-no b x u)
 
-    pub left-one : length (unmarked (set b x 1) area) + (j + 1) ≡ free
+    left-one : length (unmarked (set b x 1) area) + (j + 1) ≡ free
     left-one = rw (unmarked-set b x area k) (let z = length-without x (unmarked b area) here in omega arith)
 
-    pub turn-one : inTurn (unmarked (set b x 1) area) (drop (j + 1) l) ≡ inTurn (unmarked b area) (drop j l)
+    turn-one : inTurn (unmarked (set b x 1) area) (drop (j + 1) l) ≡ inTurn (unmarked b area) (drop j l)
     turn-one = rw (unmarked-set b x area k) (sym (turn-next (unmarked b area) l j h here))
 
-    pub place-is : p ≡ place x (unmarked b area)
+    place-is : p ≡ place x (unmarked b area)
     place-is = e ∙ sym (square-place b area x g u)
 
-    pub place-small : p < free - j
+    place-small : p < free - j
     place-small = rw place-is (let z = place-lt x (unmarked b area) here in omega arith)
 
-    pub rank-one : rankLeft (unmarked (set b x 1) area) l (j + 1) (r * (free - j) + p) ≡ rankLeft (unmarked b area) l j r
+    rank-one : rankLeft (unmarked (set b x 1) area) l (j + 1) (r * (free - j) + p) ≡ rankLeft (unmarked b area) l j r
     rank-one =
         let m : free - j ≡ length (unmarked b area) = omega arith in
         ap (λ (c : List ℕ). rankLeft c l (j + 1) (r * (free - j) + p)) (unmarked-set b x area k)
         ∙ ap₂ (λ (m q : ℕ). rankLeft (without x (unmarked b area)) l (j + 1) (r * m + q)) m place-is
         ∙ rank-next (unmarked b area) l j r h here
+
+-- ---- the loop that ranks a list, from its first turn to its end
+
+module _ (l : List ℕ) (area free : ℕ) (start : List ℕ) where
+  pub ranked-none : Rankable l area free start → RankedTo l area free start start 0 0
+  ranked-none q = record {
+    within = omega arith;
+    size = q .squares .size;
+    left = omega (arith, q .squares .left-is);
+    turn = refl;
+    rest = rank-start (unmarked start area) l;
+    below = rank-small free;
+  }
+
+  module _ (b : List ℕ) (r j : ℕ) (v : RankedTo l area free start b r j) where
+    pub ranked-all : length l ≤ j → Ranked (unmarked start area) l (Value r)
+    ranked-all h =
+        let e = sym (v .turn) ∙ turn-end (unmarked b area) l j h in
+        record { answer = rw e (ap gives (sym (rank-done (unmarked b area) l j r h) ∙ v .rest)) }
+
+    module _ (h : j < length l) where
+      refused : member (getD l j 0) (unmarked b area) ≡ false → (x : Refusal) → x ≡ by 30 → Ranked (unmarked start area) l (Refused x)
+      refused m x q = let e = sym (v .turn) ∙ turn-fails (unmarked b area) l j h m in record { answer = rw e (ap refuses q) }
+
+      pub ranked-off : area ≤ getD l j 0 → (x : Refusal) → x ≡ by 30 → Ranked (unmarked start area) l (Refused x)
+      ranked-off g = refused (off-board b area (getD l j 0) g)
+
+      pub ranked-taken : (getD b (getD l j 0) 0 ≡ 0 → ⊥) → (x : Refusal) → x ≡ by 30 → Ranked (unmarked start area) l (Refused x)
+      ranked-taken u = refused (taken-square b area (getD l j 0) u)
+
+      module _ (q : Rankable l area free start) where
+        fits : (p : ℕ) → p < free - j → r * (free - j) + p < 2 ^ 64
+        fits p k = rank-fits free j (length l) r p (v .below) k h (q .few) (q .fits)
+
+        pub ranked-times : Fits w64 (r * (free - j))
+        ranked-times = let f = fits 0 (omega (arith, q .few)) in omega arith
+
+        module _ (g : getD l j 0 < area) (u : getD b (getD l j 0) 0 ≡ 0) (p : ℕ) (e : p ≡ length (unmarked b (getD l j 0))) where
+          inside : getD l j 0 < length b
+          inside = omega (arith, v .size, q .squares .area-max)
+
+          small : p < free - j
+          small = place-small b l area free j r p h inside g u (v .left) e
+
+          pub ranked-room : Fits w64 (r * (free - j) + p)
+          ranked-room = omega (arith, fits p small)
+
+          pub ranked-next : RankedTo l area free start (set b (getD l j 0) 1) (r * (free - j) + p) (j + 1)
+          ranked-next = record {
+            within = omega arith;
+            size = simp length-set (v .size);
+            left = left-one b l area free j r p h inside g u (v .left) e;
+            turn = turn-one b l area free j r p h inside g u (v .left) e ∙ v .turn;
+            rest = rank-one b l area free j r p h inside g u (v .left) e ∙ v .rest;
+            below = rank-below free j 0 r p (v .below) small;
+          }

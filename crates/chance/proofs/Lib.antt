@@ -3,4 +3,3 @@ pub mod Horner
 pub mod NextImage
 pub mod Drawing
 pub mod Saying
-pub mod Gates

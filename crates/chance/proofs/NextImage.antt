@@ -16,15 +16,15 @@ use Rattle.lists.specs.Lists.{writeAt, overFront}
 use Rattle.rules.specs.State.{count}
 use Rattle.rules.specs.Image.{bodyOf, recordOf, imageOf, snakesIn, sideIn, foodCountIn, foodStart, foodAt, stateOf}
 use Rattle.rules.specs.Facts.{Sound}
-use Rattle.rules.specs.Chance.{drawSize, outcomes, drawn, withFood, afterDraw}
+use Rattle.rules.specs.Chance.{outcomes, drawn, withFood, afterDraw}
 use Rattle.rules.proofs.FreeCells.{free-off-food}
 use Rattle.rules.proofs.Facts.{start-first, start-mono}
 use Rattle.rules.proofs.Fairness.{listed}
 use Rattle.rules.proofs.Sets.{with-long}
 use Rattle.rules.proofs.Words.{image-of}
 use Rattle.rules.proofs.Parts.{state-count, food-long}
-use Rattle.writers.specs.Writers.{Fresh}
-use Rattle.chance.specs.Next.{nextWords}
+use Rattle.cells.specs.Writers.{Fresh}
+use Rattle.chance.specs.Next.{nextWords, Growing}
 
 module _ (w : List ℕ) (s : Sound w) where
   food-from : 5 ≤ foodStart w
@@ -61,7 +61,7 @@ module _ (w : List ℕ) (s : Sound w) where
         ∙ ap (λ (r : List ℕ). snakesIn w ∷ sideIn w ∷ afterDraw t i .due ∷ bit (afterDraw t i .birth) ∷ (foodCountIn w + length cells) ∷ r)
         (sym (append-assoc table bodies f) ∙ ap (λ (m : List ℕ). m ++ f) middle)
 
-  pub next-words-long : (due : ℕ) (birth : Bool) (cells : List ℕ) → length (nextWords w due birth cells) ≡ length w + length cells
+  next-words-long : (due : ℕ) (birth : Bool) (cells : List ℕ) → length (nextWords w due birth cells) ≡ length w + length cells
   unfolding nextWords
   next-words-long due birth cells =
       let f = food-from in
@@ -70,11 +70,6 @@ module _ (w : List ℕ) (s : Sound w) where
       omega (arith, length-append (take (foodStart w - 5) (drop 5 w)) (withFood (foodAt w) cells), with-long cells (foodAt w), food-long w s)
 
   module _ (i : ℕ) (h : i < outcomes (stateOf w)) where
-    pub next-long : length (imageOf (afterDraw (stateOf w) i)) ≡ length w + drawSize (stateOf w)
-    next-long =
-        ap length (next-is i) ∙ next-words-long (afterDraw (stateOf w) i .due) (afterDraw (stateOf w) i .birth) (drawn (stateOf w) i)
-        ∙ ap (λ (k : ℕ). length w + k) (listed (stateOf w) i h .long)
-
     pub drawn-fresh : Fresh (foodAt w) (drawn (stateOf w) i)
     unfolding stateOf
     drawn-fresh =
@@ -83,7 +78,10 @@ module _ (w : List ℕ) (s : Sound w) where
 
 -- ---- the words as they are written: the image, then words 0 to 4, then the food's part
 
-module _ (w : List ℕ) (s : Sound w) (due : ℕ) (birth : Bool) (cells d : List ℕ) (h : length w + length cells ≤ length d) where
+module _ (w : List ℕ) (due : ℕ) (birth : Bool) (cells d : List ℕ) (g : Growing w due cells (length d)) where
+  abbrev s : Sound w
+  s = g .sound
+
   abbrev five : List ℕ
   five = snakesIn w ∷ sideIn w ∷ due ∷ bit birth ∷ (foodCountIn w + length cells) ∷ []
 
@@ -119,25 +117,28 @@ module _ (w : List ℕ) (s : Sound w) (due : ℕ) (birth : Bool) (cells d : List
       let a : length mid ≡ foodStart w - 5 = length-take-le (foodStart w - 5) (drop 5 w) (omega (arith, length-drop 5 w)) in
       omega (arith, length-append five mid, at-is)
 
-  module _ (o : List ℕ) (e : o ≡ writeAt (writeAt d 0 w) 0 five) where
+  module _ (a o : List ℕ) (q : a ≡ writeAt d 0 w) (e : o ≡ writeAt a 0 five) where
     is : o ≡ (five ++ mid) ++ (foodAt w ++ rest)
-    is = e ∙ copied
+    is = e ∙ ap (λ (l : List ℕ). writeAt l 0 five) q ∙ copied
 
     pub food-part : take (length o - at) (drop at o) ≡ foodAt w ++ rest
     food-part = rest-is o at ∙ ap (drop at) is ∙ drop-at (five ++ mid) (foodAt w ++ rest) at head-long
 
-    pub food-front : take (foodCountIn w) (take (length o - at) (drop at o)) ≡ foodAt w
+    food-front : take (foodCountIn w) (take (length o - at) (drop at o)) ≡ foodAt w
     food-front = ap (take (foodCountIn w)) food-part ∙ take-at (foodAt w) rest (foodCountIn w) (food-long w s)
 
-    pub food-room : foodCountIn w + length cells ≤ length (take (length o - at) (drop at o))
-    food-room = rw food-part (omega (arith, length-append (foodAt w) rest, food-long w s, length-drop (length w) d))
+    food-room : foodCountIn w + length cells ≤ length (take (length o - at) (drop at o))
+    food-room = rw food-part (omega (arith, g .words, length-append (foodAt w) rest, food-long w s, length-drop (length w) d))
+
+    pub food-grows : (foodCountIn w + length cells ≤ length (take (length o - at) (drop at o))) × Fresh (take (foodCountIn w) (take (length o - at) (drop at o))) cells
+    food-grows = (food-room, rw food-front (g .fresh))
 
     grown : (ys : List ℕ) → ys ≡ overFront (withFood (take (foodCountIn w) (take (length o - at) (drop at o))) cells) (take (length o - at) (drop at o))
         → ys ≡ withFood (foodAt w) cells ++ drop (length w + length cells) d
     unfolding overFront
-    grown ys q =
+    grown ys y =
         let f = withFood (foodAt w) cells in
-        q
+        y
         ∙ ap₂ (λ (l r : List ℕ). withFood l cells ++ drop (length (withFood l cells)) r) food-front food-part
         ∙ ap (λ (l : List ℕ). f ++ l)
         (ap (λ (k : ℕ). drop k (foodAt w ++ rest)) (with-long cells (foodAt w))
@@ -148,12 +149,12 @@ module _ (w : List ℕ) (s : Sound w) (due : ℕ) (birth : Bool) (cells d : List
     pub next-written : (ys : List ℕ) → ys ≡ overFront (withFood (take (foodCountIn w) (take (length o - at) (drop at o))) cells) (take (length o - at) (drop at o))
         → putMid at (length o - at) o ys ≡ overFront (nextWords w due birth cells) d
     unfolding overFront nextWords
-    next-written ys q =
+    next-written ys y =
         let f = withFood (foodAt w) cells in
         let tail = drop (length w + length cells) d in
         let none : drop (length o - at) (drop at o) ≡ [] = drop-of-length-le (drop at o) (le-of-eq (length-drop at o)) in
         let n = next-words-long w s due birth cells in
         ap₂ (λ (l r : List ℕ). l ++ (ys ++ r)) (ap (take at) is ∙ take-at (five ++ mid) (foodAt w ++ rest) at head-long) none
-        ∙ ap (λ (l : List ℕ). (five ++ mid) ++ l) (append-nil ys ∙ grown ys q)
+        ∙ ap (λ (l : List ℕ). (five ++ mid) ++ l) (append-nil ys ∙ grown ys y)
         ∙ sym (append-assoc (five ++ mid) f tail)
         ∙ ap₂ (λ (l : List ℕ) (k : ℕ). l ++ drop k d) (append-assoc five mid f) (sym n)

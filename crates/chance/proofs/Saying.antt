@@ -1,80 +1,177 @@
--- What a draw says, by the tests in their order. Assumes nothing.
+-- What draw and rank say, by the tests in their order: one law for each return. Assumes nothing.
 use mathlib.Core.Path.{_≡_, sym, ap, _∙_}
-use mathlib.Core.Bool.{false}
-use mathlib.Core.List.{List}
+use mathlib.Core.Bool.{false, not, _||_}
+use mathlib.Core.List.{List, [], _∷_}
 use Prim.Native.Nat.{ℕ, _+_, _≤_, _<_}
+use native.Mathlib.Nat.{pos-of-ne-zero}
 use native.Mathlib.Omega.{arith}
+use mir.Syntax.{w64}
+use mir.Val.{Fits}
 use lib.Dec.{ltb}
 use lib.ListN.{length}
 use borrow.Author.Tests.{lt-ltb, le-ltb}
-use Rattle.rules.specs.Image.{imageOf, stateOf}
+use Rattle.lists.specs.Choice.{_if_else_}
+use Rattle.rules.specs.Image.{dueIn, areaIn, imageOf, stateOf, wellFormed}
 use Rattle.rules.specs.Facts.{Sound}
-use Rattle.rules.specs.Chance.{outcomes, drawn, afterDraw}
-use Rattle.rules.specs.Calls.{Draw}
-use Rattle.rules.specs.Says.{Says, refuses, gives}
+use Rattle.rules.specs.Chance.{outcomes, drawn, afterDraw, rankOf, canRank}
+use Rattle.rules.specs.Calls.{Draw, drawSays, rankSays}
+use Rattle.rules.specs.Tables.{Table, by}
+use Rattle.rules.specs.Says.{Says, refuses, gives, byTable}
+use Rattle.rules.specs.Promises.{Draws, Ranks}
 use Rattle.rules.specs.declared.Drawn.{Drawn}
+use Rattle.rules.specs.declared.Number.{Number}
+use Rattle.rules.specs.declared.Number.the-variants.{Refused}
+use Rattle.rules.specs.declared.Refusal.{Refusal}
 use Rattle.rules.proofs.FreeCells.{free-short}
-use Rattle.odds.specs.Odds.{Stands}
-use Rattle.odds.specs.declared.odds.Odds.{Odds}
-use Rattle.odds.proofs.Marking.{count-over, count-in, count-eq}
-use Rattle.chance.specs.Answers.{drawOf, dueSays, Answers, Refuses}
-use Rattle.chance.proofs.Bounds.{size-le}
-use Rattle.chance.proofs.NextImage.{next-long}
-use Rattle.chance.proofs.Drawing.{cells-long}
+use Rattle.rules.proofs.Fairness.{listed}
+use Rattle.boards.specs.Marks.{unmarked}
+use Rattle.outcomes.specs.Odds.{Stands}
+use Rattle.outcomes.specs.declared.odds.Odds.{Odds}
+use Rattle.outcomes.proofs.Marking.{count-eq}
+use Rattle.outcomes.proofs.Rows.{not-formed, none-due, too-many, none-holds}
+use Rattle.chance.specs.Answers.{drawOf, Ready, Answers, Refuses}
+use Rattle.chance.specs.Ranking.{Rankable, Ranked}
+use Rattle.chance.proofs.Bounds.{size-le, count-fits}
+use Rattle.chance.proofs.Horner.{wrong-length, can-rank}
+use Rattle.rules.proofs.DrawFacts.{next-long}
 
--- a refusal leaves both buffers as they were
-pub refusing : (said : Says Draw) (n : ℕ) (old oldList : List ℕ) (r : Drawn) → said ≡ refuses n → Refuses n r → Answers said old old oldList oldList r
-refusing said n old oldList r e f = record {
-  answer = rw e (f .number-is);
-  cells = rw e (f .none);
-  words = rw e;
-  list = rw e;
+-- the words of an image and of what a draw takes
+pub words-fit : (w board : List ℕ) (o : Odds) → Stands w board o → Sound w → Fits w64 (length w + o .size)
+unfolding stateOf
+words-fit w board o p s = omega (arith, free-short (stateOf w), s .area-max, s .small, size-le w board o p, p .free-is)
+
+-- ---- draw
+
+module _ (w : List ℕ) (i : ℕ) (old list : List ℕ) (d : Drawn) where
+  -- 27 and 29
+  abbrev drawRows : Table
+  drawRows =
+      (by 27, not (ltb i (outcomes (stateOf w))))
+      ∷ (by 29, ltb (length old) (length (imageOf (afterDraw (stateOf w) i))) || ltb (length list) (length (drawn (stateOf w) i)))
+      ∷ []
+
+  abbrev answer : Says Draw
+  answer = gives (drawOf w i)
+
+  promised : (new newList : List ℕ) (said : Says Draw) → drawSays w i (length old) (length list) ≡ said → Answers said old new list newList d → Draws w i old new list newList d
+  promised new newList said e a = record { answer = rw e (a .answer); cells = rw e (a .cells); words = rw e (a .words); list = rw e (a .list) }
+
+  -- a refusal leaves both buffers as they were
+  refusing : (k : ℕ) → drawSays w i (length old) (length list) ≡ refuses (by k) → (x : Refusal) → x ≡ by k → Refuses x d → Draws w i old old list list d
+  refusing k e x q f = record { answer = rw e (f .says-so ∙ ap refuses q); cells = rw e (f .none); words = rw e; list = rw e }
+
+  pub draw-20 : wellFormed w ≡ false → (x : Refusal) → x ≡ by 20 → Refuses x d → Draws w i old old list list d
+  unfolding drawSays
+  draw-20 e = refusing 20 (not-formed _ answer w e)
+
+  module _ (s : Sound w) where
+    pub draw-23 : dueIn w ≡ 0 → (x : Refusal) → x ≡ by 23 → Refuses x d → Draws w i old old list list d
+    unfolding drawSays
+    draw-23 z = refusing 23 (none-due drawRows answer w s z)
+
+    module _ (n : dueIn w ≡ 0 → ⊥) (board : List ℕ) (o : Odds) (p : Stands w board o) where
+      pub draw-28 : o .count ≡ 0 → (x : Refusal) → x ≡ by 28 → Refuses x d → Draws w i old old list list d
+      unfolding drawSays
+      draw-28 e = refusing 28 (too-many drawRows answer w s n board o p e)
+
+      module _ (c : o .count ≡ 0 → ⊥) where
+        further : drawSays w i (length old) (length list) ≡ byTable drawRows answer
+        unfolding drawSays
+        further = none-holds drawRows answer w s n board o p c
+
+        pub draw-27 : o .count ≤ i → (x : Refusal) → x ≡ by 27 → Refuses x d → Draws w i old old list list d
+        unfolding byTable
+        draw-27 h = refusing 27 (further ∙ rw (le-ltb i (outcomes (stateOf w)) (let e = count-eq w board o p c in omega arith)))
+
+        module _ (h : i < o .count) where
+          below : i < outcomes (stateOf w)
+          below = let e = count-eq w board o p c in omega arith
+
+          long : length (imageOf (afterDraw (stateOf w) i)) ≡ length w + o .size
+          long = next-long w s i below ∙ ap (λ (k : ℕ). length w + k) (sym (p .size-is))
+
+          cells-long : length (drawn (stateOf w) i) ≡ o .size
+          cells-long = listed (stateOf w) i below .long ∙ sym (p .size-is)
+
+          pub draw-29 : length old < length w + o .size → (x : Refusal) → x ≡ by 29 → Refuses x d → Draws w i old old list list d
+          unfolding byTable
+          draw-29 l =
+              refusing 29
+              (further ∙ rw (lt-ltb i (outcomes (stateOf w)) below, lt-ltb (length old) (length (imageOf (afterDraw (stateOf w) i))) (omega (arith, long))))
+
+          module _ (k : length w + o .size ≤ length old) where
+            fits : ltb (length old) (length (imageOf (afterDraw (stateOf w) i))) ≡ false
+            fits = le-ltb (length old) (length (imageOf (afterDraw (stateOf w) i))) (omega (arith, long))
+
+            pub list-29 : length list < o .size → (x : Refusal) → x ≡ by 29 → Refuses x d → Draws w i old old list list d
+            unfolding byTable
+            list-29 l =
+                refusing 29
+                (further ∙ rw (lt-ltb i (outcomes (stateOf w)) below, fits, lt-ltb (length list) (length (drawn (stateOf w) i)) (omega (arith, cells-long))))
+
+            module _ (l : o .size ≤ length list) where
+              pub draw-gives : (new newList : List ℕ) → Answers answer old new list newList d → Draws w i old new list newList d
+              unfolding byTable
+              draw-gives new newList a =
+                  promised new newList answer
+                  (further ∙ rw (lt-ltb i (outcomes (stateOf w)) below, fits, le-ltb (length list) (length (drawn (stateOf w) i)) (omega (arith, cells-long))))
+                  a
+
+-- where no row holds
+pub draw-ready : (w : List ℕ) (i : ℕ) (o : Odds) (board : List ℕ) (room more : ℕ) → Stands w board o → Sound w → (dueIn w ≡ 0 → ⊥) → (o .count ≡ 0 → ⊥) → i < o .count
+    → length w + o .size ≤ room → o .size ≤ more → Ready w i o board room more
+draw-ready w i o board room more p s n c h k l = record {
+  sound = s;
+  stands = p;
+  due = pos-of-ne-zero n;
+  below = let e = count-eq w board o p c in omega arith;
+  words = k;
+  cells = l;
 }
 
-pub saying : {said other : Says Draw} (old new oldList newList : List ℕ) (r : Drawn) → said ≡ other → Answers other old new oldList newList r → Answers said old new oldList newList r
-saying old new oldList newList r e a = rw e a
+-- ---- rank
 
-module _ (w board : List ℕ) (r : Odds) (s : Sound w) (o : Stands w board r) (i room listRoom : ℕ) where
-  pub size-few : r .size ≤ 1024
-  unfolding stateOf
-  size-few =
-      let a = free-short (stateOf w) in
-      let b = s .area-max in
-      let c = size-le w board r o in
-      let d = o .free-is in
-      omega arith
+module _ (w l : List ℕ) where
+  -- 30
+  abbrev rankRows : Table
+  rankRows = (by 30, not (canRank (stateOf w) l)) ∷ []
 
-  pub says-over : r .count ≡ 0 → dueSays w i room listRoom ≡ refuses 28
-  unfolding dueSays
-  says-over e = rw (count-over w board r o e)
+  abbrev index : Says ℕ
+  index = gives (rankOf (stateOf w) l)
 
-  module _ (n : r .count ≡ 0 → ⊥) where
-    pub says-past : r .count ≤ i → dueSays w i room listRoom ≡ refuses 27
-    unfolding dueSays
-    says-past h = rw (count-in w board r o n, le-ltb i (outcomes (stateOf w)) (let e = count-eq w board r o n in omega arith))
+  pub rank-20 : wellFormed w ≡ false → (x : Refusal) → x ≡ by 20 → Ranks w l (Refused x)
+  unfolding rankSays
+  rank-20 e x q = record { answer = ap refuses q ∙ sym (not-formed _ index w e) }
 
-    module _ (h : i < r .count) where
-      pub below-count : i < outcomes (stateOf w)
-      below-count = let e = count-eq w board r o n in omega arith
+  module _ (s : Sound w) where
+    pub rank-23 : dueIn w ≡ 0 → (x : Refusal) → x ≡ by 23 → Ranks w l (Refused x)
+    unfolding rankSays
+    rank-23 z x q = record { answer = ap refuses q ∙ sym (none-due rankRows index w s z) }
 
-      long : length (imageOf (afterDraw (stateOf w) i)) ≡ length w + r .size
-      long = next-long w s i below-count ∙ ap (λ (k : ℕ). length w + k) (sym (o .size-is))
+    module _ (n : dueIn w ≡ 0 → ⊥) (board : List ℕ) (o : Odds) (p : Stands w board o) where
+      pub rank-28 : o .count ≡ 0 → (x : Refusal) → x ≡ by 28 → Ranks w l (Refused x)
+      unfolding rankSays
+      rank-28 e x q = record { answer = ap refuses q ∙ sym (too-many rankRows index w s n board o p e) }
 
-      pub says-short : room < length w + r .size → dueSays w i room listRoom ≡ refuses 29
-      unfolding dueSays
-      says-short l =
-          rw (count-in w board r o n, lt-ltb i (outcomes (stateOf w)) below-count, lt-ltb room (length (imageOf (afterDraw (stateOf w) i))) (let e = long in omega arith))
+      module _ (c : o .count ≡ 0 → ⊥) where
+        ranked : rankSays w l ≡ (refuses (by 30) if not (canRank (stateOf w) l) else index)
+        unfolding rankSays byTable
+        ranked = none-holds rankRows index w s n board o p c
 
-      module _ (k : length w + r .size ≤ room) where
-        fits : ltb room (length (imageOf (afterDraw (stateOf w) i))) ≡ false
-        fits = le-ltb room (length (imageOf (afterDraw (stateOf w) i))) (let e = long in omega arith)
+        pub rank-30 : (length l ≡ o .size → ⊥) → (x : Refusal) → x ≡ by 30 → Ranks w l (Refused x)
+        rank-30 h x q =
+            record { answer = ap refuses q ∙ sym (ranked ∙ rw (wrong-length (stateOf w) l (λ e. h (e ∙ sym (p .size-is))))) }
 
-        pub says-list : listRoom < r .size → dueSays w i room listRoom ≡ refuses 29
-        unfolding dueSays
-        says-list l =
-            rw (count-in w board r o n, lt-ltb i (outcomes (stateOf w)) below-count, fits, lt-ltb listRoom (length (drawn (stateOf w) i)) (let e = cells-long w board r s o i below-count in omega arith))
+        module _ (e : length l ≡ o .size) where
+          pub rankable : Rankable l (areaIn w) (o .free) board
+          rankable =
+              let k = size-le w board o p in
+              record {
+                squares = record { area-max = s .area-max; size = p .size; left-is = p .free-is ∙ ap length (sym (p .shows)) };
+                few = omega arith;
+                fits = rw e (count-fits w board o p c);
+              }
 
-        pub says-gives : r .size ≤ listRoom → dueSays w i room listRoom ≡ gives (drawOf w i)
-        unfolding dueSays
-        says-gives l =
-            rw (count-in w board r o n, lt-ltb i (outcomes (stateOf w)) below-count, fits, le-ltb listRoom (length (drawn (stateOf w) i)) (let e = cells-long w board r s o i below-count in omega arith))
+          pub rank-says : (r : Number) → Ranked (unmarked board (areaIn w)) l r → Ranks w l r
+          unfolding rankOf
+          rank-says r q = record { answer = rw (p .shows) at (q .answer) ∙ sym (ranked ∙ rw (can-rank (stateOf w) l (e ∙ p .size-is))) }

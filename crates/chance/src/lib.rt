@@ -5,7 +5,7 @@ mod ranks;
 use image::well_formed;
 use next::draw_due;
 use next::refused;
-use odds::count_due;
+use outcomes::count_due;
 use ranks::rank_due;
 use rules::Drawn;
 use rules::Number;
@@ -16,10 +16,7 @@ pub fn count(image: &[u16]) -> Number
     ensures { λ r. ⌜ Counts (now (image .entry)) r ⌝ }
 {
     if !well_formed(image) {
-        return Number::Refused(20);
-    }
-    if image[2] == 0 {
-        return Number::Refused(23);
+        return Number::Refused(refusals::by(20));
     }
     count_due(image)
 }
@@ -29,10 +26,7 @@ pub fn draw(image: &[u16], index: u64, out: &mut [u16], list: &mut [u16]) -> Dra
     ensures { λ r. ⌜ Draws (now (image .entry)) index (now (out .entry)) (now (out .exit)) (now (list .entry)) (now (list .exit)) r ⌝ }
 {
     if !well_formed(image) {
-        return refused(20);
-    }
-    if image[2] == 0 {
-        return refused(23);
+        return refused(refusals::by(20));
     }
     draw_due(image, index, out, list)
 }
@@ -42,10 +36,7 @@ pub fn rank(image: &[u16], list: &[u16]) -> Number
     ensures { λ r. ⌜ Ranks (now (image .entry)) (now (list .entry)) r ⌝ }
 {
     if !well_formed(image) {
-        return Number::Refused(20);
-    }
-    if image[2] == 0 {
-        return Number::Refused(23);
+        return Number::Refused(refusals::by(20));
     }
     rank_due(image, list)
 }

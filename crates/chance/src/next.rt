@@ -2,42 +2,41 @@
 use image::put_all;
 use image::write_contents;
 use lists::write_at;
-use odds::Odds;
-use odds::odds_of;
-use odds::pick_cells;
-use odds::split;
+use outcomes::Odds;
+use outcomes::odds_of;
+use outcomes::pick_cells;
+use outcomes::split;
 use rules::Answer;
 use rules::Drawn;
+use rules::Refusal;
 ghost use mathlib.Core.Path.{_≡_};
 ghost use mathlib.Core.Bool.{not, _&&_, _||_};
-ghost use Prim.Native.Nat.{_+_, _-_, _≤_, _<_};
+ghost use Prim.Native.Nat.{_-_, _≤_, _<_};
 ghost use lib.Dec.{eqb};
 ghost use lib.ListN.{length};
 ghost use Rattle.lists.specs.Choice.{_if_else_};
 ghost use Rattle.lists.specs.Lists.{overFront};
-ghost use Rattle.rules.specs.Image.{dueIn, foodAt, stateOf};
 ghost use Rattle.rules.specs.Facts.{Sound};
-ghost use Rattle.rules.specs.Chance.{outcomes, drawnFrom};
+ghost use Rattle.rules.specs.Chance.{drawnFrom};
 ghost use Rattle.rules.specs.Says.{gives};
-ghost use Rattle.odds.specs.Marks.{unmarked};
-ghost use Rattle.odds.specs.Odds.{Stands};
-ghost use Rattle.writers.specs.Writers.{Fresh};
-ghost use Rattle.chance.specs.Next.{nextWords};
-ghost use Rattle.chance.specs.Answers.{drawOf, dueSays, Answers, Refuses};
+ghost use Rattle.rules.specs.Promises.{Draws};
+ghost use Rattle.boards.specs.Marks.{unmarked, Open};
+ghost use Rattle.chance.specs.Next.{nextWords, Growing};
+ghost use Rattle.chance.specs.Answers.{drawOf, Ready, Answers, Refuses};
 
-pub fn refused(number: u8) -> Drawn
-    ensures { λ r. ⌜ Refuses number r ⌝ }
+pub fn refused(why: Refusal) -> Drawn
+    ensures { λ r. ⌜ Refuses why r ⌝ }
 {
     Drawn {
-        answer: Answer::Refused(number),
+        answer: Answer::Refused(why),
         cells: 0,
     }
 }
 
 // The cells that the index draws, over the whole list.
 fn draw_list(list: &mut [u16], index: u64, free: usize, area: usize, board: &mut [u8; 1024])
-    requires { ⌜ (area ≤ 1024) × (length (now board) ≡ 1024) ⌝ }
-    requires { ⌜ (free ≡ length (unmarked (now board) area)) × (length (now list) ≤ free) ⌝ }
+    requires { ⌜ Open area free (now board) ⌝ }
+    requires { ⌜ length (now list) ≤ free ⌝ }
     ensures { λ _. ⌜ now (list .exit) ≡ drawnFrom (unmarked (now (board .entry)) area) (length (now (list .entry))) index ⌝ }
 {
     split(list, free, index);
@@ -66,9 +65,7 @@ fn birth_after(due: usize, birth: bool, free: usize) -> bool
 
 // The image copied, words 2 to 4 anew, and each cell put into the food.
 fn write_next(image: &[u16], due: usize, birth: bool, cells: &[u16], out: &mut [u16])
-    requires { ⌜ Sound (now image) ⌝ }
-    requires { ⌜ (due ≤ 1024) × (length (now cells) ≤ 1024) × (length (now image) + length (now cells) ≤ length (now out)) ⌝ }
-    requires { ⌜ Fresh (foodAt (now image)) (now cells) ⌝ }
+    requires { ⌜ Growing (now image) due (now cells) (length (now out)) ⌝ }
     ensures { λ _. ⌜ now (out .exit) ≡ overFront (nextWords (now (image .entry)) due birth (now (cells .entry))) (now (out .entry)) ⌝ }
 {
     let foods = image[4] as usize;
@@ -94,10 +91,7 @@ fn draw_into(
     out: &mut [u16],
     list: &mut [u16],
 ) -> Drawn
-    requires { ⌜ Sound (now image) ⌝ }
-    requires { ⌜ Stands (now image) (now board) found ⌝ }
-    requires { ⌜ (0 < dueIn (now image)) × (index < outcomes (stateOf (now image))) ⌝ }
-    requires { ⌜ (length (now image) + found .size ≤ length (now out)) × (found .size ≤ length (now list)) ⌝ }
+    requires { ⌜ Ready (now image) index found (now board) (length (now out)) (length (now list)) ⌝ }
     ensures { λ r. ⌜ Answers (gives (drawOf (now (image .entry)) index)) (now (out .entry)) (now (out .exit)) (now (list .entry)) (now (list .exit)) r ⌝ }
 {
     let size = found.size;
@@ -115,25 +109,27 @@ fn draw_into(
     }
 }
 
-// Refusals 28, 27, 29; nothing is written before the last of them.
+// Refusals 23, 28, 27, 29; nothing is written before the last of them.
 pub fn draw_due(image: &[u16], index: u64, out: &mut [u16], list: &mut [u16]) -> Drawn
     requires { ⌜ Sound (now image) ⌝ }
-    requires { ⌜ 0 < dueIn (now image) ⌝ }
-    ensures { λ r. ⌜ Answers (dueSays (now (image .entry)) index (length (now (out .entry))) (length (now (list .entry)))) (now (out .entry)) (now (out .exit)) (now (list .entry)) (now (list .exit)) r ⌝ }
+    ensures { λ r. ⌜ Draws (now (image .entry)) index (now (out .entry)) (now (out .exit)) (now (list .entry)) (now (list .exit)) r ⌝ }
 {
+    if image[2] == 0 {
+        return refused(refusals::by(23));
+    }
     let mut board = [0u8; 1024];
     let found = odds_of(image, &mut board);
     if found.count == 0 {
-        return refused(28);
+        return refused(refusals::by(28));
     }
     if found.count <= index {
-        return refused(27);
+        return refused(refusals::by(27));
     }
     if out.len() < image.len() + found.size {
-        return refused(29);
+        return refused(refusals::by(29));
     }
     if list.len() < found.size {
-        return refused(29);
+        return refused(refusals::by(29));
     }
     draw_into(image, index, found, &mut board, out, list)
 }

@@ -1,53 +1,56 @@
 -- The code's records of the snakes after the step, as the definition's snakes; the tests as the code makes them. Assumes nothing.
-use Prim.Native.Nat.{ℕ, _+_, _-_, _≤_}
+use Prim.Native.Nat.{ℕ, _+_, _*_, _<_, _≤_}
 use mathlib.Core.Bool.{Bool, false, not, _&&_, _||_}
 use mathlib.Core.List.{List}
 use mathlib.Core.Path.{_≡_}
-use lib.Dec.{eqb, ltb, leb}
+use lib.Dec.{eqb, ltb}
 use lib.ListN.{length, getD}
 use Rattle.lists.specs.Choice.{bit}
-use Rattle.lists.specs.Below.{someBelow, countBelow, sumBelow}
+use Rattle.lists.specs.Below.{someBelow, countBelow, sumBelow, lowestFrom}
 use Rattle.lists.specs.Lists.{member}
-use Rattle.writers.specs.Writers.{partOf, bodyWith}
+use Rattle.cells.specs.Writers.{partOf, bodyWith}
 use Rattle.rules.specs.declared.Heading.the-variants.{Up}
 use Rattle.rules.specs.declared.Cause.{Cause}
 use Rattle.rules.specs.declared.Cause.the-variants.{NoCause}
-use Rattle.rules.specs.declared.Limit.{Limit}
-use Rattle.rules.specs.declared.Limit.the-variants.{Unset, Is}
 use Rattle.rules.specs.declared.Event.{Event}
 use Rattle.rules.specs.Events.{dies}
-use Rattle.rules.specs.Places.{cellOf}
+use Rattle.rules.specs.Image.{startAt}
 use Rattle.rules.specs.State.{Snake}
+use Rattle.rules.specs.Step.{killerOf}
 use Rattle.judge.specs.declared.Judged.{Judged}
+use Rattle.judge.specs.World.{untouched}
 use Rattle.consequences.specs.declared.after.After.{After}
 use Rattle.consequences.specs.declared.after.Tally.{Tally}
 
 -- a judged move, settled
-abbrev pub settled : ℕ → Judged → After
-settled g j = record {
+abbrev pub settled : Judged → After
+settled j = record {
   heading = j .moved .heading;
   lives = j .moved .moves && not (dies (j .cause));
-  cell = cellOf g (j .moved .head);
-  start = j .moved .start;
+  cell = j .moved .cell;
   keep = j .moved .keep;
   ate = j .moved .eats && not (dies (j .cause));
   cause = j .cause;
 }
 
+abbrev pub settledAt : List Judged → ℕ → After
+settledAt js i = settled (getD js i untouched)
+
 -- a place of the array that no snake has
 abbrev pub gone : After
-gone = record { heading = Up; lives = false; cell = 0; start = 0; keep = 0; ate = false; cause = NoCause }
+gone = record { heading = Up; lives = false; cell = 0; keep = 0; ate = false; cause = NoCause }
 
-abbrev pub part : List ℕ → After → List ℕ
-part w a = partOf w (a .start) (a .keep)
+-- snake i: what it keeps of its body in the image, and the snake
+abbrev pub part : List ℕ → ℕ → After → List ℕ
+part w i a = partOf w (startAt w i) (a .keep)
 
-abbrev pub later : List ℕ → After → Snake
-later w a = record { heading = a .heading; alive = a .lives; body = bodyWith w (a .start) (a .keep) (a .cell) (a .lives) }
+abbrev pub later : List ℕ → ℕ → After → Snake
+later w i a = record { heading = a .heading; alive = a .lives; body = bodyWith w (startAt w i) (a .keep) (a .cell) (a .lives) }
 
 -- ---- what an array of them says, by number
 
 abbrev pub snakes : List ℕ → List After → ℕ → Snake
-snakes w all i = later w (getD all i gone)
+snakes w all i = later w i (getD all i gone)
 
 abbrev pub cells : List After → ℕ → ℕ
 cells all i = getD all i gone .cell
@@ -67,10 +70,19 @@ sizeOf a = a .keep + bit (a .lives)
 abbrev pub sizes : List After → ℕ → ℕ
 sizes all i = sizeOf (getD all i gone)
 
--- each rest is a part of the image, and short
-abbrev pub InImage : List ℕ → List After → Type 0
-InImage w all = (i : ℕ) → getD all i gone .start + getD all i gone .keep ≤ length w
+-- what snake i keeps is a part of the image
+pub record PartIn (w : List ℕ) (i : ℕ) (a : After) : Type 0 where
+  pub few : i < 8
+  pub words : 5 + 4 * i < length w
+  pub small : startAt w i < 65536
+  pub fits : startAt w i + a .keep ≤ length w
 
+-- and so of each of n
+pub record InImage (w : List ℕ) (all : List After) (n : ℕ) : Type 0 where
+  pub few : n ≤ 8
+  pub parts : (i : ℕ) → i < n → PartIn w i (getD all i gone)
+
+-- and it is short
 abbrev pub Short : List After → Type 0
 Short all = (i : ℕ) → getD all i gone .keep ≤ 1024
 
@@ -79,33 +91,56 @@ pub record Counted (all : List After) (n : ℕ) (r : Tally) : Type 0 where
   pub deaths : r .deaths ≡ countBelow n (λ i. dies (causes all i))
   pub cells : r .cells ≡ sumBelow n (sizes all)
 
+-- the counts of the first i of n
+pub record Counting (all : List After) (n i alive deaths cells : ℕ) : Type 0 where
+  pub few : n ≤ 8
+  pub along : i ≤ n
+  pub lived : alive ≡ countBelow i (living all)
+  pub died : deaths ≡ countBelow i (λ i. dies (causes all i))
+  pub size : cells ≡ sumBelow i (sizes all)
+  pub lived-few : alive ≤ i
+  pub died-few : deaths ≤ i
+  pub size-small : cells ≤ 1025 * i
+
 -- ---- tests
 
 -- a survivor's body holds the cell
-abbrev pub holdsAt : List ℕ → After → ℕ → Bool
-holdsAt w a cell = later w a .alive && member cell (later w a .body)
+abbrev pub holdsAt : List ℕ → ℕ → After → ℕ → Bool
+holdsAt w i a cell = later w i a .alive && member cell (later w i a .body)
+
+abbrev pub holdsIn : List ℕ → List After → ℕ → ℕ → Bool
+holdsIn w all cell j = holdsAt w j (getD all j gone) cell
+
+-- whom the death of a snake is credited to, of n
+abbrev pub killerIn : List ℕ → List After → ℕ → ℕ → ℕ
+killerIn w all n = killerOf n (cells all) (causes all) (snakes w all)
 
 abbrev pub creditedTo : List ℕ → ℕ → ℕ → Bool
 creditedTo to j i = eqb (getD to i 0) j
 
--- two live, i and j, and i keeps more cells than j, by k or more
-abbrev pub leadsBy : List After → ℕ → ℕ → ℕ → ℕ → Bool
-leadsBy all alive k i j =
-    eqb alive 2 && (living all i && living all j && ltb (getD all j gone .keep) (getD all i gone .keep) && leb k (getD all i gone .keep - getD all j gone .keep))
+-- ---- what each function finds
 
-abbrev pub leadsIn : List After → ℕ → Limit → ℕ → ℕ → Bool
-leadsIn all alive Unset i j = false
-leadsIn all alive (Is k) i j = leadsBy all alive k i j
+pub record HasCell (w : List ℕ) (i : ℕ) (a : After) (cell : ℕ) (r : Bool) : Type 0 where
+  pub is : r ≡ holdsAt w i a cell
 
--- the event of snake i, of n: the array, whom each death is credited to, the counts of the living and the dead
-abbrev pub eventAt : List After → List ℕ → ℕ → ℕ → ℕ → Limit → ℕ → Event
-eventAt all to n alive deaths lead i = record {
-  ate = eating all i;
+pub record Holder (w : List ℕ) (all : List After) (n cell r : ℕ) : Type 0 where
+  pub is : r ≡ lowestFrom (holdsIn w all cell) 0 n
+
+pub record KilledBy (w : List ℕ) (all : List After) (n i r : ℕ) : Type 0 where
+  pub is : r ≡ killerIn w all n i
+
+pub record Credited (to : List ℕ) (n j : ℕ) (r : Bool) : Type 0 where
+  pub is : r ≡ someBelow n (creditedTo to j)
+
+-- the event of snake i, of n: the array, whom each death is credited to, the counts of the living and the dead, who leads
+abbrev pub eventAt : List After → List ℕ → ℕ → ℕ → ℕ → ℕ → ℕ → Event
+eventAt all to n alive deaths leader i = record {
+  «ate_food» = eating all i;
   died = dies (causes all i);
-  cause = causes all i;
-  killed = someBelow n (creditedTo to i);
-  won = living all i && eqb alive 1 && ltb 0 deaths || someBelow n (leadsIn all alive lead i);
-  lost = dies (causes all i) && ltb 0 alive || someBelow n (λ j. leadsIn all alive lead j i);
+  «death_cause» = causes all i;
+  «killed_opponent» = someBelow n (creditedTo to i);
+  won = living all i && eqb alive 1 && ltb 0 deaths || eqb i leader;
+  lost = dies (causes all i) && ltb 0 alive || (living all i && not (eqb i leader) && ltb leader n);
   drew = dies (causes all i) && eqb alive 0 && ltb 1 deaths;
-  survived = false;
+  «survived_to_max_ticks» = false;
 }

@@ -6,19 +6,16 @@ use rules::Cause;
 use rules::Heading;
 ghost use mathlib.Core.Path.{_≡_};
 ghost use Prim.Native.Nat.{_≤_};
-ghost use lib.ListN.{getD};
 ghost use Rattle.lists.specs.Below.{filled};
-ghost use Rattle.judge.specs.World.{untouched};
-ghost use Rattle.consequences.specs.After.{settled, gone, sizeOf, Short, Counted};
+ghost use Rattle.consequences.specs.After.{settled, settledAt, gone, sizeOf, Short, Counted};
 
-// A snake after the step: its body is the cell of its moved head, if it lives, and then the part of the image.
+// A snake after the step: its body is the cell of its moved head, if it lives, and then the first `keep` words of its body in the image.
 pub struct After {
     pub heading: Heading,
     pub lives: bool,
     pub ate: bool,
     pub cause: Cause,
     pub cell: u16,
-    pub start: u16,
     pub keep: u16,
 }
 
@@ -30,35 +27,31 @@ pub struct Tally {
 }
 
 // 'The dying lose their head cell', and did not eat.
-fn settle(g: u16, j: Judged) -> After
-    requires { ⌜ g ≤ 32 ⌝ }
-    ensures { λ r. ⌜ r ≡ settled g j ⌝ }
+fn settle(j: Judged) -> After
+    ensures { λ r. ⌜ r ≡ settled j ⌝ }
 {
     let m = j.moved;
     let cause = j.cause;
     let heading = m.heading;
-    let head = m.head;
     let lasts = !is_death(cause);
     After {
         heading,
         lives: m.moves & lasts,
-        cell: places::cell_of(g, head),
-        start: m.start,
+        cell: m.cell,
         keep: m.keep,
         ate: m.eats & lasts,
         cause,
     }
 }
 
-pub fn settle_all(judged: [Judged; 8], n: usize, g: u16) -> [After; 8]
-    requires { ⌜ (n ≤ 8) × (g ≤ 32) ⌝ }
-    ensures { λ r. ⌜ r ≡ filled (λ i. settled g (getD judged i untouched)) n 8 gone ⌝ }
+pub fn settle_all(judged: [Judged; 8], n: usize) -> [After; 8]
+    requires { ⌜ n ≤ 8 ⌝ }
+    ensures { λ r. ⌜ r ≡ filled (settledAt judged) n 8 gone ⌝ }
 {
     let mut all = [After {
         heading: Heading::Up,
         lives: false,
         cell: 0,
-        start: 0,
         keep: 0,
         ate: false,
         cause: Cause::NoCause,
@@ -66,7 +59,7 @@ pub fn settle_all(judged: [Judged; 8], n: usize, g: u16) -> [After; 8]
     let mut i = 0;
     while i < n {
         let j = judged[i];
-        all[i] = settle(g, j);
+        all[i] = settle(j);
         i += 1;
     }
     all

@@ -2,12 +2,10 @@
 use crate::after::After;
 use rules::Cause;
 ghost use mathlib.Core.Path.{_≡_};
-ghost use Prim.Native.Nat.{_+_, _<_, _≤_};
-ghost use lib.ListN.{length, getD};
-ghost use Rattle.lists.specs.Below.{someBelow, lowestFrom, filled};
+ghost use Prim.Native.Nat.{_<_, _≤_};
+ghost use Rattle.lists.specs.Below.{filled};
 ghost use Rattle.rules.specs.Events.{byBody};
-ghost use Rattle.rules.specs.Step.{killerOf};
-ghost use Rattle.consequences.specs.After.{causes, cells, gone, snakes, holdsAt, creditedTo, InImage};
+ghost use Rattle.consequences.specs.After.{killerIn, PartIn, InImage, HasCell, Holder, KilledBy, Credited};
 
 fn is_by_body(c: Cause) -> bool
     ensures { λ r. ⌜ r ≡ byBody c ⌝ }
@@ -21,28 +19,28 @@ fn is_by_body(c: Cause) -> bool
     }
 }
 
-// Whether a survivor's body holds a cell; the dead are not searched.
-fn has_cell(image: &[u16], a: After, cell: u16) -> bool
-    requires { ⌜ a .start + a .keep ≤ length (now image) ⌝ }
-    ensures { λ r. ⌜ r ≡ holdsAt (now (image .entry)) a cell ⌝ }
+// Whether snake j is a survivor whose body holds a cell; the dead are not searched.
+fn has_cell(image: &[u16], j: usize, a: After, cell: u16) -> bool
+    requires { ⌜ PartIn (now image) j a ⌝ }
+    ensures { λ r. ⌜ HasCell (now (image .entry)) j a cell r ⌝ }
 {
     let at_head = cell == a.cell;
     if !a.lives {
         return false;
     }
-    at_head | image::holds_in(image, a.start as usize, a.keep as usize, cell)
+    let start = image[layout::start_at(j)] as usize;
+    at_head | image::holds_in(image, start, a.keep as usize, cell)
 }
 
 // The lowest-numbered survivor whose body holds a cell, or n.
 fn find_killer(image: &[u16], all: [After; 8], n: usize, cell: u16) -> usize
-    requires { ⌜ n ≤ 8 ⌝ }
-    requires { ⌜ InImage (now image) all ⌝ }
-    ensures { λ r. ⌜ r ≡ lowestFrom (λ j. holdsAt (now (image .entry)) (getD all j gone) cell) 0 n ⌝ }
+    requires { ⌜ InImage (now image) all n ⌝ }
+    ensures { λ r. ⌜ Holder (now (image .entry)) all n cell r ⌝ }
 {
     let mut j = 0;
     while j < n {
         let a = all[j];
-        if has_cell(image, a, cell) {
+        if has_cell(image, j, a, cell) {
             return j;
         }
         j += 1;
@@ -52,9 +50,9 @@ fn find_killer(image: &[u16], all: [After; 8], n: usize, cell: u16) -> usize
 
 // Whom the death of a snake is credited to, or n.
 fn killer_of(image: &[u16], all: [After; 8], n: usize, i: usize) -> usize
-    requires { ⌜ (n ≤ 8) × (i < 8) ⌝ }
-    requires { ⌜ InImage (now image) all ⌝ }
-    ensures { λ r. ⌜ r ≡ killerOf n (cells all) (causes all) (snakes (now (image .entry)) all) i ⌝ }
+    requires { ⌜ InImage (now image) all n ⌝ }
+    requires { ⌜ i < 8 ⌝ }
+    ensures { λ r. ⌜ KilledBy (now (image .entry)) all n i r ⌝ }
 {
     let a = all[i];
     let c = a.cause;
@@ -65,9 +63,8 @@ fn killer_of(image: &[u16], all: [After; 8], n: usize, i: usize) -> usize
 }
 
 pub fn find_killers(image: &[u16], all: [After; 8], n: usize) -> [usize; 8]
-    requires { ⌜ n ≤ 8 ⌝ }
-    requires { ⌜ InImage (now image) all ⌝ }
-    ensures { λ r. ⌜ r ≡ filled (killerOf n (cells all) (causes all) (snakes (now (image .entry)) all)) n 8 0 ⌝ }
+    requires { ⌜ InImage (now image) all n ⌝ }
+    ensures { λ r. ⌜ r ≡ filled (killerIn (now (image .entry)) all n) n 8 0 ⌝ }
 {
     let mut to = [0usize; 8];
     let mut i = 0;
@@ -80,7 +77,7 @@ pub fn find_killers(image: &[u16], all: [After; 8], n: usize) -> [usize; 8]
 
 pub fn is_killer(to: [usize; 8], n: usize, j: usize) -> bool
     requires { ⌜ n ≤ 8 ⌝ }
-    ensures { λ r. ⌜ r ≡ someBelow n (creditedTo to j) ⌝ }
+    ensures { λ r. ⌜ Credited to n j r ⌝ }
 {
     let mut found = false;
     let mut i = 0;

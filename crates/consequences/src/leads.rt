@@ -1,94 +1,73 @@
 // Leads and the end: 'at most one alive (none, with play_to_last), or two alive with lengths apart by the lead or more'.
 use crate::after::After;
 use rules::Limit;
-ghost use mathlib.Core.Path.{_≡_};
-ghost use mathlib.Core.Bool.{_||_};
-ghost use Prim.Native.Nat.{_+_, _<_, _≤_};
-ghost use lib.Dec.{leb};
-ghost use Rattle.lists.specs.Choice.{_if_else_};
-ghost use Rattle.lists.specs.Below.{someBelow};
-ghost use Rattle.consequences.specs.After.{leadsBy, leadsIn};
+ghost use Prim.Native.Nat.{_≤_};
+ghost use Rattle.consequences.specs.Leads.{Living, NextLiving, TwoLive, Longer, Leads, Leader, Ends};
 
-// Whether two live, snake i and snake j, and i is longer by k or more.
-fn leads_by(all: [After; 8], alive: usize, k: u64, i: usize, j: usize) -> bool
-    requires { ⌜ (i < 8) × (j < 8) ⌝ }
-    ensures { λ r. ⌜ r ≡ leadsBy all alive k i j ⌝ }
+// The first snake from `from` on that lives, or n.
+fn find_living(all: [After; 8], n: usize, from: usize) -> usize
+    requires { ⌜ (from ≤ n) × (n ≤ 8) ⌝ }
+    ensures { λ r. ⌜ NextLiving all n from r ⌝ }
 {
-    let me = all[i];
-    let you = all[j];
-    let mine = me.keep as u64;
-    let yours = you.keep as u64;
+    let mut i = from;
+    while i < n {
+        let a = all[i];
+        if a.lives {
+            return i;
+        }
+        i += 1;
+    }
+    i
+}
+
+// Whether a is longer than b by k or more; what lives has its head beside what it keeps.
+fn is_longer(a: After, b: After, k: u64) -> bool
+    ensures { λ r. ⌜ Longer a b k r ⌝ }
+{
+    let mine = a.keep as u64;
+    let yours = b.keep as u64;
     if mine <= yours {
         return false;
     }
-    (alive == 2) & me.lives & you.lives & (k <= mine - yours)
+    k <= mine - yours
 }
 
-fn ahead_by(all: [After; 8], n: usize, alive: usize, k: u64, i: usize) -> bool
-    requires { ⌜ (n ≤ 8) × (i < 8) ⌝ }
-    ensures { λ r. ⌜ r ≡ someBelow n (leadsBy all alive k i) ⌝ }
+// Of two that live, the one that leads, or n.
+fn leader_of(all: [After; 8], n: usize, i: usize, j: usize, k: u64) -> usize
+    requires { ⌜ TwoLive all n i j ⌝ }
+    ensures { λ r. ⌜ Leads all n k r ⌝ }
 {
-    let mut found = false;
-    let mut j = 0;
-    while j < n {
-        found = found | leads_by(all, alive, k, i, j);
-        j += 1;
+    let a = all[i];
+    let b = all[j];
+    if is_longer(a, b, k) {
+        return i;
     }
-    found
-}
-
-fn behind_by(all: [After; 8], n: usize, alive: usize, k: u64, i: usize) -> bool
-    requires { ⌜ (n ≤ 8) × (i < 8) ⌝ }
-    ensures { λ r. ⌜ r ≡ someBelow n (λ j. leadsBy all alive k j i) ⌝ }
-{
-    let mut found = false;
-    let mut j = 0;
-    while j < n {
-        found = found | leads_by(all, alive, k, j, i);
-        j += 1;
+    if is_longer(b, a, k) {
+        return j;
     }
-    found
+    n
 }
 
-// Without a lead set nobody leads, and nobody is compared.
-pub fn is_ahead(all: [After; 8], n: usize, alive: usize, lead: Limit, i: usize) -> bool
-    requires { ⌜ (n ≤ 8) × (i < 8) ⌝ }
-    ensures { λ r. ⌜ r ≡ someBelow n (leadsIn all alive lead i) ⌝ }
+// The snake that leads by the lead or more, or n. Without a lead nobody is compared.
+pub fn find_leader(all: [After; 8], n: usize, alive: usize, lead: Limit) -> usize
+    requires { ⌜ Living all n alive ⌝ }
+    ensures { λ r. ⌜ Leader all n alive lead r ⌝ }
 {
-    match lead {
-        Limit::Unset => false,
-        Limit::Is(k) => ahead_by(all, n, alive, k, i),
+    let Limit::Is(k) = lead else {
+        return n;
+    };
+    if alive != 2 {
+        return n;
     }
+    let i = find_living(all, n, 0);
+    let j = find_living(all, n, i + 1);
+    leader_of(all, n, i, j, k)
 }
 
-pub fn is_behind(all: [After; 8], n: usize, alive: usize, lead: Limit, i: usize) -> bool
-    requires { ⌜ (n ≤ 8) × (i < 8) ⌝ }
-    ensures { λ r. ⌜ r ≡ someBelow n (λ j. leadsIn all alive lead j i) ⌝ }
+pub fn is_terminal(n: usize, alive: usize, last: bool, leader: usize) -> bool
+    ensures { λ r. ⌜ Ends n alive last leader r ⌝ }
 {
-    match lead {
-        Limit::Unset => false,
-        Limit::Is(k) => behind_by(all, n, alive, k, i),
-    }
-}
-
-fn any_ahead(all: [After; 8], n: usize, alive: usize, lead: Limit) -> bool
-    requires { ⌜ n ≤ 8 ⌝ }
-    ensures { λ r. ⌜ r ≡ someBelow n (λ i. someBelow n (leadsIn all alive lead i)) ⌝ }
-{
-    let mut found = false;
-    let mut i = 0;
-    while i < n {
-        found = found | is_ahead(all, n, alive, lead, i);
-        i += 1;
-    }
-    found
-}
-
-pub fn is_terminal(all: [After; 8], n: usize, alive: usize, last: bool, lead: Limit) -> bool
-    requires { ⌜ n ≤ 8 ⌝ }
-    ensures { λ r. ⌜ r ≡ (leb alive (0 if last else 1) || someBelow n (λ i. someBelow n (leadsIn all alive lead i))) ⌝ }
-{
-    let led = any_ahead(all, n, alive, lead);
+    let led = leader < n;
     if last {
         return (alive <= 0) | led;
     }

@@ -50,14 +50,14 @@ pub fn no_events() -> [Event; 8]
     ensures { λ r. ⌜ r ≡ replicate 8 blank ⌝ }
 {
     [Event {
-        ate: false,
+        ate_food: false,
         died: false,
-        cause: Cause::NoCause,
-        killed: false,
+        death_cause: Cause::NoCause,
+        killed_opponent: false,
         won: false,
         lost: false,
         drew: false,
-        survived: false,
+        survived_to_max_ticks: false,
     }; 8]
 }
 
@@ -66,6 +66,6 @@ pub fn mark(event: Event, alive: bool) -> Event
     ensures { λ r. ⌜ r ≡ truncated event alive ⌝ }
 {
     let mut marked = event;
-    marked.survived = alive;
+    marked.survived_to_max_ticks = alive;
     marked
 }

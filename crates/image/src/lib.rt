@@ -1,27 +1,25 @@
-// The state image in 16-bit words: what its parts are, and how words are written. `shape` and `writers` are passed on, so that callers name one crate.
+// The state image in 16-bit words: what its parts are, and how words are written. It passes on the check of `wellformed` and the writers of `cells`.
 mod parts;
 mod table;
 mod words;
 
+pub use cells::count_left;
+pub use cells::put_all;
+pub use cells::write_body;
+pub use cells::write_left;
 pub use lists::Found;
 pub use parts::body;
 pub use parts::find_in;
 pub use parts::food_of;
 pub use parts::holds_in;
 use rules::Heading;
-pub use shape::stamps_once;
-pub use shape::well_formed;
 pub use table::record_at;
-pub use table::records;
+pub use wellformed::well_formed;
 pub use words::flag;
 pub use words::heading_of;
 pub use words::number_of;
 pub use words::write_contents;
 pub use words::write_record;
-pub use writers::count_left;
-pub use writers::put_all;
-pub use writers::write_body;
-pub use writers::write_left;
 
 // A snake's four words, read.
 pub struct SnakeRecord {

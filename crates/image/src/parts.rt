@@ -1,6 +1,8 @@
 // Parts of an image, as parts of the caller's own slice: a snake's body, the food, and the search in a part.
+use layout::length_at;
+use layout::start_at;
 use lists::Found;
-use shape::well_formed;
+use wellformed::well_formed;
 ghost use mathlib.Core.Path.{_≡_};
 ghost use Prim.Native.Nat.{_+_, _<_, _≤_};
 ghost use lib.ListN.{length, take, drop};
@@ -18,8 +20,8 @@ pub fn body_of(image: &[u16], i: usize) -> &[u16]
     ensures words { λ r. ⌜ now r ≡ bodyAt (now (image .entry)) i ⌝ }
     ensures place { λ r. ⌜ r .ptr ≡ wordPlace (image .entry) (startAt (now (image .entry)) i) ⌝ }
 {
-    let start = image[5 + 4 * i] as usize;
-    let len = image[6 + 4 * i] as usize;
+    let start = image[start_at(i)] as usize;
+    let len = image[length_at(i)] as usize;
     &image[start..start + len]
 }
 
@@ -44,7 +46,7 @@ pub fn food_start(image: &[u16]) -> usize
     ensures { λ r. ⌜ r ≡ foodStart (now (image .entry)) ⌝ }
 {
     let last = image[0] as usize - 1;
-    image[5 + 4 * last] as usize + image[6 + 4 * last] as usize
+    image[start_at(last)] as usize + image[length_at(last)] as usize
 }
 
 pub fn food_of(image: &[u16]) -> &[u16]

@@ -1,32 +1,40 @@
 -- A cause by its five tests, the tests on an array of moves, and what the judged array says. Assumes nothing.
-use Prim.Native.Nat.{ℕ, _+_, _<_, _≤_}
+use Prim.Native.Nat.{ℕ, _+_, _-_, _*_, _<_, _≤_}
 use native.Mathlib.Omega.{arith}
 use mathlib.Core.Path.{_≡_, refl, sym, ap, _∙_}
-use mathlib.Core.Bool.{Bool, true, false, not, _&&_, _||_, and-false}
+use mathlib.Core.Bool.{Bool, true, false, not, _&&_, _||_, and-false, false≢true}
 use mathlib.Core.List.{List}
 use lib.Dec.{eqb}
 use lib.IntN.{pos}
-use lib.ListN.{getD, drop}
+use lib.ListN.{length, getD, take, drop, set, replicate}
+use mir.Val.{Fits}
+use mir.Syntax.{w64}
+use borrow.Author.Tests.{eq-eqb, ne-eqb, not-true, not-false}
 use Rattle.lists.specs.Choice.{_if_else_}
 use Rattle.lists.specs.Below.{someBelow, eachBelow, filled}
 use Rattle.lists.specs.Lists.{member}
+use Rattle.lists.proofs.Lists.{rest-is}
 use Rattle.lists.proofs.Missing.{missing-part}
 use Rattle.lists.proofs.Tests.{ordered, less, more}
-use Rattle.lists.proofs.Below.{some-ext, some-never, some-false, each-at, each-past, each-ext, each-map, filled-is}
-use Rattle.rules.specs.Places.{same, inside, cellOf}
+use Rattle.lists.proofs.Below.{some-ext, some-never, some-false, each-at, each-past, each-map, filled-is}
+use Rattle.rules.specs.Grid.{same, inside, cellOf}
 use Rattle.rules.specs.State.{nobody}
-use Rattle.rules.specs.Image.{front, snakesIn, sideIn, foodStart, foodAt, stateOf}
+use Rattle.rules.specs.Image.{front, snakesIn, sideIn, startAt, foodAt, stateOf}
 use Rattle.rules.specs.Facts.{Sound}
 use Rattle.rules.proofs.Parts.{state-count}
 use Rattle.rules.specs.Step.{Moved, stays, movedOf, another, onBody, causeOf, transitionOf, stepped}
+use Rattle.rules.specs.declared.Cause.{Cause}
 use Rattle.rules.specs.declared.Cause.the-variants.{NoCause, Wall, SelfBody, OppBody, HeadOn}
+use Rattle.rules.specs.declared.Place.{Place}
 use Rattle.rules.specs.declared.Setting.{Setting}
 use Rattle.judge.specs.declared.Move.{Move}
 use Rattle.judge.specs.declared.Judged.{Judged}
 use Rattle.judge.specs.World.{still, shown, world, untouched, movesOf, causesOf, judgedWorld, movedWorld, Judges}
+use Rattle.judge.specs.Loops.{Filling, Seeking}
 use Rattle.judge.specs.Moving.{moveAt}
-use Rattle.judge.specs.Judging.{Rests, stopsBy, stopsAt, bodyCause, judgedAt}
-use Rattle.judge.proofs.Moving.{shown-move, move-part, move-start, move-short}
+use Rattle.judge.specs.Judging.{Rests, RestIn, RestHolds, Judging, meetsAt, stopsAt, bodyCause, Meets, Stops, Stopped, OnBody, judgedAt}
+use Rattle.judge.proofs.Loops.{fill-none, fill-next, fill-all, seek-next, seek-all, seek-found, seek-on}
+use Rattle.judge.proofs.Moving.{origin-cell, shown-move, move-part, move-short, move-cell, move-inner}
 
 -- ---- one cause
 
@@ -35,14 +43,14 @@ only-rest true a b e = rw e
 only-rest false a b e = refl
 
 module _ (g n : ℕ) (m : ℕ → Moved) (i : ℕ) where
-  pub cause-by : {a b c d e : Bool} → m i .moves ≡ a → another g n m i (λ j. same (m i .head) (m j .head)) ≡ b → inside (pos g) (m i .head) ≡ c
+  cause-by : {a b c d e : Bool} → m i .moves ≡ a → another g n m i (λ j. same (m i .head) (m j .head)) ≡ b → inside (pos g) (m i .head) ≡ c
       → member (cellOf g (m i .head)) (m i .rest) ≡ d → another g n m i (onBody g n m (m i .head)) ≡ e
       → (NoCause if not a else HeadOn if b else Wall if not c else SelfBody if d else OppBody if e else NoCause) ≡ causeOf g n m i
   unfolding causeOf
   cause-by p q r s t = sym (λ k. NoCause if not (p k) else HeadOn if q k else Wall if not (r k) else SelfBody if s k else OppBody if t k else NoCause)
 
   -- where no two heads meet, a head on another's cell is on its rest
-  pub heads-apart : another g n m i (λ j. same (m i .head) (m j .head)) ≡ false
+  heads-apart : another g n m i (λ j. same (m i .head) (m j .head)) ≡ false
       → another g n m i (onBody g n m (m i .head)) ≡ another g n m i (λ j. member (cellOf g (m i .head)) (m j .rest))
   heads-apart e =
       let p : ℕ → Bool = λ j. not (eqb i j) && m j .moves in
@@ -50,81 +58,220 @@ module _ (g n : ℕ) (m : ℕ → Moved) (i : ℕ) where
       let r : ℕ → Bool = λ j. member (cellOf g (m i .head)) (m j .rest) in
       sym (some-ext n (λ j. p j && r j) (λ j. p j && (s j || r j)) (λ j l. only-rest (p j) (s j) (r j) (some-never (λ j. p j && s j) n j l e)))
 
--- ---- the array of moves
-
-pub stops-by : (w : List ℕ) (i j : ℕ) (m : Move) (cell : ℕ) {a b : Bool} → eqb i j ≡ a → m .moves ≡ b → (not a && b && member cell (shown w m .rest)) ≡ stopsBy w i j m cell
-stops-by w i j m cell p q = sym (λ k. not (p k) && q k && member cell (shown w m .rest))
-
-module _ (w : List ℕ) (all : List Move) (i cell : ℕ) where
-  pub body-by : (n : ℕ) {d e : Bool} → member cell (world w all i .rest) ≡ d → someBelow n (stopsAt w all i cell) ≡ e
-      → (SelfBody if d else OppBody if e else NoCause) ≡ bodyCause w all n i cell
-  body-by n p q = sym (λ k. SelfBody if p k else OppBody if q k else NoCause)
+-- the cause of a head on the grid, by its two tests
+module _ (w : List ℕ) (all : List Move) (n i cell : ℕ) where
+  body-by : {d e : Bool} → member cell (world w all i .rest) ≡ d → someBelow n (stopsAt w all i cell) ≡ e → (c : Cause) → c ≡ (SelfBody if d else OppBody if e else NoCause) → OnBody w all n i cell c
+  body-by p e c r = record { is = r ∙ sym (λ k. SelfBody if p k else OppBody if e k else NoCause) }
 
   -- the cell is on no body at all
-  pub body-none : Rests w all → (n : ℕ) → member cell (drop (front (snakesIn w)) w) ≡ false → NoCause ≡ bodyCause w all n i cell
-  body-none r n e = body-by n (r .clear i cell e)
-      (some-false (stopsAt w all i cell) n (λ j l. ap (λ (b : Bool). not (eqb i j) && getD all j still .moves && b) (r .clear j cell e) ∙ and-false (not (eqb i j) && getD all j still .moves)))
+  body-none : Rests w all → member cell (drop (front (snakesIn w)) w) ≡ false → OnBody w all n i cell NoCause
+  body-none r h =
+      body-by (r .clear i cell h)
+      (some-false (stopsAt w all i cell) n (λ j l. ap (λ (b : Bool). not (eqb i j) && getD all j still .moves && b) (r .clear j cell h) ∙ and-false (not (eqb i j) && getD all j still .moves)))
+      NoCause refl
+
+-- snake i of n, by the tests made so far
+module _ (w : List ℕ) (all : List Move) (n i : ℕ) (q : Judging w all n i) where
+  abbrev me : Move
+  me = getD all i still
+
+  pub cause-stays : not (me .moves) ≡ true → NoCause ≡ causeOf (sideIn w) n (world w all) i
+  cause-stays h = cause-by (sideIn w) n (world w all) i (not-true (me .moves) h) refl refl refl refl
+
+  module _ (go : not (me .moves) ≡ false) (met : Bool) (pm : Meets all n i (me .head) met) where
+    pub cause-meets : met ≡ true → HeadOn ≡ causeOf (sideIn w) n (world w all) i
+    cause-meets h = cause-by (sideIn w) n (world w all) i (not-false (me .moves) go) (sym (pm .is) ∙ h) refl refl refl
+
+    module _ (h : met ≡ false) where
+      apart : someBelow n (meetsAt all i (me .head)) ≡ false
+      apart = sym (pm .is) ∙ h
+
+      inner : inside (pos (sideIn w)) (me .head) ≡ me .inside
+      inner = sym (q .rests .inner i (not-false (me .moves) go))
+
+      pub cause-wall : not (me .inside) ≡ true → Wall ≡ causeOf (sideIn w) n (world w all) i
+      cause-wall t = cause-by (sideIn w) n (world w all) i (not-false (me .moves) go) apart (inner ∙ not-true (me .inside) t) refl refl
+
+      module _ (t : not (me .inside) ≡ false) where
+        pub cause-body : (c : Cause) → OnBody w all n i (me .cell) c → c ≡ causeOf (sideIn w) n (world w all) i
+        cause-body c b =
+            b .is
+            ∙ ap (bodyCause w all n i) (q .rests .cells i)
+            ∙ cause-by (sideIn w) n (world w all) i (not-false (me .moves) go) apart (inner ∙ not-false (me .inside) t) refl (heads-apart (sideIn w) n (world w all) i apart)
+
+        -- f is the first word after the records: the cell is on no body at all
+        pub cause-clear : (f : ℕ) → f ≡ 5 + 4 * n → (b : Bool) → b ≡ member (me .cell) (take (length w - f) (drop f w)) → not b ≡ true → NoCause ≡ causeOf (sideIn w) n (world w all) i
+        cause-clear f pf b e h =
+            let p : f ≡ front (snakesIn w) = omega (arith, q .snakes) in
+            let z = ap (λ (k : ℕ). member (me .cell) (drop k w)) (sym p) ∙ ap (member (me .cell)) (sym (rest-is w f)) ∙ sym e ∙ not-true b h in
+            cause-body NoCause (body-none w all n i (me .cell) (q .rests) z)
+
+-- ---- another's head
+
+-- b is whether the heads are the same
+pub meets-next : (all : List Move) (n i : ℕ) (p : Place) (j : ℕ) (found : Bool) → Seeking (meetsAt all i p) n j found → j < n → (b : Bool) → b ≡ same p (getD all j still .head)
+    → Seeking (meetsAt all i p) n (j + 1) (found || (not (eqb i j) && getD all j still .moves && b))
+meets-next all n i p j found q l b e =
+    seek-next (meetsAt all i p) n j found q l (not (eqb i j) && getD all j still .moves && b) (ap (λ (b : Bool). not (eqb i j) && getD all j still .moves && b) e)
+
+pub meets-all : (all : List Move) (n i : ℕ) (p : Place) (j : ℕ) (found : Bool) → Seeking (meetsAt all i p) n j found → n ≤ j → Meets all n i p found
+meets-all all n i p j found q l = record { is = seek-all (meetsAt all i p) n j found q l }
+
+-- ---- a rest: k is the place of its start
+
+module _ (w : List ℕ) (j : ℕ) (m : Move) (q : RestIn w j m) (k : ℕ) (e : k ≡ 5 + 4 * j) where
+  pub start-word : Fits w64 (getD w k 0)
+  start-word = rw e (omega (arith, q .small))
+
+  pub rest-fits : getD w k 0 + m .keep ≤ length w
+  rest-fits = rw e (q .fits)
+
+  pub rest-held : (cell : ℕ) (r : Bool) → r ≡ member cell (take (m .keep) (drop (getD w k 0) w)) → RestHolds w j m cell r
+  rest-held cell r h = record { is = h ∙ ap (λ (k : ℕ). member cell (take (m .keep) (drop (getD w k 0) w))) e }
+
+pub rest-in : (w : List ℕ) (all : List Move) (n i : ℕ) → Judging w all n i → (j : ℕ) → j < n → RestIn w j (getD all j still)
+rest-in w all n i q j l =
+    let s = q .sound in
+    let h : j < snakesIn w = omega (arith, q .snakes) in
+    record {
+      few = omega (arith, s .snakes-max);
+      words = omega (arith, s .records-in);
+      small = omega (arith, s .bodies-in j h, s .total, s .small);
+      fits = q .rests .fits j h;
+    }
+
+pub own-in : (w : List ℕ) (all : List Move) (n i : ℕ) → Judging w all n i → RestIn w i (getD all i still)
+own-in w all n i q = rest-in w all n i q i (q .one)
+
+-- ---- another's rest
+
+module _ (w : List ℕ) (i j : ℕ) (m : Move) (cell : ℕ) where
+  stops-by : {a b : Bool} → eqb i j ≡ a → m .moves ≡ b → (r : Bool) → r ≡ (not a && b && member cell (shown w j m .rest)) → Stops w i j m cell r
+  stops-by p q r e = record { is = e ∙ sym (λ k. not (p k) && q k && member cell (shown w j m .rest)) }
+
+  pub stops-self : i ≡ j → Stops w i j m cell false
+  stops-self e = stops-by (eq-eqb i j e) refl false refl
+
+  module _ (o : i ≡ j → ⊥) where
+    pub stops-still : not (m .moves) ≡ true → Stops w i j m cell false
+    stops-still h = stops-by (ne-eqb i j o) (not-true (m .moves) h) false refl
+
+    pub stops-held : not (m .moves) ≡ false → (r : Bool) → RestHolds w j m cell r → Stops w i j m cell r
+    stops-held h r e = stops-by (ne-eqb i j o) (not-false (m .moves) h) r (e .is)
+
+module _ (w : List ℕ) (all : List Move) (n i cell : ℕ) where
+  module _ (j : ℕ) (r : Bool) (s : Stops w i j (getD all j still) cell r) (l : j < n) where
+    pub stopped-here : r ≡ true → Stopped w all n i cell true
+    stopped-here t = record { is = seek-found (stopsAt w all i cell) n j l r (s .is) t }
+
+    pub stopped-next : Seeking (stopsAt w all i cell) n j false → r ≡ false → Seeking (stopsAt w all i cell) n (j + 1) false
+    stopped-next q t = seek-on (stopsAt w all i cell) n j l r (s .is) q t
+
+  pub stopped-none : (j : ℕ) → Seeking (stopsAt w all i cell) n j false → n ≤ j → Stopped w all n i cell false
+  stopped-none j q l = record { is = seek-all (stopsAt w all i cell) n j false q l }
+
+-- ---- the cause of a head on the grid
+
+module _ (w : List ℕ) (all : List Move) (n i cell : ℕ) where
+  module _ (b : Bool) (e : RestHolds w i (getD all i still) cell b) where
+    pub body-own : b ≡ true → OnBody w all n i cell SelfBody
+    body-own t = body-by w all n i cell (sym (e .is) ∙ t) refl SelfBody refl
+
+    module _ (f : b ≡ false) (s : Bool) (z : Stopped w all n i cell s) where
+      pub body-other : s ≡ true → OnBody w all n i cell OppBody
+      body-other t = body-by w all n i cell (sym (e .is) ∙ f) (sym (z .is) ∙ t) OppBody refl
+
+      pub body-clear : s ≡ false → OnBody w all n i cell NoCause
+      body-clear t = body-by w all n i cell (sym (e .is) ∙ f) (sym (z .is) ∙ t) NoCause refl
+
+-- ---- the array of moves
 
 module _ (w acts : List ℕ) (s : Sound w) (all : List Move) (q : all ≡ filled (moveAt w acts) (snakesIn w) 8 still) where
   all-at : (j : ℕ) → getD all j still ≡ getD (eachBelow (snakesIn w) (moveAt w acts)) j still
   all-at j = ap (λ (l : List Move). getD l j still) q ∙ filled-is (moveAt w acts) (snakesIn w) 8 still j
 
-  inside-at : (P : Move → Type 0) → P still → ((i : ℕ) → i < snakesIn w → P (moveAt w acts i)) → (j : ℕ) → P (getD all j still)
+  -- what holds of each snake's move, and of what is still, holds of the array
+  inside-at : (P : ℕ → Move → Type 0) → ((j : ℕ) → P j still) → ((i : ℕ) → i < snakesIn w → P i (moveAt w acts i)) → (j : ℕ) → P j (getD all j still)
   inside-at P p f j = elim (ordered j (snakesIn w)) [
     | less l t ↦ rw (all-at j, each-at (snakesIn w) (moveAt w acts) still j l) (f j l)
-    | more l t ↦ rw (all-at j, each-past (snakesIn w) (moveAt w acts) still j l) p
+    | more l t ↦ rw (all-at j, each-past (snakesIn w) (moveAt w acts) still j l) (p j)
   ]
 
-  pub part-at : (j : ℕ) → getD all j still .start + getD all j still .keep ≤ foodStart w
-  part-at = inside-at (λ m. m .start + m .keep ≤ foodStart w) (omega arith) (λ i l. move-part w s i l (getD acts i 0))
+  part-at : (j : ℕ) → j < snakesIn w → startAt w j + getD all j still .keep ≤ length w
+  part-at j l = rw (all-at j, each-at (snakesIn w) (moveAt w acts) still j l) (move-part w s j l (getD acts j 0))
 
-  pub short-at : (j : ℕ) → getD all j still .keep ≤ 1024
-  short-at = inside-at (λ m. m .keep ≤ 1024) (omega arith) (λ i l. move-short w s i l (getD acts i 0))
+  short-at : (j : ℕ) → getD all j still .keep ≤ 1024
+  short-at = inside-at (λ j m. m .keep ≤ 1024) (λ j. omega arith) (λ i l. move-short w s i l (getD acts i 0))
 
-  clear-at : (x : ℕ) → member x (drop (front (snakesIn w)) w) ≡ false → (j : ℕ) → member x (shown w (getD all j still) .rest) ≡ false
+  clear-at : (x : ℕ) → member x (drop (front (snakesIn w)) w) ≡ false → (j : ℕ) → member x (shown w j (getD all j still) .rest) ≡ false
   unfolding member
-  clear-at x e = inside-at (λ m. member x (shown w m .rest) ≡ false) refl (λ i l. missing-part x w (front (snakesIn w)) (moveAt w acts i .start) (moveAt w acts i .keep) (move-start w s i l (getD acts i 0)) e)
+  clear-at x e = inside-at (λ j m. member x (shown w j m .rest) ≡ false) (λ j. refl) (λ i l. missing-part x w (front (snakesIn w)) (startAt w i) (moveAt w acts i .keep) (omega (arith, s .starts i l)) e)
 
-  pub all-rests : Rests w all
-  all-rests = record { fits = λ j. omega (arith, part-at j, s .total); clear = λ j x e. clear-at x e j }
+  cell-at : (j : ℕ) → getD all j still .cell ≡ cellOf (sideIn w) (getD all j still .head)
+  cell-at = inside-at (λ j m. m .cell ≡ cellOf (sideIn w) (m .head)) (λ j. origin-cell (sideIn w)) (λ i l. move-cell w s i l (getD acts i 0))
+
+  inner-at : (j : ℕ) → getD all j still .moves ≡ true → getD all j still .inside ≡ inside (pos (sideIn w)) (getD all j still .head)
+  inner-at = inside-at (λ j m. m .moves ≡ true → m .inside ≡ inside (pos (sideIn w)) (m .head)) (λ j t. absurd (false≢true t)) (λ i l. move-inner w s i l (getD acts i 0))
+
+  all-rests : Rests w all
+  all-rests = record { fits = part-at; clear = λ j x e. clear-at x e j; cells = cell-at; inner = inner-at }
 
   past-still : (j : ℕ) → snakesIn w ≤ j → getD all j still ≡ still
   past-still j l = all-at j ∙ each-past (snakesIn w) (moveAt w acts) still j l
 
   world-at : (j : ℕ) → world w all j ≡ movedWorld w acts j
-  world-at j =
-      ap (shown w) (all-at j)
-      ∙ each-map (shown w) (snakesIn w) (moveAt w acts) still j
-      ∙ ap (λ (l : List Moved). getD l j (stays nobody)) (each-ext (snakesIn w) (λ i. shown w (moveAt w acts i)) (movedOf (stateOf w) acts) (λ i l. shown-move w s i l acts))
+  world-at j = elim (ordered j (snakesIn w)) [
+    | less l t ↦
+        ap (shown w j) (all-at j ∙ each-at (snakesIn w) (moveAt w acts) still j l)
+        ∙ shown-move w s j l acts
+        ∙ sym (each-at (snakesIn w) (movedOf (stateOf w) acts) (stays nobody) j l)
+    | more l t ↦ ap (shown w j) (past-still j l) ∙ sym (each-past (snakesIn w) (movedOf (stateOf w) acts) (stays nobody) j l)
+  ]
 
   world-is : world w all ≡ movedWorld w acts
   world-is = λ k j. world-at j k
 
   -- ---- the judged array
 
-  module _ (r : List Judged) (e : r ≡ filled (judgedAt w all (snakesIn w)) (snakesIn w) 8 untouched) where
-    judged-at : (j : ℕ) → getD r j untouched ≡ getD (eachBelow (snakesIn w) (judgedAt w all (snakesIn w))) j untouched
-    judged-at j = ap (λ (l : List Judged). getD l j untouched) e ∙ filled-is (judgedAt w all (snakesIn w)) (snakesIn w) 8 untouched j
+  module _ (pl : length acts ≡ snakesIn w) where
+    pub judging-at : (i : ℕ) → i < length acts → Judging w all (length acts) i
+    judging-at i l = record { sound = s; rests = all-rests; snakes = pl; one = l }
 
-    moves-at : (j : ℕ) → movesOf r j ≡ getD all j still
-    moves-at j = ap (λ (z : Judged). z .moved) (judged-at j) ∙ elim (ordered j (snakesIn w)) [
-      | less l t ↦ ap (λ (z : Judged). z .moved) (each-at (snakesIn w) (judgedAt w all (snakesIn w)) untouched j l)
-      | more l t ↦ ap (λ (z : Judged). z .moved) (each-past (snakesIn w) (judgedAt w all (snakesIn w)) untouched j l) ∙ sym (past-still j l)
-    ]
+    pub judged-none : Filling (judgedAt w all (length acts)) untouched (length acts) 0 (replicate 8 untouched)
+    judged-none = fill-none (judgedAt w all (length acts)) untouched (length acts) (omega (arith, s .snakes-max))
 
-    causes-at : (j : ℕ) → causesOf r j ≡ getD (eachBelow (snakesIn w) (causeOf (sideIn w) (snakesIn w) (world w all))) j NoCause
-    causes-at j = ap (λ (z : Judged). z .cause) (judged-at j) ∙ each-map (λ (z : Judged). z .cause) (snakesIn w) (judgedAt w all (snakesIn w)) untouched j
+    module _ (r : List Judged) (i : ℕ) (f : Filling (judgedAt w all (length acts)) untouched (length acts) i r) where
+      pub judged-next : i < length acts → (c : Cause) → c ≡ causeOf (sideIn w) (length acts) (world w all) i
+          → Filling (judgedAt w all (length acts)) untouched (length acts) (i + 1) (set r i (record { moved = getD all i still; cause = c }))
+      judged-next l c e = fill-next (judgedAt w all (length acts)) untouched (length acts) i r f l (record { moved = getD all i still; cause = c }) (λ k. record { moved = getD all i still; cause = e k })
 
-    world-judged : judgedWorld w r ≡ world w all
-    world-judged = λ k j. shown w (moves-at j k)
+      module _ (l : length acts ≤ i) where
+        r-is : r ≡ filled (judgedAt w all (snakesIn w)) (snakesIn w) 8 untouched
+        r-is = fill-all (judgedAt w all (length acts)) untouched (length acts) i r f l ∙ ap (λ (k : ℕ). filled (judgedAt w all k) k 8 untouched) pl
 
-    pub judges : Judges w acts r
-    judges = record {
-      moved = world-judged ∙ world-is;
-      causes = λ k j. (causes-at j ∙ ap (λ (m : ℕ → Moved). getD (eachBelow (snakesIn w) (causeOf (sideIn w) (snakesIn w) m)) j NoCause) (sym world-judged)) k;
-      parts = λ j. rw (moves-at j) (all-rests .fits j);
-      short = λ j. rw (moves-at j) (short-at j);
-    }
+        judged-at : (j : ℕ) → getD r j untouched ≡ getD (eachBelow (snakesIn w) (judgedAt w all (snakesIn w))) j untouched
+        judged-at j = ap (λ (l : List Judged). getD l j untouched) r-is ∙ filled-is (judgedAt w all (snakesIn w)) (snakesIn w) 8 untouched j
+
+        moves-at : (j : ℕ) → movesOf r j ≡ getD all j still
+        moves-at j = ap (λ (z : Judged). z .moved) (judged-at j) ∙ elim (ordered j (snakesIn w)) [
+          | less l t ↦ ap (λ (z : Judged). z .moved) (each-at (snakesIn w) (judgedAt w all (snakesIn w)) untouched j l)
+          | more l t ↦ ap (λ (z : Judged). z .moved) (each-past (snakesIn w) (judgedAt w all (snakesIn w)) untouched j l) ∙ sym (past-still j l)
+        ]
+
+        causes-at : (j : ℕ) → causesOf r j ≡ getD (eachBelow (snakesIn w) (causeOf (sideIn w) (snakesIn w) (world w all))) j NoCause
+        causes-at j = ap (λ (z : Judged). z .cause) (judged-at j) ∙ each-map (λ (z : Judged). z .cause) (snakesIn w) (judgedAt w all (snakesIn w)) untouched j
+
+        world-judged : judgedWorld w r ≡ world w all
+        world-judged = λ k j. shown w j (moves-at j k)
+
+        pub judges : Judges w acts r
+        judges = record {
+          moved = world-judged ∙ world-is;
+          causes = λ k j. (causes-at j ∙ ap (λ (m : ℕ → Moved). getD (eachBelow (snakesIn w) (causeOf (sideIn w) (snakesIn w) m)) j NoCause) (sym world-judged)) k;
+          cells = λ j. rw (moves-at j) (cell-at j);
+          parts = λ j l. rw (moves-at j) (part-at j l);
+          short = λ j. rw (moves-at j) (short-at j);
+        }
 
 -- ---- what the definition makes of a judged array
 

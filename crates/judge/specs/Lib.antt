@@ -1,3 +1,4 @@
 pub mod World
+pub mod Loops
 pub mod Moving
 pub mod Judging

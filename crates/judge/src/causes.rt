@@ -6,34 +6,42 @@ use rules::Cause;
 use rules::Heading;
 use rules::Place;
 ghost use mathlib.Core.Path.{_≡_};
-ghost use Prim.Native.Nat.{_+_, _<_, _≤_};
+ghost use Prim.Native.Nat.{_≤_};
 ghost use lib.ListN.{length};
-ghost use Rattle.lists.specs.Below.{someBelow};
 ghost use Rattle.rules.specs.Image.{snakesIn, sideIn};
 ghost use Rattle.rules.specs.Facts.{Sound};
 ghost use Rattle.rules.specs.Step.{causeOf};
 ghost use Rattle.judge.specs.World.{world, Judges};
-ghost use Rattle.judge.specs.Judging.{Rests, meetsAt, stopsBy, stopsAt, bodyCause};
+ghost use Rattle.judge.specs.Judging.{RestIn, RestHolds, Judging, Meets, Stops, Stopped, OnBody};
 
 // Whether another snake than i moved to the same place.
 fn head_on(all: [Move; 8], n: usize, i: usize, head: Place) -> bool
     requires { ⌜ n ≤ 8 ⌝ }
-    ensures { λ r. ⌜ r ≡ someBelow n (meetsAt all i head) ⌝ }
+    ensures { λ r. ⌜ Meets all n i head r ⌝ }
 {
     let mut found = false;
     let mut j = 0;
     while j < n {
         let you = all[j];
-        found = found | (i != j) & you.moves & places::same(head, you.head);
+        found = found | (i != j) & you.moves & grid::same(head, you.head);
         j += 1;
     }
     found
 }
 
+// Whether the rest of snake j's body holds a cell.
+fn rest_holds(image: &[u16], j: usize, you: Move, cell: u16) -> bool
+    requires { ⌜ RestIn (now image) j you ⌝ }
+    ensures { λ r. ⌜ RestHolds (now (image .entry)) j you cell r ⌝ }
+{
+    let start = image[layout::start_at(j)] as usize;
+    image::holds_in(image, start, you.keep as usize, cell)
+}
+
 // Whether snake j is another than i that moved and has the cell in the rest of its body; a corpse is not searched.
 fn stops(image: &[u16], i: usize, j: usize, you: Move, cell: u16) -> bool
-    requires { ⌜ you .start + you .keep ≤ length (now image) ⌝ }
-    ensures { λ r. ⌜ r ≡ stopsBy (now (image .entry)) i j you cell ⌝ }
+    requires { ⌜ RestIn (now image) j you ⌝ }
+    ensures { λ r. ⌜ Stops (now (image .entry)) i j you cell r ⌝ }
 {
     if i == j {
         return false;
@@ -41,14 +49,13 @@ fn stops(image: &[u16], i: usize, j: usize, you: Move, cell: u16) -> bool
     if !you.moves {
         return false;
     }
-    image::holds_in(image, you.start as usize, you.keep as usize, cell)
+    rest_holds(image, j, you, cell)
 }
 
 // Whether some snake has the cell so. Heads are not asked: a head there was head-on.
 fn stopped(image: &[u16], all: [Move; 8], n: usize, i: usize, cell: u16) -> bool
-    requires { ⌜ n ≤ 8 ⌝ }
-    requires { ⌜ Rests (now image) all ⌝ }
-    ensures { λ r. ⌜ r ≡ someBelow n (stopsAt (now (image .entry)) all i cell) ⌝ }
+    requires { ⌜ Judging (now image) all n i ⌝ }
+    ensures { λ r. ⌜ Stopped (now (image .entry)) all n i cell r ⌝ }
 {
     let mut j = 0;
     while j < n {
@@ -61,18 +68,13 @@ fn stopped(image: &[u16], all: [Move; 8], n: usize, i: usize, cell: u16) -> bool
     false
 }
 
-// Most heads are on no body and no food: one search over the words of both tells that, before any body is searched by itself.
+// The cause of a head on the grid that meets no other: the own rest, then the others'.
 fn body_cause(image: &[u16], all: [Move; 8], n: usize, i: usize, cell: u16) -> Cause
-    requires { ⌜ Sound (now image) ⌝ }
-    requires { ⌜ Rests (now image) all ⌝ }
-    requires { ⌜ (n ≡ snakesIn (now image)) × (i < n) ⌝ }
-    ensures { λ r. ⌜ r ≡ bodyCause (now (image .entry)) all n i cell ⌝ }
+    requires { ⌜ Judging (now image) all n i ⌝ }
+    ensures { λ r. ⌜ OnBody (now (image .entry)) all n i cell r ⌝ }
 {
-    if !lists::holds(&image[5 + 4 * n..], cell) {
-        return Cause::NoCause;
-    }
     let me = all[i];
-    if image::holds_in(image, me.start as usize, me.keep as usize, cell) {
+    if rest_holds(image, i, me, cell) {
         return Cause::SelfBody;
     }
     if stopped(image, all, n, i, cell) {
@@ -82,26 +84,25 @@ fn body_cause(image: &[u16], all: [Move; 8], n: usize, i: usize, cell: u16) -> C
 }
 
 fn cause_of(image: &[u16], all: [Move; 8], n: usize, i: usize) -> Cause
-    requires { ⌜ Sound (now image) ⌝ }
-    requires { ⌜ Rests (now image) all ⌝ }
-    requires { ⌜ (n ≡ snakesIn (now image)) × (i < n) ⌝ }
+    requires { ⌜ Judging (now image) all n i ⌝ }
     ensures { λ r. ⌜ r ≡ causeOf (sideIn (now (image .entry))) n (world (now (image .entry)) all) i ⌝ }
 {
     let me = all[i];
-    let head = me.head;
     if !me.moves {
         return Cause::NoCause;
     }
-    let g = image[1];
-    let inside = places::on_grid(g, head);
-    let met = head_on(all, n, i, head);
+    let met = head_on(all, n, i, me.head);
     if met {
         return Cause::HeadOn;
     }
-    if !inside {
+    if !me.inside {
         return Cause::Wall;
     }
-    body_cause(image, all, n, i, places::cell_of(g, head))
+    // Most heads are on no body and no food: one search over the words of both tells that, before any body is searched by itself.
+    if !lists::holds(&image[layout::front(n)..], me.cell) {
+        return Cause::NoCause;
+    }
+    body_cause(image, all, n, i, me.cell)
 }
 
 // Every snake's move and cause.
@@ -116,10 +117,11 @@ pub fn judge(image: &[u16], actions: &[u64]) -> [Judged; 8]
         moved: Move {
             moves: false,
             heading: Heading::Up,
-            head: Place { row: 0, col: 0 },
-            start: 0,
-            keep: 0,
             eats: false,
+            inside: false,
+            head: Place { row: 0, col: 0 },
+            cell: 0,
+            keep: 0,
         },
         cause: Cause::NoCause,
     }; 8];

@@ -6,65 +6,49 @@ ghost use mathlib.Core.Path.{_≡_};
 ghost use Prim.Native.Nat.{_<_};
 ghost use lib.ListN.{length};
 ghost use Rattle.lists.specs.Below.{filled};
-ghost use Rattle.rules.specs.Headings.{turned, actionOf};
-ghost use Rattle.rules.specs.Image.{snakesIn, sideIn, foodAt};
+ghost use Rattle.rules.specs.Image.{snakesIn};
 ghost use Rattle.rules.specs.Facts.{Sound};
-ghost use Rattle.rules.specs.Step.{onFood};
 ghost use Rattle.judge.specs.World.{still};
-ghost use Rattle.judge.specs.Moving.{going, moveBy, moveAt};
+ghost use Rattle.judge.specs.Moving.{LivingAt, OnFood, Kept, going, moveBy, moveAt};
 
-// relative_to_absolute of the Rust, by the action's number.
-fn turned_by(heading: Heading, action: u64) -> Heading
-    ensures { λ r. ⌜ r ≡ turned heading (actionOf action) ⌝ }
-{
-    if action == 0 {
-        return heading;
-    }
-    if action == 1 {
-        return places::counterclockwise(heading);
-    }
-    places::clockwise(heading)
-}
-
-// Whether there is food at a place.
-fn on_food(image: &[u16], p: Place) -> bool
+// Whether there is food at the cell of a head, which may be off the grid.
+fn on_food(image: &[u16], inside: bool, cell: u16) -> bool
     requires { ⌜ Sound (now image) ⌝ }
-    ensures { λ r. ⌜ r ≡ onFood (sideIn (now (image .entry))) (foodAt (now (image .entry))) p ⌝ }
+    ensures { λ r. ⌜ OnFood (now (image .entry)) inside cell r ⌝ }
 {
-    let g = image[1];
-    if !places::on_grid(g, p) {
+    if !inside {
         return false;
     }
-    let food = image::food_of(image);
-    lists::holds(food, places::cell_of(g, p))
+    lists::holds(image::food_of(image), cell)
 }
 
-// The body of `len` words from `start` on goes one place on; its tail stays only where the new head is on food.
+// 'Tails stay only if the new head is on food': how many words of the body are kept.
+fn kept(len: u16, eats: bool) -> u16
+    requires { ⌜ 0 < len ⌝ }
+    ensures { λ r. ⌜ Kept len eats r ⌝ }
+{
+    if eats { len } else { len - 1 }
+}
+
+// The body of `len` words from `start` on goes one place on. Nothing else of a step asks for a neighbour or for the cell of a head.
 fn goes_on(image: &[u16], start: u16, len: u16, heading: Heading) -> Move
-    requires { ⌜ Sound (now image) ⌝ }
-    requires { ⌜ (start < length (now image)) × (0 < len) ⌝ }
+    requires { ⌜ LivingAt (now image) start len ⌝ }
     ensures { λ r. ⌜ r ≡ going (now (image .entry)) start len heading ⌝ }
 {
-    let here = places::place_of(image[1], image[start as usize]);
-    let head = places::ahead(heading, here);
-    if on_food(image, head) {
-        return Move {
-            moves: true,
-            heading,
-            head,
-            start,
-            keep: len,
-            eats: true,
-        };
-    }
-    let rest = len - 1;
+    let g = image[1];
+    let here = grid::place_of(g, image[start as usize]);
+    let head = grid::ahead(heading, here);
+    let inside = grid::on_grid(g, head);
+    let cell = grid::cell_of(g, head);
+    let eats = on_food(image, inside, cell);
     Move {
         moves: true,
         heading,
+        eats,
+        inside,
         head,
-        start,
-        keep: rest,
-        eats: false,
+        cell,
+        keep: kept(len, eats),
     }
 }
 
@@ -77,15 +61,17 @@ fn moved(image: &[u16], i: usize, action: u64) -> Move
     let snake = image::record_at(image, i);
     let heading = snake.heading;
     if snake.alive {
-        return goes_on(image, snake.start, snake.len, turned_by(heading, action));
+        let turned = grid::relative_to_absolute(heading, grid::action_of(action));
+        return goes_on(image, snake.start, snake.len, turned);
     }
     Move {
         moves: false,
         heading,
-        head: Place { row: 0, col: 0 },
-        start: snake.start,
-        keep: snake.len,
         eats: false,
+        inside: false,
+        head: Place { row: 0, col: 0 },
+        cell: 0,
+        keep: snake.len,
     }
 }
 
@@ -97,10 +83,11 @@ pub fn move_all(image: &[u16], actions: &[u64]) -> [Move; 8]
     let mut all = [Move {
         moves: false,
         heading: Heading::Up,
-        head: Place { row: 0, col: 0 },
-        start: 0,
-        keep: 0,
         eats: false,
+        inside: false,
+        head: Place { row: 0, col: 0 },
+        cell: 0,
+        keep: 0,
     }; 8];
     let mut i = 0;
     while i < actions.len() {

@@ -13,9 +13,7 @@ pub mod Fitted
 pub mod Order
 pub mod Equal
 pub mod Lowest
-pub mod Boards
 pub mod Flags
-pub mod Squares
 pub mod Parts
 pub mod Insertion
 pub mod Shorter
@@ -24,4 +22,4 @@ pub mod Runs
 pub mod Distinct
 pub mod Insert
 pub mod Repeats
-pub mod Tables
+pub mod Fits

@@ -4,6 +4,4 @@ pub mod Lists
 pub mod Products
 pub mod Search
 pub mod Equal
-pub mod Boards
 pub mod Written
-pub mod Tables

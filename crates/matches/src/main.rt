@@ -2,15 +2,15 @@
 // match's input, `~ TEXT` its last one, whose newline is missing.
 use libc::STDIN_FILENO;
 use libc::STDOUT_FILENO;
-use reader::Reader;
+use stream::Progress;
 ghost use mathlib.Core.Path.{_≡_};
 ghost use Prim.Native.Nat.{_+_, _<_, _≤_};
 ghost use lib.ListN.{length};
-ghost use Rattle.reader.specs.Room.{Ready};
+ghost use Rattle.stream.specs.Room.{Ready};
 
 // The match under way; how many bytes of the line's front came, up to two, and its mark; where to go on in what came; whether more may come.
 pub struct Frame {
-    pub reader: Reader,
+    pub progress: Progress,
     pub column: u8,
     pub mark: u8,
     pub at: usize,
@@ -18,12 +18,12 @@ pub struct Frame {
 }
 
 // No match is under way before the first name.
-fn idle() -> Reader
+fn idle() -> Progress
     ensures { λ q. ⌜ (q .fill ≡ 0) × (q .desk .words ≡ 0) ⌝ }
 {
-    let r = reader::start();
+    let r = stream::start();
     let desk = r.desk;
-    Reader {
+    Progress {
         desk,
         fill: 0,
         at: 0,
@@ -35,19 +35,19 @@ fn idle() -> Reader
 
 // The end of a match, and the start of the next.
 fn begin(
-    old: Reader,
+    old: Progress,
     line: &[u8],
     image: &mut [u16],
     next: &mut [u16],
     list: &mut [u16],
     out: &mut [u8],
-) -> Reader
+) -> Progress
     requires { ⌜ Ready old (now line) (now image) (now next) (now list) (now out) ⌝ }
     ensures { λ q. ⌜ Ready q (now (line .entry)) (now (image .exit)) (now (next .exit)) (now (list .exit)) (now (out .exit)) ⌝ }
 {
-    reader::finish(old, line, image, next, list, out);
+    stream::finish(old, line, image, next, list, out);
     io::write_all(STDOUT_FILENO, b"= ");
-    reader::start()
+    stream::start()
 }
 
 // A byte of a line's front: the mark, then a space.
@@ -59,11 +59,11 @@ fn take_front(
     next: &mut [u16],
     list: &mut [u16],
     out: &mut [u8],
-) -> Reader
-    requires { ⌜ Ready (f .reader) (now line) (now image) (now next) (now list) (now out) ⌝ }
+) -> Progress
+    requires { ⌜ Ready (f .progress) (now line) (now image) (now next) (now list) (now out) ⌝ }
     ensures { λ q. ⌜ Ready q (now (line .entry)) (now (image .exit)) (now (next .exit)) (now (list .exit)) (now (out .exit)) ⌝ }
 {
-    let r = f.reader;
+    let r = f.progress;
     if f.column == 0 && byte == b'=' {
         return begin(r, line, image, next, list, out);
     }
@@ -79,16 +79,16 @@ fn take_text(
     next: &mut [u16],
     list: &mut [u16],
     out: &mut [u8],
-) -> Reader
-    requires { ⌜ Ready (f .reader) (now line) (now image) (now next) (now list) (now out) ⌝ }
+) -> Progress
+    requires { ⌜ Ready (f .progress) (now line) (now image) (now next) (now list) (now out) ⌝ }
     ensures { λ q. ⌜ Ready q (now (line .exit)) (now (image .exit)) (now (next .exit)) (now (list .exit)) (now (out .exit)) ⌝ }
 {
-    let r = f.reader;
+    let r = f.progress;
     if f.mark == b'=' {
         io::write_all(STDOUT_FILENO, text);
         return r;
     }
-    reader::take_all(r, text, line, image, next, list, out)
+    stream::take_all(r, text, line, image, next, list, out)
 }
 
 // Where the text of a line ends that has its newline at `end`: the match gets the newline too, but for a last line without one.
@@ -116,9 +116,9 @@ fn take_some(
     list: &mut [u16],
     out: &mut [u8],
 ) -> Frame
-    requires { ⌜ Ready (f .reader) (now line) (now image) (now next) (now list) (now out) ⌝ }
+    requires { ⌜ Ready (f .progress) (now line) (now image) (now next) (now list) (now out) ⌝ }
     requires { ⌜ f .at < length (now part) ⌝ }
-    ensures { λ q. ⌜ (Ready (q .reader) (now (line .exit)) (now (image .exit)) (now (next .exit)) (now (list .exit)) (now (out .exit))) × (f .at < q .at) ⌝ }
+    ensures { λ q. ⌜ (Ready (q .progress) (now (line .exit)) (now (image .exit)) (now (next .exit)) (now (list .exit)) (now (out .exit))) × (f .at < q .at) ⌝ }
 {
     let at = f.at;
     let column = f.column;
@@ -126,9 +126,9 @@ fn take_some(
         let after = at + 1;
         let byte = part[at];
         let mark = mark_of(f, byte);
-        let reader = take_front(f, byte, line, image, next, list, out);
+        let progress = take_front(f, byte, line, image, next, list, out);
         return Frame {
-            reader,
+            progress,
             column: column + 1,
             mark,
             at: after,
@@ -136,12 +136,12 @@ fn take_some(
         };
     }
     let mark = f.mark;
-    let end = text::line_end(part, at);
+    let end = parsing::line_end(part, at);
     let after = end + 1;
     if end == part.len() {
-        let reader = take_text(f, &part[at..end], line, image, next, list, out);
+        let progress = take_text(f, &part[at..end], line, image, next, list, out);
         return Frame {
-            reader,
+            progress,
             column,
             mark,
             at: after,
@@ -149,9 +149,9 @@ fn take_some(
         };
     }
     let last = text_end(mark, end, part.len());
-    let reader = take_text(f, &part[at..last], line, image, next, list, out);
+    let progress = take_text(f, &part[at..last], line, image, next, list, out);
     Frame {
-        reader,
+        progress,
         column: 0,
         mark,
         at: after,
@@ -169,8 +169,8 @@ fn take_part(
     list: &mut [u16],
     out: &mut [u8],
 ) -> Frame
-    requires { ⌜ Ready (first .reader) (now line) (now image) (now next) (now list) (now out) ⌝ }
-    ensures { λ q. ⌜ Ready (q .reader) (now (line .exit)) (now (image .exit)) (now (next .exit)) (now (list .exit)) (now (out .exit)) ⌝ }
+    requires { ⌜ Ready (first .progress) (now line) (now image) (now next) (now list) (now out) ⌝ }
+    ensures { λ q. ⌜ Ready (q .progress) (now (line .exit)) (now (image .exit)) (now (next .exit)) (now (list .exit)) (now (out .exit)) ⌝ }
 {
     let mut f = first;
     while f.at < part.len() {
@@ -188,15 +188,15 @@ fn read_some(
     list: &mut [u16],
     out: &mut [u8],
 ) -> Frame
-    requires { ⌜ Ready (f .reader) (now line) (now image) (now next) (now list) (now out) ⌝ }
-    ensures { λ q. ⌜ Ready (q .reader) (now (line .exit)) (now (image .exit)) (now (next .exit)) (now (list .exit)) (now (out .exit)) ⌝ }
+    requires { ⌜ Ready (f .progress) (now line) (now image) (now next) (now list) (now out) ⌝ }
+    ensures { λ q. ⌜ Ready (q .progress) (now (line .exit)) (now (image .exit)) (now (next .exit)) (now (list .exit)) (now (out .exit)) ⌝ }
 {
     let mut part = io::large_buffer();
     let got = libc::read(STDIN_FILENO, &mut part);
     let n = io::count(got, &part);
-    let reader = f.reader;
+    let progress = f.progress;
     let start = Frame {
-        reader,
+        progress,
         column: f.column,
         mark: f.mark,
         at: 0,
@@ -214,7 +214,7 @@ fn replay_all(
     list: &mut [u16],
     out: &mut [u8],
 )
-    requires { ⌜ Ready (first .reader) (now line) (now image) (now next) (now list) (now out) ⌝ }
+    requires { ⌜ Ready (first .progress) (now line) (now image) (now next) (now list) (now out) ⌝ }
 {
     let mut f = first;
     let mut turns = u64::MAX;
@@ -222,8 +222,8 @@ fn replay_all(
         f = read_some(f, line, image, next, list, out);
         turns -= 1;
     }
-    let reader = f.reader;
-    reader::finish(reader, line, image, next, list, out);
+    let progress = f.progress;
+    stream::finish(progress, line, image, next, list, out);
 }
 
 fn main() {
@@ -232,9 +232,9 @@ fn main() {
     let mut next = [0u16; 9253];
     let mut list = [0u16; 1024];
     let mut out = [0u8; 512];
-    let reader = idle();
+    let progress = idle();
     let first = Frame {
-        reader,
+        progress,
         column: 0,
         mark: 0,
         at: 0,

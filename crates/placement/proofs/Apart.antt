@@ -17,7 +17,7 @@ use Rattle.lists.proofs.Below.{all-at, some-never, some-false, concat-ext}
 use Rattle.lists.proofs.Distinct.{distinct-cut}
 use Rattle.lists.proofs.Shorter.{map-take}
 use Rattle.lists.proofs.Tests.{and-left, and-right, or-second, ordered, less, more}
-use Rattle.rules.specs.Places.{cellOf}
+use Rattle.rules.specs.Grid.{cellOf}
 use Rattle.rules.specs.Placement.{startPlace, tracing, even, unblocked, trail, traced, placed}
 use Rattle.rules.specs.Setting.{sideOf, someShort}
 use Rattle.rules.specs.SettingParts.{Limited, placeCheck, cellsOf}
@@ -103,19 +103,19 @@ grid-is : (g : ℤ) → 3 ≤ sideOf g → g ≡ pos (sideOf g)
 grid-is (pos g) h = refl
 grid-is (negsuc g) h = absurd (not-suc-le-zero h)
 
-module _ (s : Setting) (l : Limited s) (g : ℕ) (e : g ≡ sideOf (s .grid)) where
+module _ (s : Setting) (l : Limited s) (g : ℕ) (e : g ≡ sideOf (s .«grid_size»)) where
   pub apart-side : g ≤ 32
-  apart-side = rw e (side-small (s .grid) (l .grid-max))
+  apart-side = rw e (side-small (s .«grid_size») (l .grid-max))
 
-  module _ (r : ℕ) (q : r ≡ spanOf g (s .snakes)) where
-    pub apart-total : s .size ≤ r → s .snakes * s .size ≤ 1024
+  module _ (r : ℕ) (q : r ≡ spanOf g (s .«num_snakes»)) where
+    pub apart-total : s .«initial_length» ≤ r → s .«num_snakes» * s .«initial_length» ≤ 1024
     apart-total t =
-        let k : s .size ≤ 128 = omega (arith, apart-side, q, div-le-self (2 * g) (s .snakes + 1)) in
+        let k : s .«initial_length» ≤ 128 = omega (arith, apart-side, q, div-le-self (2 * g) (s .«num_snakes» + 1)) in
         mul-le-mul (l .snakes-max) k
 
-    pub apart-check : s .size < r → (12 if ltb (g * g - s .snakes * s .size) (s .food) else 0) ≡ placeCheck (s .grid) (s .snakes) (s .size) (s .food)
+    pub apart-check : s .«initial_length» < r → (12 if ltb (g * g - s .«num_snakes» * s .«initial_length») (s .«initial_food_count») else 0) ≡ placeCheck (s .«grid_size») (s .«num_snakes») (s .«initial_length») (s .«initial_food_count»)
     apart-check t =
-        let below : s .size < spanOf g (s .snakes) = rw q at t in
-        let low = span-side g (s .snakes) (s .size) (l .snakes-min) (l .size-min) below in
-        sym (short-check g (s .snakes) (s .size) low apart-side (l .snakes-min) (l .snakes-max) (l .size-min) below (s .food))
-        ∙ ap (λ (z : ℤ). placeCheck z (s .snakes) (s .size) (s .food)) (ap pos e ∙ sym (grid-is (s .grid) (rw e at low)))
+        let below : s .«initial_length» < spanOf g (s .«num_snakes») = rw q at t in
+        let low = span-side g (s .«num_snakes») (s .«initial_length») (l .snakes-min) (l .size-min) below in
+        sym (short-check g (s .«num_snakes») (s .«initial_length») low apart-side (l .snakes-min) (l .snakes-max) (l .size-min) below (s .«initial_food_count»))
+        ∙ ap (λ (z : ℤ). placeCheck z (s .«num_snakes») (s .«initial_length») (s .«initial_food_count»)) (ap pos e ∙ sym (grid-is (s .«grid_size») (rw e at low)))

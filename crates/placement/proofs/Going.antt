@@ -9,13 +9,13 @@ use lib.IntN.{ℤ, pos, negsuc, natAbs}
 use lib.Signed.{mag}
 use lib.ListN.{length, drop, set, length-set, length-map}
 use lib.Seq.{paste, paste-zero}
-use Rattle.rules.specs.Places.{inside, cellOf}
+use Rattle.rules.specs.Grid.{inside, cellOf}
 use Rattle.rules.specs.Placement.{tracing, traced}
 use Rattle.rules.specs.declared.Place.{Place}
-use Rattle.rules.proofs.Places.{row-below, col-below}
+use Rattle.rules.proofs.Grid.{row-below, col-below}
 use Rattle.rules.proofs.Placement.{traced-reach}
 use Rattle.rules.proofs.PlaceCheck.{four-turns}
-use Rattle.places.specs.Near.{Near}
+use Rattle.grid.specs.Near.{Near}
 use Rattle.placement.specs.Traces.{Walked, Laid}
 use Rattle.placement.proofs.Walks.{coming, coming-all, place-in, place-is, full, stuck, goes-on, cell-written, all-written}
 

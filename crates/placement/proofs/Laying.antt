@@ -12,7 +12,7 @@ use Rattle.lists.specs.Below.{someBelow, concatBelow}
 use Rattle.lists.specs.Lists.{writeAt}
 use Rattle.lists.proofs.Below.{some-none, some-next, some-found, concat-long, sum-le}
 use Rattle.lists.proofs.Writes.{turn-start, turn-start-at, turn-next, turn-next-at, length-write}
-use Rattle.rules.specs.Places.{cellOf}
+use Rattle.rules.specs.Grid.{cellOf}
 use Rattle.rules.specs.Placement.{startPlace, tracing, even, traced, placed}
 use Rattle.rules.specs.SettingParts.{cellsOf}
 use Rattle.rules.specs.declared.Place.{Place}

@@ -10,7 +10,7 @@ use lib.ListN.{length, getD, drop, set, drop-of-length-le, length-drop, length-m
 use lib.Seq.{drop-cons, paste}
 use Rattle.lists.specs.Lists.{writeAt}
 use Rattle.lists.proofs.Writes.{paste-more, paste-all}
-use Rattle.rules.specs.Places.{ahead, inside}
+use Rattle.rules.specs.Grid.{ahead, inside}
 use Rattle.rules.specs.Placement.{tracing, unblocked, trail, traced}
 use Rattle.rules.specs.declared.Heading.{Heading}
 use Rattle.rules.specs.declared.Heading.the-variants.{Up}

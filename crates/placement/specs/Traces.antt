@@ -7,7 +7,7 @@ use lib.IntN.{ℤ, pos}
 use lib.ListN.{length, getD, drop}
 use Rattle.lists.specs.Below.{concatBelow}
 use Rattle.lists.specs.Lists.{writeAt}
-use Rattle.rules.specs.Places.{ahead, inside}
+use Rattle.rules.specs.Grid.{ahead, inside}
 use Rattle.rules.specs.Placement.{unblocked}
 use Rattle.rules.specs.SettingParts.{cellsOf}
 use Rattle.rules.specs.Setting.{someShort}

@@ -7,10 +7,10 @@ ghost use mathlib.Core.List.{map};
 ghost use Prim.Native.Nat.{_+_, _<_, _≤_};
 ghost use lib.IntN.{pos};
 ghost use lib.ListN.{length, getD};
-ghost use Rattle.rules.specs.Places.{inside, cellOf};
+ghost use Rattle.rules.specs.Grid.{inside, cellOf};
 ghost use Rattle.rules.specs.Placement.{startPlace, tracing, rowOf, colOf, traced};
 ghost use Rattle.rules.specs.declared.Heading.the-variants.{Up};
-ghost use Rattle.places.specs.Near.{Near};
+ghost use Rattle.grid.specs.Near.{Near};
 ghost use Rattle.placement.specs.Traces.{Walked, Laid, Start, Traceable, Placed};
 
 // A trace on its way: its last place, and which of its four directions it follows.
@@ -46,8 +46,8 @@ fn start_place(g: u16, n: u16, i: u16) -> Place
     let row = start_row(g, n, i);
     let col = start_col(g, i);
     Place {
-        row: places::signed(row),
-        col: places::signed(col),
+        row: grid::signed(row),
+        col: grid::signed(col),
     }
 }
 
@@ -81,8 +81,8 @@ fn walk_on(g: u16, even: bool, from: Walk) -> Walk
     let place = from.place;
     let mut turn = from.turn;
     while turn < 4 {
-        let next = places::ahead(direction(even, turn), place);
-        if places::on_grid(g, next) {
+        let next = grid::ahead(direction(even, turn), place);
+        if grid::on_grid(g, next) {
             return Walk { place: next, turn };
         }
         turn += 1;
@@ -103,7 +103,7 @@ fn trace_body(cells: &mut [u16], at: usize, g: u16, start: Place, even: bool, si
     let mut k = 0;
     loop {
         let place = walk.place;
-        cells[at + k] = places::cell_of(g, place);
+        cells[at + k] = grid::cell_of(g, place);
         k += 1;
         if k == size {
             return k;

@@ -16,7 +16,7 @@ use rules::Number;
 fn put_result(text: &mut [u8], at: usize, number: Number) -> usize {
     match number {
         Number::Value(v) => answer_number(text, at, v),
-        Number::Refused(no) => refuse(text, at, no, true),
+        Number::Refused(r) => refuse(text, at, r.number, true),
     }
 }
 
@@ -63,7 +63,7 @@ fn draw(
     let answer = drawn.answer;
     match answer {
         Answer::Done(n) => put_draw(text, at, out, n, list, drawn.cells),
-        Answer::Refused(no) => refuse(text, at, no, kept(out, 0) & kept(list, 0)),
+        Answer::Refused(r) => refuse(text, at, r.number, kept(out, 0) & kept(list, 0)),
     }
 }
 

@@ -1,8 +1,8 @@
 // The parts of calls, read from a line's fields: numbers, words and events.
 use events::cause_in;
+use parsing::Num;
+use parsing::next_number;
 use rules::Event;
-use text::Num;
-use text::next_number;
 
 // Where a part is none, as the words of a call that has none.
 pub const NOWHERE: usize = 18446744073709551615;
@@ -98,13 +98,13 @@ pub fn event_in(e: &[u64]) -> Told {
         return Told::NoEvent;
     }
     Told::Tells(Event {
-        ate: a == 1,
+        ate_food: a == 1,
         died: d == 1,
-        cause: cause_in(cause as u16),
-        killed: k == 1,
+        death_cause: cause_in(cause as u16),
+        killed_opponent: k == 1,
         won: w == 1,
         lost: l == 1,
         drew: x == 1,
-        survived: y == 1,
+        survived_to_max_ticks: y == 1,
     })
 }

@@ -4,6 +4,7 @@ use crate::writing::put;
 use crate::writing::put_number;
 use crate::writing::put_words;
 use crate::writing::refuse;
+use layout::start_at;
 use lists::word_at;
 
 // `x W`
@@ -25,7 +26,7 @@ fn start_of(words: &[u16], snake: u64) -> u64 {
     if 7 < snake {
         return 0;
     }
-    word_at(words, 5 + 4 * snake as usize)
+    word_at(words, start_at(snake as usize))
 }
 
 // `b SNAKE W`

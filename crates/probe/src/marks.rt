@@ -6,16 +6,16 @@ use rules::Event;
 
 // E, an event's eight numbers.
 pub fn put_event(text: &mut [u8], at: usize, e: Event) -> usize {
-    let cause = e.cause;
+    let cause = e.death_cause;
     let told = [
-        flag(e.ate),
+        flag(e.ate_food),
         flag(e.died),
         cause_number(cause),
-        flag(e.killed),
+        flag(e.killed_opponent),
         flag(e.won),
         flag(e.lost),
         flag(e.drew),
-        flag(e.survived),
+        flag(e.survived_to_max_ticks),
     ];
     put_each(text, at, &told)
 }

@@ -49,6 +49,6 @@ pub fn reward_line(values: &[u64], text: &mut [u8], at: usize) -> usize {
     };
     match arena::reward(weights_in(values), event) {
         Reward::Sum(x) => answer_number(text, at, bits_of(x)),
-        Reward::Refused(no) => refuse(text, at, no, true),
+        Reward::Refused(r) => refuse(text, at, r.number, true),
     }
 }

@@ -4,12 +4,12 @@ use crate::writing::letter_line;
 use crate::writing::put;
 use crate::writing::put_number;
 use crate::writing::refuse;
+use grid::action_of;
 use image::heading_of;
 use image::number_of;
-use places::action_of;
+use parsing::Grid;
+use parsing::grid_in;
 use rules::Space;
-use text::Grid;
-use text::grid_in;
 
 fn put_space(text: &mut [u8], at: usize, space: Space) -> usize {
     match space {
@@ -27,7 +27,7 @@ fn put_space(text: &mut [u8], at: usize, space: Space) -> usize {
             put(text, d, b'\n')
         }
         Space::Discrete(n) => answer_number(text, at, n as u64),
-        Space::Refused(no) => refuse(text, at, no, true),
+        Space::Refused(r) => refuse(text, at, r.number, true),
     }
 }
 

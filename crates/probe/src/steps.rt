@@ -13,13 +13,13 @@ use crate::writing::put_number;
 use crate::writing::put_words;
 use crate::writing::refuse;
 use image::flag;
+use parsing::First;
+use parsing::read_first;
+use parsing::start_of;
 use rules::Answer;
 use rules::Setting;
 use rules::Stepped;
 use rules::Verdict;
-use text::First;
-use text::read_first;
-use text::start_of;
 
 // `v S`
 pub fn validate_line(s: &[u8], text: &mut [u8], at: usize) -> usize {
@@ -28,7 +28,7 @@ pub fn validate_line(s: &[u8], text: &mut [u8], at: usize) -> usize {
     };
     match arena::validate(setting) {
         Verdict::Accepted => letter_line(text, at, b'a'),
-        Verdict::Refused(no) => refuse(text, at, no, true),
+        Verdict::Refused(r) => refuse(text, at, r.number, true),
     }
 }
 
@@ -54,7 +54,7 @@ fn initial_line(setting: Setting, values: &[u64], text: &mut [u8], at: usize) ->
             let i = put(text, at, b'a');
             put_lent(text, i, out, n)
         }
-        Answer::Refused(no) => refuse(text, at, no, kept(out, 0)),
+        Answer::Refused(r) => refuse(text, at, r.number, kept(out, 0)),
     }
 }
 
@@ -78,7 +78,7 @@ fn step(
     let answer = stepped.answer;
     match answer {
         Answer::Done(n) => put_step(text, at, stepped, out, n),
-        Answer::Refused(no) => refuse(text, at, no, kept(out, 0)),
+        Answer::Refused(r) => refuse(text, at, r.number, kept(out, 0)),
     }
 }
 

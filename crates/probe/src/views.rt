@@ -53,7 +53,7 @@ fn put_planes(text: &mut [u8], at: usize, planes: &[f32], n: usize) -> usize {
 fn observe(words: &[u16], agent: u64, planes: &mut [f32], text: &mut [u8], at: usize) -> usize {
     match arena::observe(words, agent, planes) {
         Answer::Done(n) => put_planes(text, at, planes, n),
-        Answer::Refused(no) => refuse(text, at, no, planes_kept(planes, 0)),
+        Answer::Refused(r) => refuse(text, at, r.number, planes_kept(planes, 0)),
     }
 }
 
@@ -72,7 +72,7 @@ pub fn actor_line(words: &[u16], text: &mut [u8], at: usize) -> usize {
     match arena::actor(words) {
         Actor::Chance => answer_number(text, at, 1),
         Actor::Simultaneous => answer_number(text, at, 0),
-        Actor::Refused(no) => refuse(text, at, no, true),
+        Actor::Refused(r) => refuse(text, at, r.number, true),
     }
 }
 
@@ -86,7 +86,7 @@ pub fn legal_line(agent: u64, words: &[u16], text: &mut [u8], at: usize) -> usiz
             put(text, j, b'\n')
         }
         Legal::NoAction => answer_number(text, at, 0),
-        Legal::Refused(no) => refuse(text, at, no, true),
+        Legal::Refused(r) => refuse(text, at, r.number, true),
     }
 }
 
@@ -100,7 +100,7 @@ pub fn length_cell_line(words: &[u16], text: &mut [u8], at: usize) -> usize {
             put(text, k, b'\n')
         }
         LengthCell::NoKey => answer_number(text, at, 0),
-        LengthCell::Refused(no) => refuse(text, at, no, true),
+        LengthCell::Refused(r) => refuse(text, at, r.number, true),
     }
 }
 
@@ -118,6 +118,6 @@ pub fn truncation_line(values: &[u64], words: &[u16], text: &mut [u8], at: usize
             let j = put_event(text, i, marked);
             put(text, j, b'\n')
         }
-        Truncated::Refused(no) => refuse(text, at, no, true),
+        Truncated::Refused(r) => refuse(text, at, r.number, true),
     }
 }

@@ -1,7 +1,7 @@
 // Answers as text, put one after the other into a lent buffer. Each call answers the index after what it put.
 // An answer has at most 60,000 bytes and the buffer is written out at 32,768, so that its room never ends.
-use letters::put_item;
 use libc::STDOUT_FILENO;
+use printing::put_item;
 
 pub fn put(text: &mut [u8], at: usize, b: u8) -> usize {
     if text.len() <= at {

@@ -13,13 +13,15 @@ use Rattle.lists.proofs.Insert.{over-take}
 use Rattle.lists.proofs.Writes.{write-front}
 use Rattle.rules.specs.State.{State, count}
 use Rattle.rules.specs.Image.{imageOf, snakesIn}
+use Rattle.rules.specs.Tables.{by}
 use Rattle.rules.specs.Says.{Says, refuses, gives, seen, lent}
 use Rattle.rules.specs.Step.{Transition}
 use Rattle.rules.specs.Events.{blank, eight}
 use Rattle.rules.specs.declared.Event.{Event}
+use Rattle.rules.specs.declared.Refusal.{Refusal}
 use Rattle.rules.proofs.Image.{snakes-is}
-use Rattle.text.specs.Lines.{readLater}
-use Rattle.letters.specs.Text.{lineText, refusalText}
+use Rattle.parsing.specs.Lines.{readLater}
+use Rattle.printing.specs.Text.{lineText, refusalText}
 use Rattle.standing.specs.Shown.{lineShown, markShown}
 use Rattle.referee.specs.Match.{Turn, marked, movedTurn, eventsShown, asked, beginSays, turnSays, lineSays, closeText, Stops, Shows, Plays}
 use Rattle.standing.specs.Standing.{snakesOf, endsBy, moved, endText}
@@ -50,8 +52,8 @@ module _ {A : Type 0} (g : A → State) (old new : List ℕ) (n : ℕ) where
       done a refl p w f l
 
 -- a refusal of the call is a refusal of the line
-pub stopped : {A : Type 0} (f : A → Turn) (x : Says A) (m : Match) (old new out exit : List ℕ) (r : Turned) (k : ℕ)
-    → x ≡ refuses k → new ≡ lent (λ a. imageOf (f a .next)) old x → Stops m k out exit r → Plays (seen f x) m old new out exit r
+pub stopped : {A : Type 0} (f : A → Turn) (x : Says A) (m : Match) (old new out exit : List ℕ) (r : Turned) (k : Refusal)
+    → x ≡ refuses k → new ≡ lent (λ a. imageOf (f a .next)) old x → Stops m (k .number) out exit r → Plays (seen f x) m old new out exit r
 stopped f (refuses j) m old new out exit r k e w s =
     let p : j ≡ k = cc in
     record { more = s .more; game = s .game; words = s .words; image = w; long = ap length w; text = rw p (s .text) }
@@ -89,18 +91,18 @@ shown-move m o old new out exit r w i n b over es p q s =
     shown (movedTurn m o) m old new out exit r 109 t w (eventsShown m t w v) i (ap (lineText 109 t (o .next)) g) n b a
 
 -- a line that is refused before any call
-pub refused-line : (m : Match) (k : ℕ) (old out exit : List ℕ) (r : Turned) → Stops m k out exit r → Plays (refuses k) m old old out exit r
+pub refused-line : (m : Match) (k : Refusal) (old out exit : List ℕ) (r : Turned) → Stops m (k .number) out exit r → Plays (refuses k) m old old out exit r
 refused-line m k old out exit r s = record { more = s .more; game = s .game; words = s .words; image = refl; long = refl; text = s .text }
 
 -- '33 comes before 32'
 module _ (m : Match) (w line : List ℕ) (room cells : ℕ) where
-  pub turn-over : m .over ≡ true → turnSays m w line room cells ≡ refuses 33
+  pub turn-over : m .over ≡ true → turnSays m w line room cells ≡ refuses (by 33)
   unfolding turnSays
-  turn-over e = ap (λ (b : Bool). refuses 33 if b else asked m w room cells (readLater (snakesOf m) line)) e
+  turn-over e = ap (λ (b : Bool). refuses (by 33) if b else asked m w room cells (readLater (snakesOf m) line)) e
 
   pub turn-on : m .over ≡ false → turnSays m w line room cells ≡ asked m w room cells (readLater (snakesOf m) line)
   unfolding turnSays
-  turn-on e = ap (λ (b : Bool). refuses 33 if b else asked m w room cells (readLater (snakesOf m) line)) e
+  turn-on e = ap (λ (b : Bool). refuses (by 33) if b else asked m w room cells (readLater (snakesOf m) line)) e
 
 -- ---- the image of a desk takes the place of the one before it
 

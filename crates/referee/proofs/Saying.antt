@@ -17,6 +17,7 @@ use Rattle.rules.specs.Chance.{drawn, afterDraw}
 use Rattle.rules.specs.Says.{Says, refuses, gives, seen}
 use Rattle.rules.specs.Calls.{initialSays, stepSays, Draw, drawSays}
 use Rattle.rules.specs.Orders.{initialOrder, stepOrder, drawOrder}
+use Rattle.rules.specs.declared.Refusal.{Refusal}
 use Rattle.rules.specs.declared.Setting.{Setting}
 use Rattle.rules.proofs.Facts.{sound}
 use Rattle.rules.proofs.Tables.{given-out, given-is}
@@ -25,8 +26,8 @@ use Rattle.rules.proofs.Parts.{state-count}
 -- ---- an answer seen through f
 
 module _ {A : Type 0} where
-  pub refused-by : (x : Says A) (f : A → ℕ) (k : ℕ) → refuses k ≡ seen f x → x ≡ refuses k
-  refused-by (refuses j) f k e = let p : j ≡ k = cc in ap (λ (i : ℕ). refuses i) p
+  pub refused-by : (x : Says A) (f : A → ℕ) (k : Refusal) → refuses k ≡ seen f x → x ≡ refuses k
+  refused-by (refuses j) f k e = let p : j ≡ k = cc in ap refuses p
   refused-by (gives a) f k e = let z : _≡_ {A = ℕ} 0 1 = cc in absurd (omega arith)
 
 -- ---- the next state of a call that is not refused
@@ -39,8 +40,8 @@ pub initial-fits : (s : Setting) (room : ℕ) (t : State) → initialSays s room
 unfolding initialSays initialState
 initial-fits s room t e =
     let out = given-out (initialOrder s room) (initialState s) t e in
-    let f = ltb-false 8 (s .snakes) (or-false-right (ltb (s .snakes) 2) (ltb 8 (s .snakes)) (out 0)) in
-    let l = each-long (s .snakes) (startSnake s) in
+    let f = ltb-false 8 (s .«num_snakes») (or-false-right (ltb (s .«num_snakes») 2) (ltb 8 (s .«num_snakes»)) (out 0)) in
+    let l = each-long (s .«num_snakes») (startSnake s) in
     rw (← given-is (initialOrder s room) (initialState s) t e) (record { few = omega (arith, f, l); short = ltb-false room (length (imageOf (initialState s))) (out 12) })
 
 -- a step keeps the snakes

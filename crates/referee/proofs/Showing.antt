@@ -16,7 +16,7 @@ use Rattle.rules.specs.Events.{blank}
 use Rattle.rules.specs.Turns.{truncated}
 use Rattle.rules.specs.declared.Event.{Event}
 use Rattle.rules.proofs.Image.{alive-is, length-is, body-is, bit-back}
-use Rattle.letters.specs.Text.{firstText, bodyText, snakeText, headText, lineText}
+use Rattle.printing.specs.Text.{firstText, bodyText, snakeText, headText, lineText}
 use Rattle.standing.specs.Shown.{snakeShown, snakeShownBy, lineShown, markShown}
 use Rattle.referee.specs.Match.{markedAt, marked}
 

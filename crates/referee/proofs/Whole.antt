@@ -10,16 +10,16 @@ use Rattle.lists.proofs.Insert.{over-take}
 use Rattle.lists.proofs.Writes.{write-front}
 use Rattle.rules.specs.Image.{imageOf}
 use Rattle.rules.specs.Says.{Says, refuses, gives}
-use Rattle.text.specs.Fields.{upTo}
-use Rattle.text.specs.Lines.{readFirst, readLater}
-use Rattle.text.specs.Split.{linesOf}
-use Rattle.letters.specs.Text.{Wrote}
+use Rattle.parsing.specs.Fields.{upTo}
+use Rattle.parsing.specs.Lines.{readFirst, readLater}
+use Rattle.parsing.specs.Split.{linesOf}
+use Rattle.printing.specs.Text.{Wrote}
 use Rattle.referee.specs.Match.{Turn, openedBy, beginSays, turnSays, said, lineSays, closeText, Plays, onward, playOn, played, replayOf}
 use Rattle.standing.specs.Standing.{snakesOf}
 use Rattle.referee.specs.Run.{Took, Closed, deskAfter, Run, holds, goes, stops, ends, goes-last, stops-last}
 use Rattle.referee.specs.declared.Desk.{Desk}
 use Rattle.referee.specs.declared.Turned.{Turned}
-use Rattle.text.proofs.Feeding.{held-first, held-later, ends-by, line-first, line-last, line-none}
+use Rattle.parsing.proofs.Feeding.{held-first, held-later, ends-by, line-first, line-last, line-none}
 use Rattle.referee.proofs.Playing.{close-begun, close-new, line-begun, line-new}
 
 -- ---- the replay from a desk on, line by line

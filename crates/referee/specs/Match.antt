@@ -11,20 +11,21 @@ use Rattle.rules.specs.Image.{imageOf, snakesIn}
 use Rattle.rules.specs.Step.{Transition}
 use Rattle.rules.specs.Events.{blank, eight}
 use Rattle.rules.specs.Turns.{truncated}
+use Rattle.rules.specs.Tables.{by}
 use Rattle.rules.specs.Says.{Says, refuses, gives, seen, beside, lent}
 use Rattle.rules.specs.Calls.{initialSays, stepSays, Draw, drawSays}
 use Rattle.rules.specs.declared.Setting.{Setting}
 use Rattle.rules.specs.declared.Event.{Event}
-use Rattle.text.specs.Lines.{readFirst, readLater}
-use Rattle.text.specs.Split.{linesOf}
+use Rattle.parsing.specs.Lines.{readFirst, readLater}
+use Rattle.parsing.specs.Split.{linesOf}
 use Rattle.standing.specs.Shown.{lineShown, markShown}
 use Rattle.standing.specs.Standing.{snakesOf, endsBy, moved, endText}
-use Rattle.letters.specs.Text.{lineText, refusalText, Wrote}
-use Rattle.text.specs.declared.First.{First}
-use Rattle.text.specs.declared.First.the-variants.{NoFirst, Opens}
-use Rattle.text.specs.declared.Line.{Line}
-use Rattle.text.specs.declared.Line.the-variants.{NoLine, DrawLine, MoveLine}
-use Rattle.text.specs.declared.Entry.{Entry}
+use Rattle.printing.specs.Text.{lineText, refusalText, Wrote}
+use Rattle.parsing.specs.declared.First.{First}
+use Rattle.parsing.specs.declared.First.the-variants.{NoFirst, Opens}
+use Rattle.parsing.specs.declared.Line.{Line}
+use Rattle.parsing.specs.declared.Line.the-variants.{NoLine, DrawLine, MoveLine}
+use Rattle.parsing.specs.declared.Entry.{Entry}
 use Rattle.standing.specs.declared.Match.{Match}
 use Rattle.referee.specs.declared.Desk.{Desk}
 use Rattle.referee.specs.declared.Turned.{Turned}
@@ -50,7 +51,7 @@ opened s t = record {
 
 -- '32 before the call's own'; room is the length of the lent buffer
 abbrev pub openedBy : First → ℕ → Says Turn
-openedBy NoFirst room = refuses 32
+openedBy NoFirst room = refuses (by 32)
 openedBy (Opens s) room = seen (opened s) (initialSays s room)
 
 unfoldable pub beginSays : List ℕ → ℕ → Says Turn
@@ -87,7 +88,7 @@ eventsShown m over w es = filled (markShown w es) (snakesIn w) 8 blank if endsBy
 -- ---- a line after the first: '33 comes before 32, 32 before the call's own'
 
 abbrev pub askedBy : Match → List ℕ → ℕ → ℕ → Line → List ℕ → Says Turn
-askedBy m w room cells NoLine acts = refuses 32
+askedBy m w room cells NoLine acts = refuses (by 32)
 askedBy m w room cells (DrawLine i) acts = seen (drawnTurn m) (drawSays w i room cells)
 askedBy m w room cells MoveLine acts = seen (movedTurn m) (stepSays (m .setting) w (take (snakesOf m) acts) room)
 
@@ -96,11 +97,11 @@ asked m w room cells e = askedBy m w room cells (e .line) (e .acts)
 
 -- w is the image; room and cells are the lengths of the lent buffers of the next image and of the cells drawn
 unfoldable pub turnSays : Match → List ℕ → List ℕ → ℕ → ℕ → Says Turn
-turnSays m w line room cells = refuses 33 if m .over else asked m w room cells (readLater (snakesOf m) line)
+turnSays m w line room cells = refuses (by 33) if m .over else asked m w room cells (readLater (snakesOf m) line)
 
 -- what a line prints: a refusal its number
 abbrev pub said : Says Turn → List ℕ
-said (refuses k) = refusalText k
+said (refuses k) = refusalText (k .number)
 said (gives t) = t .text
 
 -- the promise of a call that takes a line of match m: its answer, the next image in the lent words, the text in the lent bytes
@@ -114,7 +115,7 @@ pub record Plays (turn : Says Turn) (m : Match) (old new out exit : List ℕ) (r
 
 -- its number, where it is a refusal
 abbrev pub refusalIn : {A : Type 0} → Says A → ℕ
-refusalIn (refuses k) = k
+refusalIn (refuses k) = k .number
 refusalIn (gives a) = 0
 
 -- the two ways in which a call ends: a refusal printed, or the line of an image w
@@ -144,7 +145,7 @@ closeText d = endText (d .game) if d .begun else refusalText 32
 
 -- what a line prints, and what is printed after it: 'A refusal prints `r` and its number and stops'
 abbrev pub onward : Says Turn → (Turn → List ℕ) → List ℕ
-onward (refuses k) after = refusalText k
+onward (refuses k) after = refusalText (k .number)
 onward (gives t) after = t .text ++ after t
 
 -- 'At the end of input, `p`'

@@ -4,9 +4,9 @@ use mathlib.Core.Path.{_≡_}
 use mathlib.Core.Bool.{true, false}
 use mathlib.Core.List.{List, [], _∷_, _++_}
 use lib.ListN.{length, take}
-use Rattle.text.specs.Fields.{upTo}
-use Rattle.text.specs.Split.{Holds}
-use Rattle.letters.specs.Text.{Wrote}
+use Rattle.parsing.specs.Fields.{upTo}
+use Rattle.parsing.specs.Split.{Holds}
+use Rattle.printing.specs.Text.{Wrote}
 use Rattle.referee.specs.Match.{lineSays, closeText, Plays}
 use Rattle.referee.specs.declared.Desk.{Desk}
 use Rattle.referee.specs.declared.Turned.{Turned}

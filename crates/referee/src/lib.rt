@@ -1,4 +1,4 @@
-// The replay's library: the match played line by line, its places. The types that its modules share.
+// The replay's library: the match played line by line, its placings. The types that its modules share.
 mod play;
 mod turns;
 

@@ -3,7 +3,7 @@ use crate::Desk;
 use crate::Turned;
 use crate::turns::begin;
 use crate::turns::turn;
-use letters::put_refusal;
+use printing::put_refusal;
 use rules::Limit;
 use rules::Setting;
 use standing::Match;
@@ -12,7 +12,7 @@ ghost use mathlib.Core.Path.{_≡_};
 ghost use mathlib.Core.Bool.{false};
 ghost use Prim.Native.Nat.{_≤_};
 ghost use lib.ListN.{length, take};
-ghost use Rattle.letters.specs.Text.{Wrote};
+ghost use Rattle.printing.specs.Text.{Wrote};
 ghost use Rattle.referee.specs.Match.{lineSays, closeText, Plays};
 
 // Before the first line.
@@ -20,13 +20,13 @@ pub fn new_desk() -> Desk
     ensures { λ r. ⌜ (r .begun ≡ false) × (r .words ≡ 0) ⌝ }
 {
     let setting = Setting {
-        snakes: 0,
-        grid: 0,
-        size: 0,
-        last: false,
-        lead: Limit::Unset,
-        food: 0,
-        ticks: Limit::Unset,
+        num_snakes: 0,
+        grid_size: 0,
+        initial_length: 0,
+        play_to_last: false,
+        win_food_lead: Limit::Unset,
+        initial_food_count: 0,
+        max_ticks: Limit::Unset,
     };
     let game = Match {
         setting,
@@ -81,7 +81,7 @@ pub fn take_line(
     t
 }
 
-// The end of the input: the places, or 32 where there was no line.
+// The end of the input: the placings, or 32 where there was no line.
 pub fn close(d: Desk, out: &mut [u8]) -> usize
     requires { ⌜ 462 ≤ length (now out) ⌝ }
     ensures { λ r. ⌜ Wrote (now (out .entry)) (now (out .exit)) 0 r (closeText d) 170 ⌝ }

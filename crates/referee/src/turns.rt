@@ -1,8 +1,13 @@
 // A line of the input, taken: the first one begins the match, the others make its turns. Each answer is taken apart, and a refusal stops.
 use crate::Turned;
 use events::no_events;
-use letters::put_refusal;
 use lists::word_at;
+use parsing::Entry;
+use parsing::First;
+use parsing::Line;
+use parsing::read_first;
+use parsing::read_later;
+use printing::put_refusal;
 use rules::Answer;
 use rules::Event;
 use rules::Setting;
@@ -12,11 +17,6 @@ use standing::ends_by;
 use standing::mark_all;
 use standing::put_line;
 use standing::snakes_of;
-use text::Entry;
-use text::First;
-use text::Line;
-use text::read_first;
-use text::read_later;
 ghost use mathlib.Core.Path.{_≡_};
 ghost use Prim.Native.Nat.{_≤_};
 ghost use lib.ListN.{length};
@@ -44,7 +44,7 @@ fn number_of(a: Answer) -> u64
 {
     match a {
         Answer::Done(_) => 0,
-        Answer::Refused(k) => k as u64,
+        Answer::Refused(r) => r.number as u64,
     }
 }
 

@@ -1,17 +1,17 @@
-// The replay: lines from standard input, of any number, to standard output. `reader` takes what is read here.
+// The replay: lines from standard input, of any number, to standard output. `stream` takes what is read here.
 use libc::STDIN_FILENO;
-use reader::Reader;
-ghost use Rattle.reader.specs.Room.{Ready};
+use stream::Progress;
+ghost use Rattle.stream.specs.Room.{Ready};
 
-// The reader, and whether more may come.
+// How far the replay is, and whether more may come.
 pub struct Reading {
-    pub reader: Reader,
+    pub progress: Progress,
     pub more: bool,
 }
 
 // One read.
 fn read_some(
-    r: Reader,
+    r: Progress,
     line: &mut [u8],
     image: &mut [u16],
     next: &mut [u16],
@@ -19,22 +19,22 @@ fn read_some(
     out: &mut [u8],
 ) -> Reading
     requires { ⌜ Ready r (now line) (now image) (now next) (now list) (now out) ⌝ }
-    ensures { λ q. ⌜ Ready (q .reader) (now (line .exit)) (now (image .exit)) (now (next .exit)) (now (list .exit)) (now (out .exit)) ⌝ }
+    ensures { λ q. ⌜ Ready (q .progress) (now (line .exit)) (now (image .exit)) (now (next .exit)) (now (list .exit)) (now (out .exit)) ⌝ }
 {
     let mut part = io::large_buffer();
     let got = libc::read(STDIN_FILENO, &mut part);
     let n = io::count(got, &part);
-    let reader = reader::take_all(r, &part[..n], line, image, next, list, out);
-    let heard = reader.heard;
+    let progress = stream::take_all(r, &part[..n], line, image, next, list, out);
+    let heard = progress.heard;
     Reading {
-        reader,
+        progress,
         more: 0 < n && heard,
     }
 }
 
 // A proved loop has to end, and nothing says that the input does: the loop counts its turns down, from a number that no run uses up.
 fn replay(
-    first: Reader,
+    first: Progress,
     line: &mut [u8],
     image: &mut [u16],
     next: &mut [u16],
@@ -48,11 +48,11 @@ fn replay(
     let mut turns = u64::MAX;
     while turns > 0 && r.on && more {
         let q = read_some(r, line, image, next, list, out);
-        r = q.reader;
+        r = q.progress;
         more = q.more;
         turns -= 1;
     }
-    reader::finish(r, line, image, next, list, out);
+    stream::finish(r, line, image, next, list, out);
 }
 
 fn main() {
@@ -61,6 +61,6 @@ fn main() {
     let mut next = [0u16; 9253];
     let mut list = [0u16; 1024];
     let mut out = [0u8; 512];
-    let first = reader::start();
+    let first = stream::start();
     replay(first, &mut line, &mut image, &mut next, &mut list, &mut out);
 }

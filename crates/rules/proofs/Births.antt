@@ -17,7 +17,7 @@ use Rattle.lists.proofs.Lowest.{lowest-is}
 use Rattle.rules.specs.State.{State, area}
 use Rattle.rules.specs.Chance.{taken, free, outcomes, drawn, withFood, afterDraw}
 use Rattle.rules.specs.Births.{afterDraws, chainDraws, Ends, InRange}
-use Rattle.rules.proofs.FreeCells.{free-ext, from-without}
+use Rattle.boards.proofs.Free.{free-ext, from-without}
 use Rattle.rules.proofs.Fairness.{born, born-full, birth-count}
 
 -- after a birth draw the free cells are those before it less the cell drawn

@@ -1,25 +1,27 @@
 -- Facts of the state after a draw, for its image to be well-formed again. Assumes nothing.
-use mathlib.Core.Path.{_≡_, refl}
+use mathlib.Core.Path.{_≡_, refl, ap, _∙_}
 use mathlib.Core.Logic.{_⊎_, ⊎-elim}
 use mathlib.Core.Bool.{Bool, true, false, not, _&&_}
-use mathlib.Core.List.{List}
-use Prim.Native.Nat.{ℕ, _-_, _≤_, _<_}
+use mathlib.Core.List.{List, _++_}
+use Prim.Native.Nat.{ℕ, _+_, _-_, _≤_, _<_}
 use native.Mathlib.Nat.{le-trans}
 use native.Mathlib.Omega.{arith}
 use lib.Dec.{eqb, ltb}
-use lib.ListN.{length}
+use lib.ListN.{length, length-append}
 use borrow.Author.Tests.{lt-ltb}
 use Rattle.lists.specs.Choice.{_if_else_}
+use Rattle.lists.specs.Below.{concatBelow}
 use Rattle.lists.specs.Lists.{all, member, ascending}
 use Rattle.lists.proofs.Members.{all-members}
 use Rattle.lists.proofs.Order.{ascending-short}
-use Rattle.rules.specs.State.{State, area}
-use Rattle.rules.specs.Image.{stateOf}
+use Rattle.rules.specs.State.{State, count, area}
+use Rattle.rules.specs.Image.{bodyOf, recordOf, imageOf, stateOf}
 use Rattle.rules.specs.Facts.{Sound}
 use Rattle.rules.specs.Chance.{free, drawSize, outcomes, drawn, withFood, afterDraw}
 use Rattle.rules.proofs.FreeCells.{free-below, free-off-food}
-use Rattle.rules.proofs.Sets.{listed-ascending, of-with}
+use Rattle.rules.proofs.Sets.{listed-ascending, of-with, with-long}
 use Rattle.rules.proofs.Fairness.{listed}
+use Rattle.rules.proofs.Words.{image-of}
 
 module _ (t : State) (i : ℕ) where
   pub after-food : afterDraw t i .food ≡ withFood (t .food) (drawn t i)
@@ -53,3 +55,21 @@ module _ (t : State) (i : ℕ) (f : ascending 0 (t .food) ≡ true) (h : i < out
 pub drawn-due : (w : List ℕ) → Sound w → (i : ℕ) → i < outcomes (stateOf w) → afterDraw (stateOf w) i .due ≤ 1024
 unfolding stateOf
 drawn-due w s i h = le-trans (after-due (stateOf w) i) (s .due-max)
+
+-- ---- how long the image after a draw is
+
+image-long : (t : State) → length (imageOf t) ≡ 5 + length (concatBelow (count t) (recordOf t)) + length (concatBelow (count t) (bodyOf t)) + length (t .food)
+unfolding imageOf
+image-long t =
+    let table = concatBelow (count t) (recordOf t) in
+    let bodies = concatBelow (count t) (bodyOf t) in
+    omega (arith, length-append table (bodies ++ t .food), length-append bodies (t .food))
+
+-- the records and the bodies stay
+draw-long : (t : State) (i : ℕ) → length (imageOf (afterDraw t i)) ≡ length (imageOf t) + length (drawn t i)
+unfolding afterDraw
+draw-long t i = omega (arith, image-long (afterDraw t i), image-long t, with-long (drawn t i) (t .food))
+
+-- the image's words and k more
+pub next-long : (w : List ℕ) → Sound w → (i : ℕ) → i < outcomes (stateOf w) → length (imageOf (afterDraw (stateOf w) i)) ≡ length w + drawSize (stateOf w)
+next-long w s i h = omega (arith, draw-long (stateOf w) i, ap length (image-of w s), listed (stateOf w) i h .long)

@@ -1,99 +1,134 @@
--- Demand 3 of the calls' answers: whatever meets the promises of count, draw and rank answers P, draws fairly and ranks back. Assumes nothing.
+-- Demand 3 of the calls' answers and buffers: whatever meets the promises of count, draw and rank answers P, draws fairly and ranks back. Assumes nothing.
 use Prim.Native.Nat.{ℕ, zero, suc, _+_, _-_, _^_, _<_, _≤_, min}
-use native.Mathlib.Nat.{le-refl, le-trans, not-suc-le-zero, le-of-suc-le-suc}
+use native.Mathlib.Nat.{pos-of-ne-zero, le-refl, le-trans, not-suc-le-zero, le-of-suc-le-suc}
 use native.Mathlib.Omega.{arith}
 use mathlib.Core.Path.{_≡_, refl, sym, ap, subst, _∙_}
-use mathlib.Core.Bool.{true, false}
-use mathlib.Core.List.{List}
+use mathlib.Core.Bool.{Bool, true, false, not}
+use mathlib.Core.List.{List, [], _++_}
 use lib.Dec.{ltb, eqb}
-use lib.ListN.{length, take}
-use borrow.Author.Tests.{ltb-true, le-ltb, ne-eqb, not-false}
+use lib.ListN.{length, take, drop}
+use borrow.Author.Tests.{ltb-true, ltb-false, eqb-false, lt-ltb, le-ltb, ne-eqb, not-false}
 use Rattle.lists.specs.Below.{countBelow}
-use Rattle.lists.specs.Lists.{overFront, member, distinct}
+use Rattle.lists.specs.Lists.{all, overFront, member, distinct}
 use Rattle.lists.specs.Equal.{sameList}
 use Rattle.lists.specs.Products.{falling, factorial}
+use Rattle.rules.specs.Tables.{Table, noneHold}
 use Rattle.lists.proofs.Below.{count-ext}
 use Rattle.lists.proofs.Insert.{over-take}
-use Rattle.lists.proofs.Tables.{row-out}
+use Rattle.rules.proofs.Tables.{row-out}
 use Rattle.rules.specs.State.{State}
 use Rattle.rules.specs.Image.{dueIn, imageOf, stateOf, wellFormed}
 use Rattle.rules.specs.Chance.{free, drawSize, outcomes, drawn, withFood, afterDraw, rankOf, canRank}
-use Rattle.rules.specs.Fair.{Fair, DrawWrote, Changed, Drawing}
+use Rattle.rules.specs.Fair.{Fair, Countable, Drawable, DrawWrote, RanksAsOne, Changed, Drawing}
 use Rattle.rules.specs.Births.{afterDraws, Ends, InRange}
-use Rattle.rules.specs.Says.{gives, seen, beside, lent, says, byTable}
-use Rattle.rules.specs.Orders.{drawOrder}
+use Rattle.rules.specs.Says.{gives, seen, beside, lent, says}
+use Rattle.rules.specs.Orders.{countOrder, drawOrder, rankOrder}
 use Rattle.rules.specs.Calls.{Draw, countSays, drawSays, rankSays}
 use Rattle.rules.specs.Promises.{Counts, Draws, Ranks}
 use Rattle.rules.specs.declared.Number.{Number}
 use Rattle.rules.specs.declared.Number.the-variants.{Value}
 use Rattle.rules.specs.declared.Drawn.{Drawn}
 use Rattle.rules.specs.declared.Answer.the-variants.{Done}
-use Rattle.rules.proofs.Answers.{number-one}
+use Rattle.rules.proofs.Answers.{answer-one, number-one}
 use Rattle.rules.proofs.Facts.{sound}
-use Rattle.rules.proofs.Tables.{table-gives, seen-none}
+use Rattle.rules.proofs.Tables.{table-gives, table-given, table-seen}
 use Rattle.rules.proofs.Image.{state-back}
 use Rattle.rules.proofs.Parts.{state-food}
-use Rattle.rules.proofs.DrawFacts.{after-due}
-use Rattle.rules.proofs.Fairness.{fair, settled}
+use Rattle.rules.proofs.FreeCells.{free-short}
+use Rattle.rules.proofs.DrawFacts.{after-due, next-long}
+use Rattle.rules.proofs.Fairness.{fair, settled, birth-count, birth-few, born, born-full}
+use Rattle.rules.proofs.Again.{draw-again}
 use Rattle.rules.proofs.Births.{chain-ends}
 
 pub fair-image : (w : List ℕ) → wellFormed w ≡ true → Fair (stateOf w)
 fair-image w ok = fair (stateOf w) (state-food w (sound w ok))
 
--- ---- an image with food due, whose count fits 64 bits
+-- ---- 20, 23 and 28, with which the tables of count, draw and rank begin
 
-module _ (w : List ℕ) (ok : wellFormed w ≡ true) (due : 0 < dueIn w) (fits : outcomes (stateOf w) ≤ 2 ^ 64 - 1) where
-  some-due : eqb (dueIn w) 0 ≡ false
-  some-due = ne-eqb (dueIn w) 0 (λ e. omega arith)
+module _ (w : List ℕ) where
+  -- where more rows follow, none of which holds
+  none-holds : (rows : Table) → Countable w → noneHold rows ≡ true → noneHold (countOrder w ++ rows) ≡ true
+  unfolding all
+  none-holds rows q h = rw (q .formed, ne-eqb (dueIn w) 0 (λ e. omega (arith, q .due)), le-ltb (2 ^ 64 - 1) (outcomes (stateOf w)) (q .fits), h)
+
+  countable : (rows : Table) → noneHold (countOrder w ++ rows) ≡ true → Countable w
+  countable rows none =
+      let some = eqb-false (dueIn w) 0 (row-out (countOrder w ++ rows) 1 none) in
+      record {
+        formed = not-false (wellFormed w) (row-out (countOrder w ++ rows) 0 none);
+        due = pos-of-ne-zero some;
+        fits = ltb-false (2 ^ 64 - 1) (outcomes (stateOf w)) (row-out (countOrder w ++ rows) 2 none);
+      }
 
   -- the count answers P, the product of k factors from n downward
-  pub count-answers : (r : Number) → Counts w r → r ≡ Value (falling (length (free (stateOf w))) (drawSize (stateOf w)))
-  unfolding countSays byTable
-  count-answers r c =
-      let e : countSays w ≡ gives (outcomes (stateOf w)) = rw (ok, some-due, le-ltb (2 ^ 64 - 1) (outcomes (stateOf w)) fits) in
-      number-one r (Value (outcomes (stateOf w))) (c .answer ∙ e) ∙ ap Value (fair-image w ok .count)
+  pub count-answers : Countable w → (r : Number) → Counts w r → r ≡ Value (falling (length (free (stateOf w))) (drawSize (stateOf w)))
+  unfolding countSays all
+  count-answers q r c =
+      let p = outcomes (stateOf w) in
+      number-one r (Value p) (c .answer ∙ table-gives (countOrder w) (gives p) (none-holds [] q refl)) ∙ ap Value (fair-image w (q .formed) .count)
 
-  -- each list of k different free cells ranks as one index below P, whose draw is that list
-  pub rank-answers : (l : List ℕ) → canRank (stateOf w) l ≡ true → (r : Number) → Ranks w l r → r ≡ Value (rankOf (stateOf w) l)
-  unfolding rankSays byTable
-  rank-answers l h r c =
-      let e : rankSays w l ≡ gives (rankOf (stateOf w) l) = rw (ok, some-due, le-ltb (2 ^ 64 - 1) (outcomes (stateOf w)) fits, h) in
-      number-one r (Value (rankOf (stateOf w) l)) (c .answer ∙ e)
-
-  -- ranking what an index draws gives the index back
-  pub rank-back : (i : ℕ) → i < outcomes (stateOf w) → (r : Number) → Ranks w (drawn (stateOf w) i) r → r ≡ Value i
-  rank-back i h r c = rank-answers (drawn (stateOf w) i) (fair-image w ok .rankable i h) r c ∙ ap Value (fair-image w ok .back i h)
-
--- ---- a draw that is answered
+-- ---- the draw that is answered
 
 pub record Answered (w : List ℕ) (i : ℕ) (old new list cells : List ℕ) (n k : ℕ) : Type 0 where
-  pub formed : wellFormed w ≡ true
+  pub counted : Countable w
   pub below : i < outcomes (stateOf w)
   pub words : new ≡ overFront (imageOf (afterDraw (stateOf w) i)) old
   pub drawn-list : cells ≡ overFront (drawn (stateOf w) i) list
   pub long : n ≡ length (imageOf (afterDraw (stateOf w) i))
   pub many : k ≡ length (drawn (stateOf w) i)
 
-module _ (w : List ℕ) (i : ℕ) (old new list cells : List ℕ) (r : Drawn) (p : Draws w i old new list cells r) (n : ℕ) (done : r .answer ≡ Done n) where
-  drawing : Draw
+module _ (w : List ℕ) (i : ℕ) (old new list cells : List ℕ) (r : Drawn) (p : Draws w i old new list cells r) where
+  abbrev drawing : Draw
   drawing = record { next = afterDraw (stateOf w) i; cells = drawn (stateOf w) i }
 
-  -- it was lawful, and the buffers hold the next image and the ordered list
-  pub draw-answers : Answered w i old new list cells n (r .cells)
-  unfolding drawSays drawing
-  draw-answers =
+  abbrev rows : Table
+  rows = drawOrder w i (length old) (length list)
+
+  -- with an index below P and room for the image's words and k more, and for k cells, it answers, and says how much it wrote
+  pub draw-comes : Drawable w i old list → (r .answer ≡ Done (length w + drawSize (stateOf w))) × (r .cells ≡ drawSize (stateOf w))
+  unfolding drawSays all
+  draw-comes q =
+      let t = stateOf w in
+      let long = next-long w (sound w (q .countable .formed)) i (q .below) in
+      let many = fair-image w (q .countable .formed) .long i (q .below) in
+      let last : noneHold (drop 3 rows) ≡ true =
+      rw (lt-ltb i (outcomes t) (q .below), le-ltb (length old) (length (imageOf (afterDraw t i))) (omega (arith, q .room)), le-ltb (length list) (length (drawn t i)) (omega (arith, q .list-room))) in
+      let e = table-gives rows (gives drawing) (none-holds w (drop 3 rows) (q .countable) last) in (
+        answer-one (r .answer) (Done (length w + drawSize t)) (p .answer ∙ ap (seen (λ (d : Draw). length (imageOf (d .next)))) e ∙ ap gives long),
+        p .cells ∙ ap (beside (λ (d : Draw). length (d .cells)) 0) e ∙ many,
+      )
+
+  -- so what it wrote are the fronts of its two buffers
+  pub draw-wrote : Drawable w i old list → DrawWrote w i (take (length w + drawSize (stateOf w)) new) (take (drawSize (stateOf w)) cells)
+  draw-wrote q = record {
+    old = old;
+    new = new;
+    lent-list = list;
+    cells = cells;
+    answer = r;
+    count = length w + drawSize (stateOf w);
+    meets = p;
+    done = draw-comes q .0;
+    image-is = refl;
+    list-is = ap (λ (k : ℕ). take k cells) (sym (draw-comes q .1));
+  }
+
+  -- where it is answered, it was lawful, and the buffers hold the next image and the ordered list
+  pub draw-answers : (n : ℕ) → r .answer ≡ Done n → Answered w i old new list cells n (r .cells)
+  unfolding drawSays
+  draw-answers n done =
       let f : Draw → ℕ = λ d. length (imageOf (d .next)) in
       let t = stateOf w in
-      let rows = drawOrder w i (length old) (length list) in
       let e : seen f (drawSays w i (length old) (length list)) ≡ gives n = sym (p .answer) ∙ ap says done in
-      let none = seen-none f rows drawing n e in
+      let given = table-given rows (f drawing) n (sym (table-seen f rows drawing) ∙ e) in
+      let none = given .0 in
       let q : drawSays w i (length old) (length list) ≡ gives drawing = table-gives rows (gives drawing) none in
       record {
-        formed = not-false (wellFormed w) (row-out rows 0 none);
+        counted = countable w (drop 3 rows) none;
         below = ltb-true i (outcomes t) (not-false (ltb i (outcomes t)) (row-out rows 3 none));
         words = p .words ∙ ap (lent (λ (d : Draw). imageOf (d .next)) old) q;
         drawn-list = p .list ∙ ap (lent (λ (d : Draw). d .cells) list) q;
-        long = let z : seen f (gives drawing) ≡ gives n = sym (ap (seen f) q) ∙ e in cc;
+        long = sym (given .1);
         many = p .cells ∙ ap (beside (λ (d : Draw). length (d .cells)) 0) q;
       }
 
@@ -103,6 +138,9 @@ front-is s old new n e q = rw (q, e) (over-take s old)
 module _ (w : List ℕ) (i : ℕ) (image list : List ℕ) (d : DrawWrote w i image list) where
   answered : Answered w i (d .old) (d .new) (d .lent-list) (d .cells) (d .count) (d .answer .cells)
   answered = draw-answers w i (d .old) (d .new) (d .lent-list) (d .cells) (d .answer) (d .meets) (d .count) (d .done)
+
+  written-fair : Fair (stateOf w)
+  written-fair = fair-image w (answered .counted .formed)
 
   -- the image is that of the state after the draw, and the list the cells drawn
   pub written-image : image ≡ imageOf (afterDraw (stateOf w) i)
@@ -117,27 +155,75 @@ module _ (w : List ℕ) (i : ℕ) (image list : List ℕ) (d : DrawWrote w i ima
   pub written-below : i < outcomes (stateOf w)
   written-below = answered .below
 
--- ---- the draw of the calls is fair
+  -- it draws k different free cells, and its list can be ranked
+  pub list-fair : (length list ≡ drawSize (stateOf w)) × (distinct list ≡ true) × ((c : ℕ) → member c list ≡ true → member c (free (stateOf w)) ≡ true)
+      × (canRank (stateOf w) list ≡ true)
+  list-fair =
+      let h = written-below in
+      let f = written-fair in
+      rw written-list (f .long i h, f .once i h, f .among i h, f .rankable i h)
+
+-- ---- draw and rank undo each other, of the words that the calls wrote
+
+module _ (w l : List ℕ) where
+  ranks-as : Countable w → canRank (stateOf w) l ≡ true → (r : Number) → Ranks w l r → r ≡ Value (rankOf (stateOf w) l)
+  unfolding rankSays all
+  ranks-as q h r c =
+      let k = rankOf (stateOf w) l in
+      number-one r (Value k) (c .answer ∙ table-gives (rankOrder w l) (gives k) (none-holds w (drop 3 (rankOrder w l)) q (rw h)))
+
+module _ (w : List ℕ) (i : ℕ) (image list : List ℕ) (d : DrawWrote w i image list) where
+  list-rank : rankOf (stateOf w) list ≡ i
+  list-rank = ap (rankOf (stateOf w)) (written-list w i image list d) ∙ written-fair w i image list d .back i (written-below w i image list d)
+
+  -- ranking the list that a draw wrote answers the index drawn
+  pub rank-back : (r : Number) → Ranks w list r → r ≡ Value i
+  rank-back r c = ranks-as w list (answered w i image list d .counted) (list-fair w i image list d .3) r c ∙ ap Value list-rank
+
+-- two indices that list the same cells in the same order are one
+pub list-one : (w : List ℕ) (i j : ℕ) (image other list : List ℕ) → DrawWrote w i image list → DrawWrote w j other list → i ≡ j
+list-one w i j image other list d e = sym (list-rank w i image list d) ∙ list-rank w j other list e
+
+module _ (w l : List ℕ) (i : ℕ) (c : Ranks w l (Value i)) where
+  none-held : (noneHold (rankOrder w l) ≡ true) × (rankOf (stateOf w) l ≡ i)
+  unfolding rankSays
+  none-held = table-given (rankOrder w l) (rankOf (stateOf w) l) i (sym (c .answer))
+
+  ranked : Countable w
+  ranked = countable w (drop 3 (rankOrder w l)) (none-held .0)
+
+  can-rank : canRank (stateOf w) l ≡ true
+  can-rank = not-false (canRank (stateOf w) l) (row-out (rankOrder w l) 3 (none-held .0))
+
+  -- what a draw of the index that a rank answered lists is what was ranked
+  pub list-forth : (image list : List ℕ) → DrawWrote w i image list → list ≡ l
+  list-forth image list d = written-list w i image list d ∙ ap (drawn (stateOf w)) (sym (none-held .1)) ∙ fair-image w (ranked .formed) .forth l can-rank
+
+  -- and with room such a draw is answered, and writes that list
+  pub rank-forth : (old new list cells : List ℕ) (r : Drawn) → Draws w i old new list cells r → length w + length l ≤ length old → length l ≤ length list
+      → (r .answer ≡ Done (length w + length l)) × (r .cells ≡ length l) × (take (length l) cells ≡ l)
+  rank-forth old new list cells r p room list-room =
+      let f = fair-image w (ranked .formed) in
+      let k : length l ≡ drawSize (stateOf w) = sym (ap length (f .forth l can-rank)) ∙ f .long (rankOf (stateOf w) l) (f .ranks l can-rank) in
+      let q : Drawable w i old list = record { countable = ranked; below = rw (none-held .1) at (f .ranks l can-rank); room = omega arith; list-room = omega arith } in
+      let d = draw-comes w i old new list cells r p q in
+      rw k (d .0, d .1, list-forth _ _ (draw-wrote w i old new list cells r p q))
+
+-- each list of k different free cells ranks as one index below P: what a draw of it lists is that list, and no other index's draw lists it
+pub rank-answers : (w l : List ℕ) → Countable w → canRank (stateOf w) l ≡ true → (r : Number) → Ranks w l r → RanksAsOne w l r
+rank-answers w l q h r c =
+    let e = ranks-as w l q h r c in
+    record {
+      index = rankOf (stateOf w) l;
+      answer = e;
+      below = fair-image w (q .formed) .ranks l h;
+      lists = list-forth w l (rankOf (stateOf w) l) (subst (Ranks w l) e c);
+      alone = λ i image d. sym (list-rank w i image l d);
+    }
+
+-- ---- the sets that come, and what else changes
 
 module _ (w : List ℕ) (ok : wellFormed w ≡ true) where
-  -- an index draws k different free cells, and its list can be ranked
-  pub list-fair : (i : ℕ) (image list : List ℕ) → DrawWrote w i image list
-      → (length list ≡ drawSize (stateOf w)) × (distinct list ≡ true) × ((c : ℕ) → member c list ≡ true → member c (free (stateOf w)) ≡ true) × (canRank (stateOf w) list ≡ true)
-  list-fair i image list d =
-      let h = written-below w i image list d in
-      rw (written-list w i image list d) (fair-image w ok .long i h, fair-image w ok .once i h, fair-image w ok .among i h, fair-image w ok .rankable i h)
-
-  -- each list of k different free cells is what the draw of its rank lists
-  pub list-forth : (l image list : List ℕ) → canRank (stateOf w) l ≡ true → DrawWrote w (rankOf (stateOf w) l) image list → list ≡ l
-  list-forth l image list h d = written-list w (rankOf (stateOf w) l) image list d ∙ fair-image w ok .forth l h
-
-  -- two indices that list the same cells in the same order are one
-  pub list-one : (i j : ℕ) (image other list : List ℕ) → DrawWrote w i image list → DrawWrote w j other list → i ≡ j
-  list-one i j image other list d e =
-      sym (fair-image w ok .back i (written-below w i image list d))
-      ∙ ap (rankOf (stateOf w)) (sym (written-list w i image list d) ∙ written-list w j other list e)
-      ∙ fair-image w ok .back j (written-below w j other list e)
-
   -- each set of k free cells is added by exactly k! of the indices below P
   pub sets-fair : (image list : ℕ → List ℕ) → ((i : ℕ) → i < outcomes (stateOf w) → DrawWrote w i (image i) (list i)) → (s : List ℕ) → canRank (stateOf w) s ≡ true
       → countBelow (outcomes (stateOf w)) (λ i. sameList (stateOf (image i) .food) (withFood (stateOf w .food) s)) ≡ factorial (drawSize (stateOf w))
@@ -146,19 +232,54 @@ module _ (w : List ℕ) (ok : wellFormed w ≡ true) where
       (λ i l. ap (λ (t : State). sameList (t .food) (withFood (stateOf w .food) s)) (written-state w i (image i) (list i) (d i l)))
       ∙ fair-image w ok .sets s h
 
-pub draw-changes : (w : List ℕ) (i : ℕ) (image list : List ℕ) → stateOf w .birth ≡ false → DrawWrote w i image list → Changed w image list
-draw-changes w i image list b d =
-    let e = written-state w i image list d in
-    let s = settled (stateOf w) i b in
-    record {
-      side = ap (λ (t : State). t .side) e ∙ s .side;
-      snakes = ap (λ (t : State). t .snakes) e ∙ s .snakes;
-      birth = ap (λ (t : State). t .birth) e ∙ s .birth ∙ sym b;
-      due = ap (λ (t : State). t .due) e ∙ s .due;
-      food = ap (λ (t : State). t .food) e ∙ s .food ∙ ap (withFood (stateOf w .food)) (sym (written-list w i image list d));
-    }
+module _ (w : List ℕ) (i : ℕ) (image list : List ℕ) (d : DrawWrote w i image list) where
+  changed : (due : ℕ) (birth : Bool) → afterDraw (stateOf w) i .due ≡ due → afterDraw (stateOf w) i .birth ≡ birth → Changed w image list due birth
+  unfolding afterDraw
+  changed due birth x y =
+      let e = written-state w i image list d in
+      record {
+        side = ap (λ (t : State). t .side) e;
+        snakes = ap (λ (t : State). t .snakes) e;
+        food = ap (λ (t : State). t .food) e ∙ ap (withFood (stateOf w .food)) (sym (written-list w i image list d));
+        due-is = ap (λ (t : State). t .due) e ∙ x;
+        birth-is = ap (λ (t : State). t .birth) e ∙ y;
+      }
+
+  -- a draw that is not at birth leaves nothing due
+  pub draw-changes : stateOf w .birth ≡ false → Changed w image list 0 false
+  draw-changes b = let s = settled (stateOf w) i b in changed 0 false (s .due) (s .birth)
+
+  -- 'A birth draw takes 1 from due ..; birth stays unless due was 1', where a cell is free
+  pub birth-changes : stateOf w .birth ≡ true → 0 < length (free (stateOf w)) → Changed w image list (stateOf w .due - 1) (not (eqb (stateOf w .due) 1))
+  birth-changes b some =
+      let t = stateOf w in
+      let s = born t b i (rw (birth-count t b some) at (written-below w i image list d)) in
+      changed (t .due - 1) (not (eqb (t .due) 1)) (s .due) (s .birth)
+
+  -- '.. or sets it to 0 when n = 0; birth stays unless .. n was 0'
+  pub full-changes : stateOf w .birth ≡ true → length (free (stateOf w)) ≡ 0 → Changed w image list 0 false
+  full-changes b none = let s = born-full (stateOf w) b i none .0 in changed 0 false (s .due) (s .birth)
+
+  -- what it wrote is well-formed again
+  pub written-again : wellFormed image ≡ true
+  written-again = ap wellFormed (written-image w i image list d) ∙ draw-again w i (answered w i image list d .counted .formed) (written-below w i image list d)
 
 -- ---- a chain of draws at birth: image j + 1 is what draw j wrote, and each draw with food due is answered
+
+-- at birth a well-formed image with food due has few outcomes, so that with room an index below them is answered
+pub birth-countable : (w : List ℕ) → wellFormed w ≡ true → 0 < dueIn w → stateOf w .birth ≡ true → Countable w
+unfolding stateOf
+birth-countable w ok due b =
+    let t = stateOf w in
+    let s = sound w ok in
+    record { formed = ok; due = due; fits = le-trans (birth-few t b) (omega (arith, free-short t, s .area-max)) }
+
+-- as it is with room, and one of the chain where the next image is what it wrote
+pub chain-draw : (image : ℕ → List ℕ) (index : ℕ → ℕ) (j : ℕ) (old new list cells : List ℕ) (r : Drawn) → Draws (image j) (index j) old new list cells r
+    → Drawable (image j) (index j) old list → image (suc j) ≡ take (length (image j) + drawSize (stateOf (image j))) new → Drawing image index j
+chain-draw image index j old new list cells r p q e =
+    let k = drawSize (stateOf (image j)) in
+    record { list = take k cells; writes = subst (λ (w : List ℕ). DrawWrote (image j) (index j) w (take k cells)) (sym e) (draw-wrote (image j) (index j) old new list cells r p q) }
 
 module _ (image : ℕ → List ℕ) (index : ℕ → ℕ) (draws : (j : ℕ) → 0 < stateOf (image j) .due → Drawing image index j) where
   drawn-next : (j : ℕ) → 0 < stateOf (image j) .due → stateOf (image (suc j)) ≡ afterDraw (stateOf (image j)) (index j)

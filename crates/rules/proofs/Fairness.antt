@@ -4,7 +4,7 @@
 use mathlib.Core.Path.{_≡_, refl, _∙_}
 use mathlib.Core.Bool.{true, false, _&&_}
 use mathlib.Core.List.{List, [], _∷_}
-use Prim.Native.Nat.{ℕ, zero, suc, _-_, _%_, _<_, min}
+use Prim.Native.Nat.{ℕ, zero, suc, _+_, _-_, _%_, _<_, _≤_, min}
 use native.Mathlib.Nat.{mul-one, sub-zero, mod-eq-of-lt, lt-irrefl}
 use native.Mathlib.Omega.{arith}
 use lib.Dec.{eqb}
@@ -14,7 +14,7 @@ use Rattle.lists.specs.Below.{countBelow}
 use Rattle.lists.specs.Lists.{all, member, distinct, ascending}
 use Rattle.lists.specs.Products.{falling, factorial}
 use Rattle.lists.specs.Equal.{sameList}
-use Rattle.lists.proofs.Tests.{and-left, and-right, both}
+use Rattle.lists.proofs.Tests.{and-left, and-right, both, ordered, less, more}
 use Rattle.lists.proofs.Members.{all-member, all-members}
 use Rattle.rules.specs.State.{State}
 use Rattle.rules.specs.Fair.{Fair, Settled, Born}
@@ -86,11 +86,12 @@ module _ (t : State) where
 
 -- ---- what a draw leaves as it was, and what it changes
 
--- a draw that is not at birth sets all apples that are due, or as many as there are free cells
+-- a draw that is not at birth adds the cells drawn to the food, and leaves nothing due
 pub settled : (t : State) (i : ℕ) → t .birth ≡ false → Settled t i
 unfolding afterDraw
 settled t i b = record { side = refl; snakes = refl; birth = rw b; due = rw b; food = refl }
 
+-- it draws all that is due, or as many cells as are free
 pub later-size : (t : State) → t .birth ≡ false → drawSize t ≡ min (t .due) (length (free t))
 later-size t b = rw b
 
@@ -103,7 +104,7 @@ module _ (t : State) (b : t .birth ≡ true) where
   one : 0 < length (free t) → drawSize t ≡ 1
   one h = birth-size t b ∙ omega arith
 
-  -- the count is n
+  -- the count is n, where a cell is free
   pub birth-count : 0 < length (free t) → outcomes t ≡ length (free t)
   unfolding outcomes falling
   birth-count h = rw (one h) (go (length (free t)))
@@ -111,6 +112,14 @@ module _ (t : State) (b : t .birth ≡ true) where
       go : (n : ℕ) → falling n 1 ≡ n
       go zero = refl
       go (suc n) = mul-one (suc n)
+
+  -- and 1 where none is: at most one more than the free cells
+  pub birth-few : outcomes t ≤ length (free t) + 1
+  unfolding outcomes falling
+  birth-few = elim (ordered 0 (length (free t))) [
+    | less h e ↦ omega (arith, birth-count h)
+    | more h e ↦ let z : drawSize t ≡ 0 = birth-size t b ∙ omega arith in rw z (omega arith)
+  ]
 
   birth-cell : (i : ℕ) → i < length (free t) → drawn t i ≡ getD (free t) i 0 ∷ []
   unfolding drawn drawnFrom digits pick

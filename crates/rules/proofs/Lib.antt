@@ -6,7 +6,7 @@ pub mod Answers
 pub mod Step
 pub mod Parts
 pub mod Examples
-pub mod Places
+pub mod Grid
 pub mod FreeCells
 pub mod Digits
 pub mod Draws
@@ -25,7 +25,6 @@ pub mod SmallGrids
 pub mod StepFacts
 pub mod SettingFacts
 pub mod InitialFacts
-pub mod Extremes
 pub mod TakenWords
 pub mod FairCalls
 pub mod Tables

@@ -9,10 +9,10 @@ use lib.Dec.{ltb}
 use lib.ListN.{length, length-drop}
 use borrow.Author.Tests.{lt-ltb}
 use Rattle.lists.specs.Lists.{all, ascending}
-use Rattle.lists.specs.Boards.{Under}
+use Rattle.boards.specs.Boards.{Under}
 use Rattle.lists.proofs.Below.{each-at, each-long}
 use Rattle.lists.proofs.Lists.{part-long, all-each}
-use Rattle.lists.proofs.Boards.{part-under, rest-under}
+use Rattle.boards.proofs.Boards.{part-under, rest-under}
 use Rattle.rules.specs.Image.{front, snakesIn, foodCountIn, areaIn, startAt, lengthAt, startDue, foodStart, bodyAt, foodAt, snakeAt, stateOf}
 use Rattle.rules.specs.Facts.{Sound}
 use Rattle.rules.specs.State.{Snake, count, snakeOf, nobody}

@@ -11,22 +11,22 @@ use lib.ListN.{length, getD}
 use borrow.Author.Tests.{ltb-false}
 use Rattle.lists.specs.Choice.{_if_else_}
 use Rattle.lists.specs.Below.{concatBelow}
-use Rattle.lists.specs.Boards.{Under}
+use Rattle.boards.specs.Boards.{Under}
 use Rattle.lists.specs.Lists.{all, distinct}
 use Rattle.lists.proofs.Tests.{and-left, and-right}
 use Rattle.lists.proofs.Repeats.{map-concat, all-concat, sum-same}
 use Rattle.lists.proofs.Below.{some-never, concat-long, sum-ext}
-use Rattle.rules.specs.Places.{inside, cellOf}
+use Rattle.rules.specs.Grid.{inside, cellOf}
 use Rattle.rules.specs.Placement.{startPlace, tracing, even, placed}
 use Rattle.rules.specs.Setting.{badCell, allPlaced, someShort}
 use Rattle.rules.specs.SettingParts.{placeCheck, cellsOf}
 use Rattle.rules.specs.declared.Place.{Place}
 use Rattle.rules.proofs.Facts.{square-le}
-use Rattle.rules.proofs.Places.{cell-below}
+use Rattle.rules.proofs.Grid.{cell-below}
 use Rattle.rules.proofs.Placement.{traced-short, traced-inside, traced-reach}
 use Rattle.rules.proofs.Starts.{start-inside}
 use Rattle.rules.proofs.Taken.{bad-repeats}
-use Rattle.lists.specs.Tables.{fault}
+use Rattle.rules.specs.Tables.{fault}
 
 -- the cells of places inside are below the area
 cells-below : (g : ℕ) (ps : List Place) → 1 ≤ g → all (inside (pos g)) ps ≡ true → (j : ℕ) → getD (map (cellOf g) ps) j 0 < g * g

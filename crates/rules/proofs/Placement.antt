@@ -10,12 +10,12 @@ use lib.IntN.{ℤ, pos, negsuc, sucℤ, predℤ, natAbs}
 use lib.ListN.{length, take}
 use Rattle.lists.specs.Lists.{all}
 use Rattle.lists.proofs.Tests.{tell, both}
-use Rattle.rules.specs.Places.{ahead, within, inside}
+use Rattle.rules.specs.Grid.{ahead, within, inside}
 use Rattle.rules.specs.Placement.{unblocked, trail, traced}
 use Rattle.rules.specs.declared.Place.{Place}
 use Rattle.rules.specs.declared.Heading.{Heading}
 use Rattle.rules.specs.declared.Heading.the-variants.{Up, Right, Down, Left}
-use Rattle.rules.proofs.Places.{within-below, row-in, col-in}
+use Rattle.rules.proofs.Grid.{within-below, row-in, col-in}
 
 -- ---- the next direction, the next place
 

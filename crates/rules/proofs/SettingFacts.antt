@@ -16,7 +16,7 @@ use Rattle.lists.specs.Below.{concatBelow}
 use Rattle.lists.specs.Lists.{all, distinct}
 use Rattle.lists.proofs.Tests.{tell, and-left, and-right, both}
 use Rattle.lists.proofs.Pigeonhole.{cells-short}
-use Rattle.rules.specs.Places.{inside, cellOf}
+use Rattle.rules.specs.Grid.{inside, cellOf}
 use Rattle.rules.specs.Placement.{placed}
 use Rattle.rules.specs.Setting.{isSet, isZero, sideOf, settingCheck, allPlaced, someShort}
 use Rattle.rules.specs.SettingParts.{Limited, placeCheck, cellsOf}
@@ -25,7 +25,7 @@ use Rattle.rules.specs.declared.Place.{Place}
 use Rattle.rules.specs.declared.Setting.{Setting}
 use Rattle.rules.specs.declared.Limit.{Limit}
 use Rattle.rules.specs.declared.Limit.the-variants.{Is}
-use Rattle.rules.proofs.Places.{cell-below}
+use Rattle.rules.proofs.Grid.{cell-below}
 use Rattle.rules.proofs.SettingParts.{limits-none, places-none, limited, lead-some, lead-two-or, worst-most}
 use Rattle.rules.proofs.Starts.{grid-two, grid-side, side-three, side-small}
 use Rattle.rules.proofs.SmallGrids.{small-two, small-less}
@@ -98,29 +98,29 @@ module _ (s : Setting) (e : settingCheck s ≡ 0) where
   limits-hold : Limited s
   limits-hold = limited s (limits-none s e)
 
-  three : ltZ (s .grid) (pos 3) ≡ false
-  three = wide (s .grid) (s .snakes) (s .size) (s .food) (limits-hold .snakes-min) (limits-hold .snakes-max) (limits-hold .size-min) (places-none s e)
+  three : ltZ (s .«grid_size») (pos 3) ≡ false
+  three = wide (s .«grid_size») (s .«num_snakes») (s .«initial_length») (s .«initial_food_count») (limits-hold .snakes-min) (limits-hold .snakes-max) (limits-hold .size-min) (places-none s e)
 
-  is-side : s .grid ≡ pos (sideOf (s .grid))
-  is-side = grid-side (s .grid) three
+  is-side : s .«grid_size» ≡ pos (sideOf (s .«grid_size»))
+  is-side = grid-side (s .«grid_size») three
 
-  low : 3 ≤ sideOf (s .grid)
-  low = side-three (s .grid) three
+  low : 3 ≤ sideOf (s .«grid_size»)
+  low = side-three (s .«grid_size») three
 
-  high : sideOf (s .grid) ≤ 32
-  high = side-small (s .grid) (limits-hold .grid-max)
+  high : sideOf (s .«grid_size») ≤ 32
+  high = side-small (s .«grid_size») (limits-hold .grid-max)
 
-  checked : placeCheck (pos (sideOf (s .grid))) (s .snakes) (s .size) (s .food) ≡ 0
-  checked = ap (λ (g : ℤ). placeCheck g (s .snakes) (s .size) (s .food)) (sym is-side) ∙ places-none s e
+  checked : placeCheck (pos (sideOf (s .«grid_size»))) (s .«num_snakes») (s .«initial_length») (s .«initial_food_count») ≡ 0
+  checked = ap (λ (g : ℤ). placeCheck g (s .«num_snakes») (s .«initial_length») (s .«initial_food_count»)) (sym is-side) ∙ places-none s e
 
   pub accepts : Accepts s
   accepts =
-      let g = sideOf (s .grid) in
-      let n = s .snakes in
-      let k = s .size in
+      let g = sideOf (s .«grid_size») in
+      let n = s .«num_snakes» in
+      let k = s .«initial_length» in
       let o = limits-hold .size-min in
-      let h = held g n k (s .food) low high o checked in
-      let f : s .food + n * k ≤ g * g = food-most g n k (s .food) low high o checked in
+      let h = held g n k (s .«initial_food_count») low high o checked in
+      let f : s .«initial_food_count» + n * k ≤ g * g = food-most g n k (s .«initial_food_count») low high o checked in
       let m : 1 * k ≤ n * k = mul-le-mul (le-trans (omega arith) (limits-hold .snakes-min)) (le-refl k) in
       record {
         snakes-min = limits-hold .snakes-min;
@@ -130,12 +130,12 @@ module _ (s : Setting) (e : settingCheck s ≡ 0) where
         grid-is = is-side;
         side-min = low;
         side-max = high;
-        lead-min = λ j q. some-lead (s .lead) j (lead-some s (limits-none s e)) q;
-        lead-two = λ j q. two-lead (s .lead) j n (lead-two-or s (limits-none s e)) q;
+        lead-min = λ j q. some-lead (s .«win_food_lead») j (lead-some s (limits-none s e)) q;
+        lead-two = λ j q. two-lead (s .«win_food_lead») j n (lead-two-or s (limits-none s e)) q;
         worst-max = worst-most s (limits-none s e);
         long = λ i l. ap (λ (z : ℤ). length (placed z n k i)) is-side ∙ body-long g n k low high o (h .nine) i l;
         within = ap (λ (z : ℤ). all (inside z) (allPlaced z n k)) is-side ∙ all-inside g n k low high o;
         apart = h .eleven;
-        total = ap (λ (z : ℤ). length (allPlaced z n k)) is-side ∙ total-is g n k (s .food) low high o checked;
+        total = ap (λ (z : ℤ). length (allPlaced z n k)) is-side ∙ total-is g n k (s .«initial_food_count») low high o checked;
         food-free = f;
       }

@@ -13,14 +13,14 @@ use Rattle.lists.specs.Choice.{_if_else_}
 use Rattle.lists.specs.Below.{someBelow, concatBelow}
 use Rattle.lists.specs.Lists.{any}
 use Rattle.lists.proofs.Below.{some-found, some-false, concat-split, concat-next, concat-none}
-use Rattle.rules.specs.Places.{within, inside, ahead}
+use Rattle.rules.specs.Grid.{within, inside, ahead}
 use Rattle.rules.specs.Placement.{startPlace, even, unblocked, trail, tracing, placed}
 use Rattle.rules.specs.Setting.{badCell, allPlaced, someShort}
 use Rattle.rules.specs.SettingParts.{placeCheck}
 use Rattle.rules.specs.declared.Place.{Place}
 use Rattle.rules.specs.declared.Heading.{Heading}
 use Rattle.rules.proofs.Placement.{none-left, shut-first, trail-shut}
-use Rattle.lists.specs.Tables.{fault}
+use Rattle.rules.specs.Tables.{fault}
 
 -- 9 by a body that is short
 short-nine : (g : ℤ) (n k f i : ℕ) → i < n → length (placed g n k i) < k → placeCheck g n k f ≡ 9

@@ -10,10 +10,10 @@ use lib.IntN.{ℤ, pos, negsuc, natAbs, _-ℤ_}
 use lib.Signed.{ltZ, nonNeg}
 use borrow.Author.Tests.{le-ltb, ltb-false, ltb-true}
 use Rattle.lists.proofs.Tests.{both, tell}
-use Rattle.rules.specs.Places.{within, inside}
+use Rattle.rules.specs.Grid.{within, inside}
 use Rattle.rules.specs.Placement.{rowOf, even, colOf, startPlace}
 use Rattle.rules.specs.Setting.{sideOf}
-use Rattle.rules.proofs.Places.{within-pos}
+use Rattle.rules.proofs.Grid.{within-pos}
 
 -- ---- the side
 

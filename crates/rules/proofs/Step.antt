@@ -13,7 +13,7 @@ use Rattle.lists.specs.Below.{countBelow, eachBelow}
 use Rattle.lists.specs.Lists.{member}
 use Rattle.lists.proofs.Tests.{tell, ordered, less, more}
 use Rattle.lists.proofs.Below.{some-ext, some-false, each-at}
-use Rattle.rules.specs.Places.{inside, same, cellOf}
+use Rattle.rules.specs.Grid.{inside, same, cellOf}
 use Rattle.rules.specs.State.{Snake, State, nobody, count, snakeOf}
 use Rattle.rules.specs.Events.{dies, blank}
 use Rattle.rules.specs.Step.{Moved, another, onBody, causeOf, after, alive, leads, lostBy, transitionOf, stepped}
@@ -65,7 +65,7 @@ module _ (n : ℕ) (c : ℕ → Cause) (z : ℕ → Snake) (none : alive n c z �
   nobody-leads (Is k) i j = rw none
 
   nobody-lost : (s : Setting) (i : ℕ) → lostBy n c z s i ≡ false
-  nobody-lost s i = rw (some-false (λ j. leads n c z (s .lead) j i) n (λ j _. nobody-leads (s .lead) j i), none) (neither (dies (c i)))
+  nobody-lost s i = rw (some-false (λ j. leads n c z (s .«win_food_lead») j i) n (λ j _. nobody-leads (s .«win_food_lead») j i), none) (neither (dies (c i)))
     where
       neither : (a : Bool) → (a && false || false) ≡ false
       neither true = refl

@@ -20,18 +20,18 @@ use Rattle.lists.proofs.Members.{distinct-more}
 use Rattle.lists.proofs.Shorter.{all-take, distinct-take, all-keep, ascending-keep}
 use Rattle.lists.proofs.Pigeonhole.{cells-short}
 use Rattle.rules.specs.Headings.{turned, actionOf}
-use Rattle.rules.specs.Places.{ahead, inside, same, cellOf, placeOf}
+use Rattle.rules.specs.Grid.{inside, same, cellOf}
 use Rattle.rules.specs.State.{Snake, State, nobody, count, snakeOf, area}
 use Rattle.rules.specs.Image.{bodyOf, imageOf, stateOf, wellFormed}
 use Rattle.rules.specs.Facts.{Holdable}
 use Rattle.rules.specs.Events.{dies}
-use Rattle.rules.specs.Step.{Moved, stays, onFood, goes, move, movedOf, another, onBody, causeOf, after, ateNow, isTerminal, transitionOf, stepped}
+use Rattle.rules.specs.Step.{Moved, stays, onFood, goes, headTo, move, movedOf, another, onBody, causeOf, after, ateNow, isTerminal, transitionOf, stepped}
 use Rattle.rules.specs.declared.Cause.{Cause}
 use Rattle.rules.specs.declared.Cause.the-variants.{NoCause, Wall, SelfBody, OppBody, HeadOn}
 use Rattle.rules.specs.declared.Setting.{Setting}
 use Rattle.rules.proofs.Facts.{sound}
 use Rattle.rules.proofs.Holdable.{image-well-formed, holds-state}
-use Rattle.rules.proofs.Places.{cell-below}
+use Rattle.rules.proofs.Grid.{cell-below}
 
 -- different cells below m
 pub record Cells (m : ℕ) (l : List ℕ) : Type 0 where
@@ -55,7 +55,7 @@ rest-by m z v false p q = q
 pub rest-cells : (g m : ℕ) (food : List ℕ) (z : Snake) (a : ℕ) → Cells m (z .body) → Cells m (move g food z a .rest)
 rest-cells g m food z a ok =
     let h = turned (z .heading) (actionOf a) in
-    let p = ahead h (placeOf g (getD (z .body) 0 0)) in
+    let p = headTo g h (getD (z .body) 0 0) in
     let e = onFood g food p in
     rest-by m z (goes (z .body) h p e) (z .alive) (kept-cells m (z .body) ok e) ok
 

@@ -8,10 +8,10 @@ use lib.IntN.{pos}
 use Rattle.lists.specs.Choice.{_if_else_}
 use Rattle.lists.specs.Lists.{all, any, member, distinct}
 use Rattle.lists.proofs.Tests.{and-left, and-right, both, eqb-sym, gather}
-use Rattle.rules.specs.Places.{inside, same, cellOf}
+use Rattle.rules.specs.Grid.{inside, same, cellOf}
 use Rattle.rules.specs.Setting.{badCell}
 use Rattle.rules.specs.declared.Place.{Place}
-use Rattle.rules.proofs.Places.{same-cell}
+use Rattle.rules.proofs.Grid.{same-cell}
 
 -- no number of l stands before it, in b or in l
 unfoldable newTo : List ℕ → List ℕ → Bool

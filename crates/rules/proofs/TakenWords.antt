@@ -15,7 +15,7 @@ use Rattle.rules.specs.Chance.{taken, freeFrom, free}
 use Rattle.rules.proofs.Image.{past-front}
 use Rattle.rules.proofs.Words.{image-of}
 use Rattle.rules.proofs.Parts.{state-count}
-use Rattle.rules.proofs.FreeCells.{free-ext}
+use Rattle.boards.proofs.Free.{free-ext}
 
 module _ (w : List ℕ) (s : Sound w) where
   pub words-past : drop (front (snakesIn w)) w ≡ concatBelow (count (stateOf w)) (bodyOf (stateOf w)) ++ stateOf w .food

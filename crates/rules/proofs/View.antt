@@ -14,10 +14,10 @@ use Rattle.lists.specs.Below.{sumBelow, concatBelow}
 use Rattle.lists.specs.Lists.{all}
 use Rattle.lists.proofs.Tests.{and-left, and-right, both}
 use Rattle.lists.proofs.Below.{concat-ext, sum-ext}
-use Rattle.lists.proofs.Squares.{row-lt, col-lt, cell-is, cell-lt, row-of, col-of, far-rows}
+use Rattle.boards.proofs.Squares.{row-lt, col-lt, cell-is, cell-lt, row-of, col-of, far-rows}
 use Rattle.rules.specs.Headings.{headingOf}
 use Rattle.rules.specs.State.{Snake}
-use Rattle.rules.specs.Places.{ahead, inside, within, cellOf, placeOf}
+use Rattle.rules.specs.Grid.{ahead, inside, within, cellOf, placeOf}
 use Rattle.rules.specs.Image.{front, snakesIn, sideIn, startAt, lengthAt, headingAt, foodStart, bodyOf, bodyAt, foodAt, stateOf}
 use Rattle.rules.specs.Facts.{Sound}
 use Rattle.rules.specs.View.{shows, turnedCell, plane, channels, viewOf, view}

@@ -1,6 +1,6 @@
 -- Chance (01, 'Chance'): the free cells, how many outcomes a draw has, what an index draws, and the index of a list. Assumes nothing.
 use Prim.Native.Nat.{ℕ, zero, suc, _+_, _*_, _-_, _/_, _%_, min}
-use mathlib.Core.Bool.{Bool, not, cond, _&&_, _||_}
+use mathlib.Core.Bool.{Bool, not, _&&_, _||_}
 use mathlib.Core.List.{List, [], _∷_, _++_}
 use lib.Dec.{eqb}
 use lib.ListN.{length, getD}
@@ -8,17 +8,13 @@ use Rattle.lists.specs.Choice.{_if_else_}
 use Rattle.lists.specs.Below.{someBelow}
 use Rattle.lists.specs.Lists.{all, member, distinct, insert, without, place}
 use Rattle.lists.specs.Products.{falling}
+unfoldable pub use Rattle.boards.specs.Free.{freeFrom}
 use Rattle.rules.specs.State.{State, count, area}
 use Rattle.rules.specs.Image.{bodyOf}
 
 -- 'Free cells are those with neither food nor any body, corpses included, in row-major order'
 abbrev pub taken : State → ℕ → Bool
 taken s c = member c (s .food) || someBelow (count s) (λ i. member c (bodyOf s i))
-
--- of the n cells from a on, those that are not used
-unfoldable pub freeFrom : (ℕ → Bool) → ℕ → ℕ → List ℕ
-freeFrom used a zero = []
-freeFrom used a (suc n) = let r = freeFrom used (suc a) n in cond (used a) r (a ∷ r)
 
 unfoldable pub free : State → List ℕ
 free s = freeFrom (taken s) 0 (area s)

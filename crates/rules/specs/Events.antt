@@ -22,7 +22,7 @@ byBody OppBody = true
 byBody HeadOn = false
 
 abbrev pub blank : Event
-blank = record { ate = false; died = false; cause = NoCause; killed = false; won = false; lost = false; drew = false; survived = false }
+blank = record { «ate_food» = false; died = false; «death_cause» = NoCause; «killed_opponent» = false; won = false; lost = false; drew = false; «survived_to_max_ticks» = false }
 
 -- 'Event entries from n on are blank'
 abbrev pub eight : List Event → List Event

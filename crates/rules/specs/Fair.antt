@@ -1,7 +1,7 @@
 -- What it says that a draw is fair (01, demand 3): of the definitions, and of the words that a draw wrote. Assumes nothing.
-use Prim.Native.Nat.{ℕ, suc, _-_, _<_}
+use Prim.Native.Nat.{ℕ, suc, _+_, _-_, _^_, _<_, _≤_}
 use mathlib.Core.Path.{_≡_}
-use mathlib.Core.Bool.{true, false, not}
+use mathlib.Core.Bool.{Bool, true, false, not}
 use mathlib.Core.List.{List, [], _∷_}
 use lib.Dec.{eqb}
 use lib.ListN.{length, getD, take}
@@ -10,9 +10,11 @@ use Rattle.lists.specs.Lists.{member, distinct}
 use Rattle.lists.specs.Products.{falling, factorial}
 use Rattle.lists.specs.Equal.{sameList}
 use Rattle.rules.specs.State.{State, area}
-use Rattle.rules.specs.Image.{stateOf}
+use Rattle.rules.specs.Image.{dueIn, stateOf, wellFormed}
 use Rattle.rules.specs.Chance.{taken, free, drawSize, outcomes, drawn, withFood, afterDraw, rankOf, canRank}
 use Rattle.rules.specs.Promises.{Draws}
+use Rattle.rules.specs.declared.Number.{Number}
+use Rattle.rules.specs.declared.Number.the-variants.{Value}
 use Rattle.rules.specs.declared.Drawn.{Drawn}
 use Rattle.rules.specs.declared.Answer.the-variants.{Done}
 
@@ -24,7 +26,7 @@ pub record Fair (t : State) : Type 0 where
   pub free-once : distinct (free t) ≡ true
   -- the count: k factors from n downward
   pub count : outcomes t ≡ falling (length (free t)) (drawSize t)
-  -- each index draws k different free cells
+  -- each index below the count draws k different free cells
   pub long : (i : ℕ) → i < outcomes t → length (drawn t i) ≡ drawSize t
   pub among : (i : ℕ) → i < outcomes t → (c : ℕ) → member c (drawn t i) ≡ true → member c (free t) ≡ true
   pub once : (i : ℕ) → i < outcomes t → distinct (drawn t i) ≡ true
@@ -34,7 +36,7 @@ pub record Fair (t : State) : Type 0 where
   -- each list of k different free cells is drawn by one index, its rank
   pub ranks : (l : List ℕ) → canRank t l ≡ true → rankOf t l < outcomes t
   pub forth : (l : List ℕ) → canRank t l ≡ true → drawn t (rankOf t l) ≡ l
-  -- each set of k free cells is the food that comes for exactly k! indices
+  -- each set of k free cells is the food that comes for exactly k! of these indices
   pub sets : (s : List ℕ) → canRank t s ≡ true
       → countBelow (outcomes t) (λ i. sameList (afterDraw t i .food) (withFood (t .food) s)) ≡ factorial (drawSize t)
 
@@ -56,6 +58,21 @@ pub record Born (t : State) (i : ℕ) : Type 0 where
   pub cell : drawn t i ≡ getD (free t) i 0 ∷ []
   pub rank : rankOf t (getD (free t) i 0 ∷ []) ≡ i
 
+-- ---- of the calls
+
+-- a well-formed image with food due, and at most 2^64 - 1 outcomes
+pub record Countable (w : List ℕ) : Type 0 where
+  pub formed : wellFormed w ≡ true
+  pub due : 0 < dueIn w
+  pub fits : outcomes (stateOf w) ≤ 2 ^ 64 - 1
+
+-- of such an image an index below the count, with room for the image's words and k more, and for k cells
+pub record Drawable (w : List ℕ) (i : ℕ) (old list : List ℕ) : Type 0 where
+  pub countable : Countable w
+  pub below : i < outcomes (stateOf w)
+  pub room : length w + drawSize (stateOf w) ≤ length old
+  pub list-room : drawSize (stateOf w) ≤ length list
+
 -- a draw that is answered: the image and the list are the words that it says it wrote
 pub record DrawWrote (w : List ℕ) (i : ℕ) (image list : List ℕ) : Type 0 where
   pub old : List ℕ
@@ -69,13 +86,21 @@ pub record DrawWrote (w : List ℕ) (i : ℕ) (image list : List ℕ) : Type 0 w
   pub image-is : image ≡ take count new
   pub list-is : list ≡ take (answer .cells) cells
 
--- nothing changes but the food and what is due, which becomes 0; the food is the old food and the cells drawn
-pub record Changed (w image list : List ℕ) : Type 0 where
+-- l ranks as one index below P: what a draw of that index lists is l, and a draw that lists l is of that index
+pub record RanksAsOne (w l : List ℕ) (r : Number) : Type 0 where
+  pub index : ℕ
+  pub answer : r ≡ Value index
+  pub below : index < outcomes (stateOf w)
+  pub lists : (image list : List ℕ) → DrawWrote w index image list → list ≡ l
+  pub alone : (i : ℕ) (image : List ℕ) → DrawWrote w i image l → i ≡ index
+
+-- nothing changes but the food, which is the old food and the cells drawn, and what is due and whether it is birth, which then are due and birth
+pub record Changed (w image list : List ℕ) (due : ℕ) (birth : Bool) : Type 0 where
   pub side : stateOf image .side ≡ stateOf w .side
   pub snakes : stateOf image .snakes ≡ stateOf w .snakes
-  pub birth : stateOf image .birth ≡ stateOf w .birth
-  pub due : stateOf image .due ≡ 0
   pub food : stateOf image .food ≡ withFood (stateOf w .food) list
+  pub due-is : stateOf image .due ≡ due
+  pub birth-is : stateOf image .birth ≡ birth
 
 -- draw j of a chain: image j + 1 is what it wrote
 pub record Drawing (image : ℕ → List ℕ) (index : ℕ → ℕ) (j : ℕ) : Type 0 where

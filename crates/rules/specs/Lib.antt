@@ -1,5 +1,6 @@
+pub mod Tables
 pub mod Headings
-pub mod Places
+pub mod Grid
 pub mod State
 pub mod Image
 pub mod Facts

@@ -7,8 +7,8 @@ use lib.ListN.{length, getD}
 use lib.IntN.{ℤ, pos}
 use lib.Signed.{ltZ}
 use Rattle.lists.specs.Below.{someBelow}
-use Rattle.lists.specs.Tables.{Table}
-use Rattle.rules.specs.Places.{sameZ}
+use Rattle.rules.specs.Tables.{Table, by}
+use Rattle.rules.specs.Grid.{sameZ}
 use Rattle.rules.specs.State.{State, count, snakeOf}
 use Rattle.rules.specs.Image.{snakesIn, sideIn, dueIn, areaIn, imageOf, stateOf, wellFormed}
 use Rattle.rules.specs.Setting.{settingOrder, initialState}
@@ -22,13 +22,17 @@ use Rattle.rules.specs.declared.Weights.{Weights}
 -- 25 'a living snake's action above 2', 26 'agent not below n', 27 'outcome not below the count', 28 'count above 2^64 - 1', 29 'an output buffer shorter
 -- than its answer', 30 'list to rank: wrong length, a cell not free, or repeated', 31 'a reward weight not finite'; 1 to 12 stand in Setting
 
+-- what is asked of every image
+abbrev pub imageRows : List ℕ → Table
+imageRows w = (by 20, not (wellFormed w)) ∷ []
+
 -- 'Initial state: setting, 29'; room is the length of the lent buffer
 abbrev pub initialOrder : Setting → ℕ → Table
-initialOrder s room = settingOrder s ++ ((29, ltb room (length (imageOf (initialState s)))) ∷ [])
+initialOrder s room = settingOrder s ++ ((by 29, ltb room (length (imageOf (initialState s)))) ∷ [])
 
 -- 'n or g differs from the setting'
 abbrev pub differs : Setting → List ℕ → Bool
-differs s w = not (eqb (snakesIn w) (s .snakes)) || not (sameZ (pos (sideIn w)) (s .grid))
+differs s w = not (eqb (snakesIn w) (s .«num_snakes»)) || not (sameZ (pos (sideIn w)) (s .«grid_size»))
 
 -- 'a living snake's action above 2'; 'A dead snake's action may be any number'
 abbrev pub badAction : State → List ℕ → Bool
@@ -37,59 +41,56 @@ badAction t acts = someBelow (count t) (λ i. snakeOf t i .alive && ltb 2 (getD 
 -- 21, 22, 24, 25, asked of a well-formed image
 abbrev pub askedRows : Setting → List ℕ → List ℕ → Table
 askedRows s w acts =
-    (21, differs s w)
-    ∷ (22, ltb 0 (dueIn w))
-    ∷ (24, not (eqb (length acts) (snakesIn w)))
-    ∷ (25, badAction (stateOf w) acts)
+    (by 21, differs s w)
+    ∷ (by 22, ltb 0 (dueIn w))
+    ∷ (by 24, not (eqb (length acts) (snakesIn w)))
+    ∷ (by 25, badAction (stateOf w) acts)
     ∷ []
 
 -- what is asked before anything is judged
 abbrev pub askedOrder : Setting → List ℕ → List ℕ → Table
-askedOrder s w acts = settingOrder s ++ ((20, not (wellFormed w)) ∷ askedRows s w acts)
+askedOrder s w acts = settingOrder s ++ (imageRows w ++ askedRows s w acts)
 
 -- 'Step: setting, 20, 21, 22, 24, 25, 29'
 abbrev pub stepOrder : Setting → List ℕ → List ℕ → ℕ → Table
-stepOrder s w acts room = askedOrder s w acts ++ ((29, ltb room (length (imageOf (stepped s (stateOf w) acts .next)))) ∷ [])
+stepOrder s w acts room = askedOrder s w acts ++ ((by 29, ltb room (length (imageOf (stepped s (stateOf w) acts .next)))) ∷ [])
 
 -- 'Observation: 20, 26, 29'
 abbrev pub observeOrder : List ℕ → ℕ → ℕ → Table
-observeOrder w a room = (20, not (wellFormed w)) ∷ (26, not (ltb a (snakesIn w))) ∷ (29, ltb room (5 * areaIn w)) ∷ []
+observeOrder w a room = imageRows w ++ ((by 26, not (ltb a (snakesIn w))) ∷ (by 29, ltb room (5 * areaIn w)) ∷ [])
+
+-- 23 and 28, asked of a well-formed image
+abbrev pub dueRows : List ℕ → Table
+dueRows w = (by 23, eqb (dueIn w) 0) ∷ (by 28, ltb (2 ^ 64 - 1) (outcomes (stateOf w))) ∷ []
 
 -- 'Count: 20, 23, 28'
 abbrev pub countOrder : List ℕ → Table
-countOrder w = (20, not (wellFormed w)) ∷ (23, eqb (dueIn w) 0) ∷ (28, ltb (2 ^ 64 - 1) (outcomes (stateOf w))) ∷ []
+countOrder w = imageRows w ++ dueRows w
 
 -- 'Draw: 20, 23, 28, 27, 29'
 abbrev pub drawOrder : List ℕ → ℕ → ℕ → ℕ → Table
 drawOrder w i room listRoom =
-    (20, not (wellFormed w))
-    ∷ (23, eqb (dueIn w) 0)
-    ∷ (28, ltb (2 ^ 64 - 1) (outcomes (stateOf w)))
-    ∷ (27, not (ltb i (outcomes (stateOf w))))
-    ∷ (29, ltb room (length (imageOf (afterDraw (stateOf w) i))) || ltb listRoom (length (drawn (stateOf w) i)))
-    ∷ []
+    countOrder w
+    ++ ((by 27, not (ltb i (outcomes (stateOf w))))
+    ∷ (by 29, ltb room (length (imageOf (afterDraw (stateOf w) i))) || ltb listRoom (length (drawn (stateOf w) i)))
+    ∷ [])
 
 -- 'Rank: 20, 23, 28, 30'
 abbrev pub rankOrder : List ℕ → List ℕ → Table
-rankOrder w l =
-    (20, not (wellFormed w))
-    ∷ (23, eqb (dueIn w) 0)
-    ∷ (28, ltb (2 ^ 64 - 1) (outcomes (stateOf w)))
-    ∷ (30, not (canRank (stateOf w) l))
-    ∷ []
+rankOrder w l = countOrder w ++ ((by 30, not (canRank (stateOf w) l)) ∷ [])
 
 -- 'Actor, .. length cell: 20'
 abbrev pub imageOrder : List ℕ → Table
-imageOrder w = (20, not (wellFormed w)) ∷ []
+imageOrder w = imageRows w
 
 -- 'legal actions (then 26)'; 'Truncation: 20, 26'
 abbrev pub agentOrder : List ℕ → ℕ → Table
-agentOrder w a = (20, not (wellFormed w)) ∷ (26, not (ltb a (snakesIn w))) ∷ []
+agentOrder w a = imageRows w ++ ((by 26, not (ltb a (snakesIn w))) ∷ [])
 
 -- 'Reward: 31'
 abbrev pub rewardOrder : Weights → Table
-rewardOrder w = (31, not (allFinite w)) ∷ []
+rewardOrder w = (by 31, not (allFinite w)) ∷ []
 
 -- 'grid above 32 (space query: or below 1)'
 abbrev pub spaceOrder : ℤ → Table
-spaceOrder g = (5, ltZ (pos 32) g || ltZ g (pos 1)) ∷ []
+spaceOrder g = (by 5, ltZ (pos 32) g || ltZ g (pos 1)) ∷ []

@@ -6,7 +6,7 @@ use lib.Dec.{eqb}
 use lib.IntN.{ℤ, pos, _-ℤ_, _*ℤ_}
 use lib.Signed.{quotZ}
 use Rattle.lists.specs.Choice.{_if_else_}
-use Rattle.rules.specs.Places.{ahead, inside}
+use Rattle.rules.specs.Grid.{ahead, inside}
 use Rattle.rules.specs.declared.Heading.{Heading}
 use Rattle.rules.specs.declared.Heading.the-variants.{Up, Right, Down, Left}
 use Rattle.rules.specs.declared.Place.{Place}

@@ -24,7 +24,7 @@ rewardDead w e = plus (plus (w .step) (e .lost) (w .loss)) (e .drew) (w .draw)
 -- 'Else add food, kill, win, loss, survival in that order as flagged'
 abbrev pub rewardLiving : Weights → Event → Float
 rewardLiving w e =
-    plus (plus (plus (plus (plus (w .step) (e .ate) (w .food)) (e .killed) (w .kill)) (e .won) (w .win)) (e .lost) (w .loss)) (e .survived) (w .survival)
+    plus (plus (plus (plus (plus (w .step) (e .«ate_food») (w .food)) (e .«killed_opponent») (w .kill)) (e .won) (w .win)) (e .lost) (w .loss)) (e .«survived_to_max_ticks») (w .survival)
 
 unfoldable pub rewardOf : Weights → Event → Float
 rewardOf w e = rewardDead w e if e .died else rewardLiving w e

@@ -1,4 +1,4 @@
--- What an answer says in document 01's terms: a refusal's number, or the values that come. Assumes nothing.
+-- What an answer says in document 01's terms: a refusal, or the values that come. Assumes nothing.
 use Prim.Native.Nat.{ℕ, zero, suc}
 use mathlib.Core.Bool.{Bool, true, false}
 use mathlib.Core.List.{List, [], _∷_}
@@ -6,8 +6,9 @@ use mathlib.Core.Option.{Option, none, some}
 use lib.Ieee.{Float}
 use Rattle.lists.specs.Choice.{_if_else_}
 use Rattle.lists.specs.Lists.{overFront}
-use Rattle.lists.specs.Tables.{Table}
+use Rattle.rules.specs.Tables.{Table, by}
 use Rattle.rules.specs.declared.Event.{Event}
+use Rattle.rules.specs.declared.Refusal.{Refusal}
 use Rattle.rules.specs.declared.Verdict.{Verdict}
 use Rattle.rules.specs.declared.Verdict.the-variants.{Accepted, Refused as RefusedVerdict}
 use Rattle.rules.specs.declared.Answer.{Answer}
@@ -28,16 +29,16 @@ use Rattle.rules.specs.declared.Space.{Space}
 use Rattle.rules.specs.declared.Space.the-variants.{Box, Discrete, Refused as RefusedSpace}
 
 pub data Says (A : Type 0) : Type 0 where
-  refuses : ℕ → Says A
+  refuses : Refusal → Says A
   gives : A → Says A
 
 module _ {A : Type 0} where
   -- the refusal of that number, and r where the number is 0
   abbrev pub first : ℕ → Says A → Says A
   first zero r = r
-  first (suc k) r = refuses (suc k)
+  first (suc k) r = refuses (by (suc k))
 
-  -- the first row that holds refuses by its number; r where none does
+  -- the first row that holds refuses; r where none does
   unfoldable pub byTable : Table → Says A → Says A
   byTable [] r = r
   byTable (e ∷ es) r = let x = byTable es r in refuses (e .0) if e .1 else x

@@ -9,8 +9,8 @@ use lib.Signed.{ltZ}
 use Rattle.lists.specs.Below.{someBelow, eachBelow, concatBelow}
 use Rattle.lists.specs.Lists.{any}
 use Rattle.lists.specs.Products.{falling}
-use Rattle.lists.specs.Tables.{Table, fault}
-use Rattle.rules.specs.Places.{inside, same, cellOf}
+use Rattle.rules.specs.Tables.{Table, by, fault}
+use Rattle.rules.specs.Grid.{inside, same, cellOf}
 use Rattle.rules.specs.Placement.{placed, startHeading}
 use Rattle.rules.specs.State.{Snake, State}
 use Rattle.rules.specs.declared.Setting.{Setting}
@@ -33,7 +33,7 @@ sideOf (negsuc g) = 0
 
 -- 'g² (0 when g < 0)'
 abbrev pub areaOf : Setting → ℕ
-areaOf s = sideOf (s .grid) * sideOf (s .grid)
+areaOf s = sideOf (s .«grid_size») * sideOf (s .«grid_size»)
 
 -- 'product g²(g²-1).. of min(snakes, food) factors'
 abbrev pub worst : ℕ → ℕ → ℕ → ℕ
@@ -54,44 +54,44 @@ badCell g before (p ∷ ps) = let r = badCell g (p ∷ before) ps in cond (insid
 
 -- 6 'food above g² (0 when g < 0)', 7 'food above 10,000', 8 'product .. above 2^53': f food for n snakes on side g
 abbrev pub crowdOrder : ℕ → ℕ → ℕ → Table
-crowdOrder n g f = (6, ltb (g * g) f) ∷ (7, ltb 10000 f) ∷ (8, ltb (2 ^ 53) (worst n g f)) ∷ []
+crowdOrder n g f = (by 6, ltb (g * g) f) ∷ (by 7, ltb 10000 f) ∷ (by 8, ltb (2 ^ 53) (worst n g f)) ∷ []
 
 -- 1 'snakes not 2..8', 2 'initial length 0', 3 'food lead 0', 4 'food lead set, snakes not 2', 5 'grid above 32', and 6 to 8: the numbers of a setting
 abbrev pub limitsOrder : Setting → Table
 limitsOrder s =
-    (1, ltb (s .snakes) 2 || ltb 8 (s .snakes))
-    ∷ (2, eqb (s .size) 0)
-    ∷ (3, isZero (s .lead))
-    ∷ (4, isSet (s .lead) && not (eqb (s .snakes) 2))
-    ∷ (5, ltZ (pos 32) (s .grid))
-    ∷ crowdOrder (s .snakes) (sideOf (s .grid)) (s .food)
+    (by 1, ltb (s .«num_snakes») 2 || ltb 8 (s .«num_snakes»))
+    ∷ (by 2, eqb (s .«initial_length») 0)
+    ∷ (by 3, isZero (s .«win_food_lead»))
+    ∷ (by 4, isSet (s .«win_food_lead») && not (eqb (s .«num_snakes») 2))
+    ∷ (by 5, ltZ (pos 32) (s .«grid_size»))
+    ∷ crowdOrder (s .«num_snakes») (sideOf (s .«grid_size»)) (s .«initial_food_count»)
 
 -- 9 'some body cannot be traced to its length', 10 / 11 'first bad cell', 12 'food above the free cells': the places of n bodies of k, for f food
 abbrev pub placesOrder : ℤ → ℕ → ℕ → ℕ → Table
 placesOrder g n k f =
-    (9, someShort g n k)
-    ∷ (10, eqb (badCell g [] (allPlaced g n k)) 10)
-    ∷ (11, eqb (badCell g [] (allPlaced g n k)) 11)
-    ∷ (12, ltb (sideOf g * sideOf g - length (allPlaced g n k)) f)
+    (by 9, someShort g n k)
+    ∷ (by 10, eqb (badCell g [] (allPlaced g n k)) 10)
+    ∷ (by 11, eqb (badCell g [] (allPlaced g n k)) 11)
+    ∷ (by 12, ltb (sideOf g * sideOf g - length (allPlaced g n k)) f)
     ∷ []
 
 -- 'Setting: 1 to 12 as listed'
 abbrev pub settingOrder : Setting → Table
-settingOrder s = limitsOrder s ++ placesOrder (s .grid) (s .snakes) (s .size) (s .food)
+settingOrder s = limitsOrder s ++ placesOrder (s .«grid_size») (s .«num_snakes») (s .«initial_length») (s .«initial_food_count»)
 
 -- the number, and 0 for an accepted setting
 unfoldable pub settingCheck : Setting → ℕ
 settingCheck s = fault (settingOrder s)
 
 abbrev pub startSnake : Setting → ℕ → Snake
-startSnake s i = record { heading = startHeading i; alive = true; body = map (cellOf (sideOf (s .grid))) (placed (s .grid) (s .snakes) (s .size) i) }
+startSnake s i = record { heading = startHeading i; alive = true; body = map (cellOf (sideOf (s .«grid_size»))) (placed (s .«grid_size») (s .«num_snakes») (s .«initial_length») i) }
 
 -- 'At start food due = food, birth = food > 0'
 unfoldable pub initialState : Setting → State
 initialState s = record {
-  side = sideOf (s .grid);
-  due = s .food;
-  birth = ltb 0 (s .food);
-  snakes = eachBelow (s .snakes) (startSnake s);
+  side = sideOf (s .«grid_size»);
+  due = s .«initial_food_count»;
+  birth = ltb 0 (s .«initial_food_count»);
+  snakes = eachBelow (s .«num_snakes») (startSnake s);
   food = [];
 }

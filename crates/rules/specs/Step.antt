@@ -10,7 +10,7 @@ use Rattle.lists.specs.Choice.{_if_else_}
 use Rattle.lists.specs.Below.{someBelow, countBelow, eachBelow, lowestFrom}
 use Rattle.lists.specs.Lists.{keep, member}
 use Rattle.rules.specs.Headings.{turned, actionOf}
-use Rattle.rules.specs.Places.{ahead, inside, same, cellOf, placeOf}
+use Rattle.rules.specs.Grid.{ahead, inside, same, cellOf, placeOf}
 use Rattle.rules.specs.State.{Snake, State, nobody, count, snakeOf}
 use Rattle.rules.specs.Events.{dies, byBody}
 use Rattle.rules.specs.declared.Setting.{Setting}
@@ -43,11 +43,15 @@ onFood g food p = inside (pos g) p && member (cellOf g p) food
 abbrev pub goes : List ℕ → Heading → Place → Bool → Moved
 goes body h p e = record { moves = true; heading = h; head = p; rest = body if e else take (length body - 1) body; eats = e }
 
+-- where a head at cell c goes, heading h, on a grid of side g: nothing else here asks for a neighbour
+abbrev pub headTo : ℕ → Heading → ℕ → Place
+headTo g h c = ahead h (placeOf g c)
+
 -- snake z acts a, on a grid of side g with this food
 abbrev pub move : ℕ → List ℕ → Snake → ℕ → Moved
 move g food z a =
     let h = turned (z .heading) (actionOf a) in
-    let p = ahead h (placeOf g (getD (z .body) 0 0)) in
+    let p = headTo g h (getD (z .body) 0 0) in
     goes (z .body) h p (onFood g food p) if z .alive else stays z
 
 abbrev pub movedOf : State → List ℕ → ℕ → Moved
@@ -111,15 +115,15 @@ module _ (n : ℕ) (c : ℕ → Cause) (z : ℕ → Snake) where
 
   -- 'Terminal: at most one alive (none, with play_to_last), or' a lead
   abbrev pub isTerminal : Setting → Bool
-  isTerminal s = leb alive (0 if s .last else 1) || someBelow n (λ i. someBelow n (leads (s .lead) i))
+  isTerminal s = leb alive (0 if s .«play_to_last» else 1) || someBelow n (λ i. someBelow n (leads (s .«win_food_lead») i))
 
   -- 'One survivor and a death: it won'; 'then the longer won'
   abbrev pub wonBy : Setting → ℕ → Bool
-  wonBy s i = z i .alive && eqb alive 1 && ltb 0 deaths || someBelow n (leads (s .lead) i)
+  wonBy s i = z i .alive && eqb alive 1 && ltb 0 deaths || someBelow n (leads (s .«win_food_lead») i)
 
   -- 'Each casualty lost if anyone lives'; 'the other lost'
   abbrev pub lostBy : Setting → ℕ → Bool
-  lostBy s i = dies (c i) && ltb 0 alive || someBelow n (λ j. leads (s .lead) j i)
+  lostBy s i = dies (c i) && ltb 0 alive || someBelow n (λ j. leads (s .«win_food_lead») j i)
 
   -- 'drew if none lives and two or more died'
   abbrev pub drewBy : ℕ → Bool
@@ -128,14 +132,14 @@ module _ (n : ℕ) (c : ℕ → Cause) (z : ℕ → Snake) where
 -- the event of snake i; e says who ate
 abbrev pub eventOf : ℕ → (ℕ → ℕ) → (ℕ → Cause) → (ℕ → Snake) → (ℕ → Bool) → Setting → ℕ → Event
 eventOf n x c z e s i = record {
-  ate = e i;
+  «ate_food» = e i;
   died = dies (c i);
-  cause = c i;
-  killed = credited n x c z i;
+  «death_cause» = c i;
+  «killed_opponent» = credited n x c z i;
   won = wonBy n c z s i;
   lost = lostBy n c z s i;
   drew = drewBy n c z i;
-  survived = false;
+  «survived_to_max_ticks» = false;
 }
 
 -- apple a is eaten

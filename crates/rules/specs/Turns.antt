@@ -19,23 +19,23 @@ legalFor s a = 0 ∷ 1 ∷ 2 ∷ [] if snakeOf s a .alive && not (chanceActs s) 
 -- 'Truncation sets an event's survival flag to its agent's alive flag and changes nothing else'
 abbrev pub truncated : Event → Bool → Event
 truncated e b = record {
-  ate = e .ate;
+  «ate_food» = e .«ate_food»;
   died = e .died;
-  cause = e .cause;
-  killed = e .killed;
+  «death_cause» = e .«death_cause»;
+  «killed_opponent» = e .«killed_opponent»;
   won = e .won;
   lost = e .lost;
   drew = e .drew;
-  survived = b;
+  «survived_to_max_ticks» = b;
 }
 
 -- f is e but for its survival flag, which is b
 pub record OnlySurvival (e f : Event) (b : Bool) : Type 0 where
-  pub ate : f .ate ≡ e .ate
+  pub ate : f .«ate_food» ≡ e .«ate_food»
   pub died : f .died ≡ e .died
-  pub cause : f .cause ≡ e .cause
-  pub killed : f .killed ≡ e .killed
+  pub cause : f .«death_cause» ≡ e .«death_cause»
+  pub killed : f .«killed_opponent» ≡ e .«killed_opponent»
   pub won : f .won ≡ e .won
   pub lost : f .lost ≡ e .lost
   pub drew : f .drew ≡ e .drew
-  pub survived : f .survived ≡ b
+  pub survived : f .«survived_to_max_ticks» ≡ b

@@ -26,15 +26,15 @@ pub enum Limit {
     Is(u64),
 }
 
-// Snake of the Rust: num_snakes, grid_size, initial_length, play_to_last, win_food_lead, initial_food_count, max_ticks.
+// Snake of the Rust.
 pub struct Setting {
-    pub snakes: u64,
-    pub grid: i32,
-    pub size: u64,
-    pub last: bool,
-    pub lead: Limit,
-    pub food: u64,
-    pub ticks: Limit,
+    pub num_snakes: u64,
+    pub grid_size: i32,
+    pub initial_length: u64,
+    pub play_to_last: bool,
+    pub win_food_lead: Limit,
+    pub initial_food_count: u64,
+    pub max_ticks: Limit,
 }
 
 // DeathCause of the Rust, with no cause first: the blank one.
@@ -46,16 +46,16 @@ pub enum Cause {
     HeadOn,
 }
 
-// StepEvent of the Rust: ate_food, died, death_cause, killed_opponent, won, lost, drew, survived_to_max_ticks.
+// StepEvent of the Rust.
 pub struct Event {
-    pub ate: bool,
+    pub ate_food: bool,
     pub died: bool,
-    pub cause: Cause,
-    pub killed: bool,
+    pub death_cause: Cause,
+    pub killed_opponent: bool,
     pub won: bool,
     pub lost: bool,
     pub drew: bool,
-    pub survived: bool,
+    pub survived_to_max_ticks: bool,
 }
 
 // SnakeReward of the Rust.
@@ -69,17 +69,22 @@ pub struct Weights {
     pub survival: f64,
 }
 
-// ---- answers; Refused always holds the paper's number
+// ---- answers
+
+// Why a call refuses: the paper's number.
+pub struct Refusal {
+    pub number: u8,
+}
 
 pub enum Verdict {
     Accepted,
-    Refused(u8),
+    Refused(Refusal),
 }
 
 // How many words or numbers were written.
 pub enum Answer {
     Done(usize),
-    Refused(u8),
+    Refused(Refusal),
 }
 
 // A step's answer; on a refusal the match is not over and every event is blank.
@@ -98,36 +103,36 @@ pub struct Drawn {
 // A count of outcomes, or an index.
 pub enum Number {
     Value(u64),
-    Refused(u8),
+    Refused(Refusal),
 }
 
 pub enum LengthCell {
     Key(u64),
     NoKey,
-    Refused(u8),
+    Refused(Refusal),
 }
 
 pub enum Actor {
     Chance,
     Simultaneous,
-    Refused(u8),
+    Refused(Refusal),
 }
 
 // Actions 0, 1 and 2, or none.
 pub enum Legal {
     AnyAction,
     NoAction,
-    Refused(u8),
+    Refused(Refusal),
 }
 
 pub enum Truncated {
     Marked(Event),
-    Refused(u8),
+    Refused(Refusal),
 }
 
 pub enum Reward {
     Sum(f64),
-    Refused(u8),
+    Refused(Refusal),
 }
 
 pub enum Space {
@@ -139,5 +144,5 @@ pub enum Space {
         high: f32,
     },
     Discrete(usize),
-    Refused(u8),
+    Refused(Refusal),
 }

@@ -39,18 +39,18 @@ fn of_dead(w: Weights, e: Event) -> f64
 fn of_living(w: Weights, e: Event) -> f64
     ensures { λ r. ⌜ r ≡ rewardLiving w e ⌝ }
 {
-    let x = added(w.step, e.ate, w.food);
-    let x = added(x, e.killed, w.kill);
+    let x = added(w.step, e.ate_food, w.food);
+    let x = added(x, e.killed_opponent, w.kill);
     let x = added(x, e.won, w.win);
     let x = added(x, e.lost, w.loss);
-    added(x, e.survived, w.survival)
+    added(x, e.survived_to_max_ticks, w.survival)
 }
 
 pub fn reward(weights: Weights, event: Event) -> Reward
     ensures { λ r. ⌜ Rewards weights event r ⌝ }
 {
     if !all_finite(weights) {
-        return Reward::Refused(31);
+        return Reward::Refused(refusals::by(31));
     }
     if event.died {
         return Reward::Sum(of_dead(weights, event));

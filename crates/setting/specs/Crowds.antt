@@ -1,6 +1,6 @@
 -- Refusals 6 to 8 over just what they depend on. Assumes nothing.
 use Prim.Native.Nat.{ℕ}
-use Rattle.lists.specs.Tables.{fault}
+use Rattle.rules.specs.Tables.{fault}
 use Rattle.rules.specs.Setting.{crowdOrder}
 
 abbrev pub crowdCheck : ℕ → ℕ → ℕ → ℕ

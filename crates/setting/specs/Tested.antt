@@ -3,8 +3,14 @@ use Prim.Native.Nat.{ℕ}
 use mathlib.Core.Path.{_≡_}
 use mathlib.Core.List.{List}
 use Rattle.lists.specs.Lists.{writeAt}
+use Rattle.rules.specs.Says.{first, gives, saysVerdict}
+use Rattle.rules.specs.declared.Verdict.{Verdict}
 
 -- the number that is given, and the cells of all bodies where it is 0
 pub record Tested (number : ℕ) (cells old new : List ℕ) (r : ℕ) : Type 0 where
   pub says : r ≡ number
   pub words : r ≡ 0 → new ≡ writeAt old 0 cells
+
+-- the verdict of a number: 0 accepts
+pub record Verdicts (number : ℕ) (r : Verdict) : Type 0 where
+  pub says : saysVerdict r ≡ first number (gives tt)

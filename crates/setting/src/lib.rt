@@ -3,6 +3,7 @@ mod limits;
 mod place;
 mod start;
 
+use layout::front;
 use limits::limits;
 use limits::side_of;
 use place::place_check;
@@ -15,9 +16,9 @@ ghost use mathlib.Core.Path.{_≡_};
 ghost use lib.ListN.{length};
 ghost use Rattle.rules.specs.Setting.{settingCheck};
 ghost use Rattle.rules.specs.SettingParts.{startCells};
-ghost use Rattle.rules.specs.Says.{first, gives, saysVerdict};
 ghost use Rattle.rules.specs.Promises.{Validates, Starts};
-ghost use Rattle.setting.specs.Tested.{Tested};
+ghost use Rattle.setting.specs.Starts.{Startable};
+ghost use Rattle.setting.specs.Tested.{Tested, Verdicts};
 
 // 0 where the setting is accepted, and then the cells of all bodies stand at the front of `cells`.
 fn check(setting: Setting, cells: &mut [u16]) -> u8
@@ -32,12 +33,12 @@ fn check(setting: Setting, cells: &mut [u16]) -> u8
 }
 
 fn verdict(number: u8) -> Verdict
-    ensures { λ r. ⌜ saysVerdict r ≡ first number (gives tt) ⌝ }
+    ensures { λ r. ⌜ Verdicts number r ⌝ }
 {
     if number == 0 {
         return Verdict::Accepted;
     }
-    Verdict::Refused(number)
+    Verdict::Refused(refusals::by(number))
 }
 
 pub fn validate(setting: Setting) -> Verdict
@@ -45,25 +46,24 @@ pub fn validate(setting: Setting) -> Verdict
 {
     let number = limits(setting);
     if number != 0 {
-        return Verdict::Refused(number);
+        return Verdict::Refused(refusals::by(number));
     }
     verdict(place_number(setting))
 }
 
 // The words of the initial state of an accepted setting; `cells` are the cells of its bodies.
 fn write_state(setting: Setting, cells: &[u16], out: &mut [u16]) -> Answer
-    requires { ⌜ settingCheck setting ≡ 0 ⌝ }
-    requires { ⌜ now cells ≡ startCells setting ⌝ }
+    requires { ⌜ Startable setting (now cells) ⌝ }
     ensures { λ r. ⌜ Starts setting (now (out .entry)) (now (out .exit)) r ⌝ }
 {
-    let n = setting.snakes as usize;
-    let size = setting.size as usize;
-    let words = 5 + 4 * n + cells.len();
+    let n = setting.num_snakes as usize;
+    let size = setting.initial_length as usize;
+    let words = front(n) + cells.len();
     if out.len() < words {
-        return Answer::Refused(29);
+        return Answer::Refused(refusals::by(29));
     }
-    let g = side_of(setting.grid) as usize;
-    write_start(out, n, g, setting.food as usize, size, cells);
+    let g = side_of(setting.grid_size) as usize;
+    write_start(out, n, g, setting.initial_food_count as usize, size, cells);
     Answer::Done(words)
 }
 
@@ -73,8 +73,8 @@ pub fn initial_state(setting: Setting, out: &mut [u16]) -> Answer
     let mut cells = [0u16; 1024];
     let number = check(setting, &mut cells);
     if number != 0 {
-        return Answer::Refused(number);
+        return Answer::Refused(refusals::by(number));
     }
-    let total = setting.snakes as usize * setting.size as usize;
+    let total = setting.num_snakes as usize * setting.initial_length as usize;
     write_state(setting, &cells[0..total], out)
 }

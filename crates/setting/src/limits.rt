@@ -67,11 +67,11 @@ fn crowded(n: u64, side: u64, food: u64) -> u8
 pub fn limits(setting: Setting) -> u8
     ensures { λ r. ⌜ r ≡ limitsCheck setting ⌝ }
 {
-    let n = setting.snakes;
-    let size = setting.size;
-    let lead = setting.lead;
-    let grid = setting.grid;
-    let food = setting.food;
+    let n = setting.num_snakes;
+    let size = setting.initial_length;
+    let lead = setting.win_food_lead;
+    let grid = setting.grid_size;
+    let food = setting.initial_food_count;
     if (n < 2) | (8 < n) {
         return 1;
     }

@@ -10,7 +10,7 @@ ghost use lib.ListN.{length};
 ghost use Rattle.lists.specs.Choice.{_if_else_};
 ghost use Prim.Native.Nat.{_-_, _≤_};
 ghost use Rattle.lists.specs.Below.{concatBelow};
-ghost use Rattle.lists.specs.Boards.{Under};
+ghost use Rattle.boards.specs.Boards.{Under};
 ghost use Rattle.lists.specs.Lists.{distinct};
 ghost use Rattle.rules.specs.SettingParts.{placeCheck, cellsOf, startCells, Limited};
 ghost use Rattle.placement.specs.Traces.{Traceable};
@@ -22,7 +22,7 @@ fn all_new(cells: &[u16]) -> bool
     ensures { λ r. ⌜ r ≡ distinct (now (cells .entry)) ⌝ }
 {
     let mut board = [0u8; 1024];
-    image::stamps_once(cells, &mut board, 1)
+    boards::stamps_once(cells, &mut board, 1)
 }
 
 // Refusal 12: what the bodies leave of the area is less than the food.
@@ -66,31 +66,31 @@ fn beyond(reach: u64, size: u64) -> u8
 pub fn place_check(setting: Setting, cells: &mut [u16]) -> u8
     requires { ⌜ Limited setting ⌝ }
     requires { ⌜ length (now cells) ≡ 1024 ⌝ }
-    ensures { λ r. ⌜ Tested (placeCheck (setting .grid) (setting .snakes) (setting .size) (setting .food)) (startCells setting) (now (cells .entry)) (now (cells .exit)) r ⌝ }
+    ensures { λ r. ⌜ Tested (placeCheck (setting .«grid_size») (setting .«num_snakes») (setting .«initial_length») (setting .«initial_food_count»)) (startCells setting) (now (cells .entry)) (now (cells .exit)) r ⌝ }
 {
-    let grid = setting.grid;
-    let size = setting.size;
+    let grid = setting.grid_size;
+    let size = setting.initial_length;
     if grid < 2 {
         return beyond(1, size);
     }
     if grid < 3 {
         return beyond(3, size);
     }
-    let n = setting.snakes as u16;
-    let food = setting.food as usize;
-    judge(cells, places::plain(grid), n, size as usize, food)
+    let n = setting.num_snakes as u16;
+    let food = setting.initial_food_count as usize;
+    judge(cells, grid::plain(grid), n, size as usize, food)
 }
 
 // The same where no cell is asked for: bodies below the span need no trace.
 pub fn place_number(setting: Setting) -> u8
     requires { ⌜ Limited setting ⌝ }
-    ensures { λ r. ⌜ r ≡ placeCheck (setting .grid) (setting .snakes) (setting .size) (setting .food) ⌝ }
+    ensures { λ r. ⌜ r ≡ placeCheck (setting .«grid_size») (setting .«num_snakes») (setting .«initial_length») (setting .«initial_food_count») ⌝ }
 {
-    let n = setting.snakes;
-    let g = side_of(setting.grid);
-    let size = setting.size;
+    let n = setting.num_snakes;
+    let g = side_of(setting.grid_size);
+    let size = setting.initial_length;
     if size < span(g, n) {
-        return full(g * g, n * size, setting.food);
+        return full(g * g, n * size, setting.initial_food_count);
     }
     let mut cells = [0u16; 1024];
     place_check(setting, &mut cells)

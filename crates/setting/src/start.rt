@@ -1,16 +1,16 @@
 // The initial state, written as an image.
+use layout::front;
+use layout::start_at;
 use rules::Heading;
 ghost use mathlib.Core.Path.{_≡_};
 ghost use mathlib.Core.List.{[], _∷_, _++_};
-ghost use Prim.Native.Nat.{_+_, _*_, _≤_};
 ghost use lib.Dec.{ltb};
-ghost use lib.ListN.{length};
 ghost use Rattle.lists.specs.Choice.{bit};
 ghost use Rattle.lists.specs.Below.{concatBelow};
 ghost use Rattle.lists.specs.Lists.{writeAt};
 ghost use Rattle.rules.specs.Placement.{startHeading};
 ghost use Rattle.rules.specs.SettingParts.{startRecord};
-ghost use Rattle.setting.specs.Starts.{Room};
+ghost use Rattle.setting.specs.Starts.{RecordRoom, RecordsWritten, Room};
 
 fn start_heading(i: usize) -> Heading
     ensures { λ r. ⌜ r ≡ startHeading i ⌝ }
@@ -22,15 +22,15 @@ fn start_heading(i: usize) -> Heading
 }
 
 fn write_records(out: &mut [u16], n: usize, size: usize)
-    requires { ⌜ (5 + 4 * n ≤ length (now out)) × (n ≤ 8) × (size ≤ 1024) ⌝ }
-    ensures { λ _. ⌜ now (out .exit) ≡ writeAt (now (out .entry)) 5 (concatBelow n (startRecord n size)) ⌝ }
+    requires { ⌜ RecordRoom n size (now out) ⌝ }
+    ensures { λ _. ⌜ RecordsWritten n size n (now (out .entry)) (now (out .exit)) ⌝ }
 {
     let mut i = 0;
     while i < n {
         image::write_record(
             out,
-            5 + 4 * i,
-            5 + 4 * n + size * i,
+            start_at(i),
+            front(n) + size * i,
             size,
             start_heading(i),
             true,
@@ -46,5 +46,5 @@ pub fn write_start(out: &mut [u16], n: usize, g: usize, food: usize, size: usize
 {
     image::write_contents(out, n, g, food, 0 < food, 0);
     write_records(out, n, size);
-    lists::write_at(out, 5 + 4 * n, cells);
+    lists::write_at(out, front(n), cells);
 }

@@ -1,3 +1,3 @@
-pub mod Places
+pub mod Placings
 pub mod Shown
 pub mod Standing

@@ -9,7 +9,7 @@ use Rattle.rules.specs.Events.{blank}
 use Rattle.rules.specs.Turns.{truncated}
 use Rattle.rules.specs.Image.{word, dueIn, foodCountIn, startAt, lengthAt, aliveAt}
 use Rattle.rules.specs.declared.Event.{Event}
-use Rattle.letters.specs.Text.{bodyText, eventsText, headText}
+use Rattle.printing.specs.Text.{bodyText, eventsText, headText}
 
 unfoldable pub snakeShown : List ℕ → ℕ → Event → List ℕ
 snakeShown w i e = bodyText (eqb (aliveAt w i) 1) (lengthAt w i) (word w (startAt w i)) ++ (58 ∷ []) ++ eventsText e

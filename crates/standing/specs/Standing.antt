@@ -10,13 +10,13 @@ use Rattle.rules.specs.Events.{blank}
 use Rattle.rules.specs.declared.Limit.{Limit}
 use Rattle.rules.specs.declared.Limit.the-variants.{Unset, Is}
 use Rattle.rules.specs.declared.Event.{Event}
-use Rattle.letters.specs.Text.{placesText}
-use Rattle.standing.specs.Places.{placesOf}
+use Rattle.printing.specs.Text.{placingsText}
+use Rattle.standing.specs.Placings.{placingsOf}
 use Rattle.standing.specs.declared.Match.{Match}
 
 -- no accepted setting has more than eight snakes
 abbrev pub snakesOf : Match → ℕ
-snakesOf m = 8 if ltb 8 (m .setting .snakes) else m .setting .snakes
+snakesOf m = 8 if ltb 8 (m .setting .«num_snakes») else m .setting .«num_snakes»
 
 -- one move more; 2^64 - 1 of them are never made
 abbrev pub counted : ℕ → ℕ
@@ -29,7 +29,7 @@ reached (Is most) k = leb most k
 
 -- 'After a move that is not terminal'
 abbrev pub endsBy : Match → Bool → Bool
-endsBy m over = not over && reached (m .setting .ticks) (counted (m .moves))
+endsBy m over = not over && reached (m .setting .«max_ticks») (counted (m .moves))
 
 -- the move on which a snake died: this one, k, for those that die on it
 abbrev pub deathAt : ℕ → List ℕ → List Event → ℕ → ℕ
@@ -49,4 +49,4 @@ moved m over es = record {
 
 -- '`p` and each place'
 unfoldable pub endText : Match → List ℕ
-endText m = placesText (placesOf (snakesOf m) (m .deaths)) (snakesOf m)
+endText m = placingsText (placingsOf (snakesOf m) (m .deaths)) (snakesOf m)

@@ -1,6 +1,6 @@
-// How a match stands: the moves made, who died when, its end and its places; and the line that shows an image.
+// How a match stands: the moves made, who died when, its end and its placings; and the line that shows an image.
 mod moves;
-mod ranks;
+mod placings;
 mod shown;
 
 pub use moves::after_move;

@@ -1,10 +1,11 @@
 // The match as a value: what a move makes of it, which events its line shows, and its last line.
 use crate::Match;
-use crate::ranks::places;
+use crate::placings::placings;
 use events::mark;
 use events::no_events;
-use letters::put_places;
+use layout::alive_at;
 use lists::word_at;
+use printing::put_placings;
 use rules::Event;
 use rules::Limit;
 ghost use mathlib.Core.Path.{_≡_};
@@ -13,7 +14,7 @@ ghost use lib.ListN.{length};
 ghost use Rattle.lists.specs.Choice.{_if_else_};
 ghost use Rattle.lists.specs.Below.{filled};
 ghost use Rattle.rules.specs.Events.{blank};
-ghost use Rattle.letters.specs.Text.{Wrote};
+ghost use Rattle.printing.specs.Text.{Wrote};
 ghost use Rattle.standing.specs.Shown.{markShown};
 ghost use Rattle.standing.specs.Standing.{snakesOf, counted, reached, endsBy, deathsAfter, moved, endText};
 
@@ -22,7 +23,7 @@ pub fn snakes_of(m: Match) -> usize
     ensures { λ r. ⌜ (r ≡ snakesOf m) × (r ≤ 8) ⌝ }
 {
     let s = m.setting;
-    let n = s.snakes;
+    let n = s.num_snakes;
     if 8 < n {
         return 8;
     }
@@ -53,7 +54,7 @@ pub fn ends_by(m: Match, over: bool) -> bool
     ensures { λ r. ⌜ r ≡ endsBy m over ⌝ }
 {
     let s = m.setting;
-    let ticks = s.ticks;
+    let ticks = s.max_ticks;
     !over & has_reached(ticks, count_on(m.moves))
 }
 
@@ -66,7 +67,7 @@ pub fn mark_all(image: &[u16], events: [Event; 8], n: usize) -> [Event; 8]
     let mut i = 0;
     while i < n {
         let e = events[i];
-        out[i] = mark(e, word_at(image, 8 + 4 * i) == 1);
+        out[i] = mark(e, word_at(image, alive_at(i)) == 1);
         i += 1;
     }
     out
@@ -108,13 +109,13 @@ pub fn after_move(m: Match, over: bool, events: [Event; 8]) -> Match
     }
 }
 
-// The last line: the places.
+// The last line: the placings.
 pub fn put_end(out: &mut [u8], m: Match) -> usize
     requires { ⌜ 170 ≤ length (now out) ⌝ }
     ensures { λ r. ⌜ Wrote (now (out .entry)) (now (out .exit)) 0 r (endText m) 170 ⌝ }
 {
     let n = snakes_of(m);
     let deaths = m.deaths;
-    let all = places(deaths, n);
-    put_places(out, all, n)
+    let all = placings(deaths, n);
+    put_placings(out, all, n)
 }

@@ -1,16 +1,19 @@
 // An output line of the words of an image. Words past its end read as 0, so that nothing is asked of the image.
-use letters::put;
-use letters::put_body;
-use letters::put_events;
-use letters::put_head;
+use layout::alive_at;
+use layout::length_at;
+use layout::start_at;
 use lists::word_at;
+use printing::put;
+use printing::put_body;
+use printing::put_events;
+use printing::put_head;
 use rules::Event;
 ghost use mathlib.Core.Path.{_≡_};
 ghost use Prim.Native.Nat.{_+_, _*_, _<_, _≤_};
 ghost use lib.ListN.{length};
 ghost use Rattle.lists.specs.Below.{concatBelow};
 ghost use Rattle.rules.specs.Image.{word};
-ghost use Rattle.letters.specs.Text.{Wrote};
+ghost use Rattle.printing.specs.Text.{Wrote};
 ghost use Rattle.standing.specs.Shown.{snakeShown, snakeShownBy, lineShown};
 
 // The first word of the body of snake i.
@@ -18,7 +21,7 @@ fn first_of(image: &[u16], i: usize) -> u64
     requires { ⌜ i < 8 ⌝ }
     ensures { λ r. ⌜ r ≡ word (now (image .entry)) (word (now (image .entry)) (5 + 4 * i)) ⌝ }
 {
-    let start = word_at(image, 5 + 4 * i) as usize;
+    let start = word_at(image, start_at(i)) as usize;
     word_at(image, start)
 }
 
@@ -26,8 +29,8 @@ fn put_snake(out: &mut [u8], at: usize, image: &[u16], i: usize, e: Event) -> us
     requires { ⌜ (i < 8) × (at + 52 ≤ length (now out)) ⌝ }
     ensures { λ r. ⌜ Wrote (now (out .entry)) (now (out .exit)) at r (snakeShown (now (image .entry)) i e) 52 ⌝ }
 {
-    let size = word_at(image, 6 + 4 * i);
-    let alive = word_at(image, 8 + 4 * i) == 1;
+    let size = word_at(image, length_at(i));
+    let alive = word_at(image, alive_at(i)) == 1;
     let j = put_body(out, at, alive, size, first_of(image, i));
     let k = put(out, j, b':');
     put_events(out, k, e)

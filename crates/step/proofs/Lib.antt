@@ -1,6 +1,7 @@
 mod Left
 mod Words
+mod Turns
 mod Room
 mod Link
 mod Follows
-mod Asked
+pub mod Refusals

@@ -8,21 +8,24 @@ use lib.ListN.{length, replicate}
 use Rattle.lists.specs.Choice.{_if_else_}
 use Rattle.rules.specs.declared.Stepped.{Stepped}
 use Rattle.rules.specs.Events.{blank, eight}
-use Rattle.rules.specs.Image.{snakesIn, sideIn, imageOf}
+use Rattle.rules.specs.Grid.{cellOf}
+use Rattle.rules.specs.Image.{snakesIn, sideIn, startAt, imageOf}
+use Rattle.rules.specs.Tables.{by}
 use Rattle.rules.specs.Says.{Says, refuses, gives, seen, beside, lent, says}
 use Rattle.rules.specs.Step.{causeOf, Transition}
 use Rattle.judge.specs.declared.Judged.{Judged}
 use Rattle.judge.specs.World.{movesOf, causesOf, judgedWorld}
 
--- a judged array: each cause is that of the world it holds, each rest is a part of the image, no longer than a body
+-- a judged array: each cause is that of the world it holds, each cell that of its head, each rest is a part of the image, no longer than a body
 pub record Ready (w : List ℕ) (js : List Judged) : Type 0 where
   pub causes : (i : ℕ) → i < snakesIn w → causesOf js i ≡ causeOf (sideIn w) (snakesIn w) (judgedWorld w js) i
-  pub parts : (i : ℕ) → i < snakesIn w → movesOf js i .start + movesOf js i .keep ≤ length w
+  pub cells : (i : ℕ) → i < snakesIn w → movesOf js i .cell ≡ cellOf (sideIn w) (movesOf js i .head)
+  pub parts : (i : ℕ) → i < snakesIn w → startAt w i + movesOf js i .keep ≤ length w
   pub short : (i : ℕ) → i < snakesIn w → movesOf js i .keep ≤ 1024
 
 -- 29 is the last refusal of a step
 abbrev pub roomFor : Transition → ℕ → Says Transition
-roomFor o room = refuses 29 if ltb room (length (imageOf (o .next))) else gives o
+roomFor o room = refuses (by 29) if ltb room (length (imageOf (o .next))) else gives o
 
 pub record Applied (o : Transition) (old new : List ℕ) (r : Stepped) : Type 0 where
   pub answer : says (r .answer) ≡ seen (λ o. length (imageOf (o .next))) (roomFor o (length old))

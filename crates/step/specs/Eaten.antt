@@ -12,6 +12,15 @@ use Rattle.step.specs.declared.food.Eaten.{Eaten}
 abbrev pub bite : List After → ℕ → List ℕ
 bite all i = cells all i ∷ [] if eating all i else []
 
+-- what the first i snakes ate: the first `count` of the cells
+pub record EatenTo (all : List After) (n i : ℕ) (cells : List ℕ) (count : ℕ) : Type 0 where
+  pub few : n ≤ 8
+  pub along : i ≤ n
+  pub fewer : count ≤ i
+  pub long : length cells ≡ 8
+  pub so-far : take count cells ≡ concatBelow i (bite all)
+  pub counted : count ≡ countBelow i (eating all)
+
 pub record EatenAre (all : List After) (n : ℕ) (r : Eaten) : Type 0 where
   pub cells : take (r .count) (r .cells) ≡ concatBelow n (bite all)
   pub count : r .count ≡ countBelow n (eating all)

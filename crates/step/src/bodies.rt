@@ -2,7 +2,7 @@
 use consequences::After;
 use consequences::size_of;
 ghost use mathlib.Core.Path.{_≡_};
-ghost use Prim.Native.Nat.{_+_, _*_, _<_, _≤_};
+ghost use Prim.Native.Nat.{_+_, _<_, _≤_};
 ghost use lib.ListN.{length};
 ghost use Rattle.lists.specs.Below.{concatBelow};
 ghost use Rattle.lists.specs.Lists.{writeAt};
@@ -17,36 +17,29 @@ pub fn write_records(out: &mut [u16], all: [After; 8], n: usize)
     requires { ⌜ Short all ⌝ }
     ensures { λ _. ⌜ now (out .exit) ≡ writeAt (now (out .entry)) 5 (concatBelow n (recordIn n all)) ⌝ }
 {
-    let mut start = 5 + 4 * n;
+    let mut start = layout::front(n);
     let mut i = 0;
     while i < n {
         let a = all[i];
         let heading = a.heading;
         let len = size_of(a);
-        image::write_record(out, 5 + 4 * i, start, len, heading, a.lives);
+        image::write_record(out, layout::start_at(i), start, len, heading, a.lives);
         start += len;
         i += 1;
     }
 }
 
 pub fn write_bodies(out: &mut [u16], from: usize, image: &[u16], all: [After; 8], n: usize) -> usize
-    requires { ⌜ (n ≤ 8) × (from + length (concatBelow n (bodyIn (now image) all)) ≤ length (now out)) ⌝ }
-    requires { ⌜ InImage (now image) all ⌝ }
+    requires { ⌜ from + length (concatBelow n (bodyIn (now image) all)) ≤ length (now out) ⌝ }
+    requires { ⌜ InImage (now image) all n ⌝ }
     ensures { λ r. ⌜ Written (now (out .entry)) from (concatBelow n (bodyIn (now (image .entry)) all)) (now (out .exit)) r ⌝ }
 {
     let mut at = from;
     let mut i = 0;
     while i < n {
         let a = all[i];
-        at = image::write_body(
-            out,
-            at,
-            image,
-            a.start as usize,
-            a.keep as usize,
-            a.cell,
-            a.lives,
-        );
+        let start = image[layout::start_at(i)] as usize;
+        at = image::write_body(out, at, image, start, a.keep as usize, a.cell, a.lives);
         i += 1;
     }
     at

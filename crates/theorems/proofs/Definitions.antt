@@ -46,7 +46,7 @@ use Rattle.rules.specs.declared.Space.the-variants.{Box, Discrete}
 use Rattle.rules.proofs.Answers.{answer-one, verdict-one, number-one, mark-one, sum-one, space-one}
 use denote.Ref.{RefT}
 use Rattle.image.specs.Memory.{wordPlace, startAsked}
-use Rattle.lists.specs.Tables.{Table, noneHold}
+use Rattle.rules.specs.Tables.{Table, noneHold}
 use Rattle.rules.specs.Orders.{initialOrder, stepOrder, observeOrder, countOrder, drawOrder, rankOrder, imageOrder, agentOrder, rewardOrder, spaceOrder}
 use Rattle.rules.proofs.Tables.{table-gives}
 use Rattle.theorems.specs.Answers.{StepIs, DrawIs}

@@ -19,7 +19,7 @@ use Rattle.lists.proofs.Order.{ascending-distinct}
 use Rattle.lists.proofs.Blocks.{keep-without, keep-ext}
 use Rattle.lists.proofs.Shorter.{keep-all}
 use Rattle.lists.proofs.Members.{not-in-without}
-use Rattle.rules.specs.Places.{inside, same, cellOf}
+use Rattle.rules.specs.Grid.{inside, same, cellOf}
 use Rattle.rules.specs.State.{Snake, State, nobody, count, snakeOf}
 use Rattle.rules.specs.Events.{dies}
 use Rattle.rules.specs.Step.{Moved, stays, onFood, goes, movedOf, another, onBody, causeOf, ateNow, eatenBy, transitionOf, stepped}
@@ -28,7 +28,7 @@ use Rattle.rules.specs.declared.Place.{Place}
 use Rattle.rules.specs.declared.Setting.{Setting}
 use Rattle.rules.specs.declared.Cause.{Cause}
 use Rattle.rules.specs.declared.Cause.the-variants.{NoCause, Wall, SelfBody, OppBody, HeadOn}
-use Rattle.rules.proofs.Places.{same-cell}
+use Rattle.rules.proofs.Grid.{same-cell}
 use Rattle.rules.proofs.StepFacts.{survivor-clear}
 
 skipped : (b t z : Bool) → t ≡ false → not (b || (t && z)) ≡ not b

@@ -4,26 +4,21 @@
 pub use Rattle.theorems.proofs.Refusals.{setting-order, initial-order, step-order, observe-order, count-order, draw-order, rank-order, image-order, agent-order, reward-order, space-order}
 -- Demand 1: a table refuses by the number of its first row that holds, and by no other
 pub use Rattle.rules.proofs.Tables.{table-gives, table-refuses, table-first}
--- Demand 1: so a call's refusal has that number
-pub use Rattle.theorems.proofs.Refusals.{validate-number, initial-number, step-number, observe-number, count-number, draw-number, rank-number, actor-number, legal-number, key-number, truncation-number, reward-number, space-number}
+-- Demand 1: so a call is refused by k if and only if k is the number of its table's first row that holds
+pub use Rattle.theorems.specs.Answers.{RefusedBy}
+pub use Rattle.theorems.proofs.Refusals.{validate-refused, initial-refused, step-refused, observe-refused, count-refused, draw-refused, rank-refused, actor-refused, legal-refused, key-refused, truncation-refused, reward-refused, space-refused}
 -- Demand 1: a refusal leaves every lent word, both buffers of a draw
 pub use Rattle.theorems.proofs.Refusals.{initial-untouched, step-untouched, observe-untouched, draw-untouched}
 -- Demand 1: an answer is a count of words, and the words after them keep their values
 pub use Rattle.theorems.proofs.Refusals.{initial-after, step-after, observe-after, draw-after}
--- Demand 1: the setting's number where its fields are at their ends
-pub use Rattle.rules.proofs.Extremes.{over-itself, traced-first, last-length, lowest-grid, lowest-grid-many, lowest-grid-fed, no-grid, no-grid-long, lowest-grid-longest, highest-grid, longest, most-snakes, most-food, largest-lead, no-snakes, no-length, no-lead, lead-of-three, first-large-grid}
 -- Demand 2: where no row holds, each call answers what its definition says
 pub use Rattle.theorems.proofs.Definitions.{turn-is, check-is, body-is, validate-is, initial-is, step-is, observe-is, count-is, draw-is, rank-is, actor-is, legal-is, key-is, truncation-is, reward-is, space-is, action-space-is}
--- Demand 2: document 01's twelve examples, one table; a second one for the rules that they do not pin
+-- Demand 2: document 01's twelve examples, one table; a second one for wrong definitions that neither they nor a law shuts out
 pub use Rattle.rules.proofs.Examples.{examples-hold, more-hold}
--- Demand 2: its sample match
-pub use Rattle.theorems.proofs.Cases.{sample-holds}
--- Demand 2: where the replay is subtle, input and output as one table
-pub use Rattle.theorems.proofs.Cases.{cases-hold}
 -- Demand 2: what a program prints that takes the lines of its input one by one is the replay of that input
 pub use Rattle.referee.proofs.Whole.{run-prints}
--- Demand 2: what the reader gives to print, part by part of what is read, is the replay of all that is read
-pub use Rattle.reader.proofs.Printed.{reader-prints}
+-- Demand 2: what the stream gives to print, part by part of what is read, is the replay of all that is read
+pub use Rattle.stream.proofs.Printed.{stream-prints}
 -- Demand 2: the cell ahead shows above the head, for each heading
 pub use Rattle.rules.proofs.View.{ahead-above}
 -- Demand 2: a corpse changes no one's fate; a casualty that lost has someone alive
@@ -38,15 +33,21 @@ pub use Rattle.agent.proofs.Theorems.{only-survival}
 -- Demand 3, of the definitions: free cells, count, one to one, rank, k! indices a set; what a draw changes, at birth too
 pub use Rattle.rules.specs.Fair.{Fair}
 pub use Rattle.rules.proofs.Fairness.{fair, settled, born, born-full}
--- Demand 3, of the calls' answers: the count is P; an index draws k different free cells; a draw is undone by its rank and a rank by its draw
-pub use Rattle.rules.proofs.FairCalls.{count-answers, list-fair, rank-answers, rank-back, list-forth, list-one}
--- Demand 3, of the calls' answers: each set of k free cells comes of exactly k! indices, and nothing else changes
-pub use Rattle.rules.proofs.FairCalls.{sets-fair, draw-changes}
+-- Demand 3, of the calls: the count is P; a draw with room answers, and what it wrote; it draws k different free cells
+pub use Rattle.rules.specs.Fair.{Countable, Drawable, DrawWrote, RanksAsOne}
+pub use Rattle.rules.proofs.FairCalls.{count-answers, draw-comes, draw-wrote, list-fair}
+-- Demand 3, of the calls' buffers: ranking what a draw wrote answers its index; drawing what a rank answered writes what was ranked; one to one
+pub use Rattle.rules.proofs.FairCalls.{rank-back, list-forth, rank-forth, rank-answers, list-one}
+-- Demand 3, of the calls' answers: each set of k free cells comes of exactly k! indices
+pub use Rattle.rules.proofs.FairCalls.{sets-fair}
+-- Demand 3, of the calls' answers: beside the food nothing changes but what is due, and at birth whether it is birth; at birth, and there without a free cell
+pub use Rattle.rules.specs.Fair.{Changed}
+pub use Rattle.rules.proofs.FairCalls.{draw-changes, birth-changes, full-changes}
 -- Demand 3: a list of 20 cells holds whatever a draw gives
 pub use Rattle.theorems.proofs.Longest.{longest-list}
 -- Demand 3: a birth chain with p due ends after exactly min(p, n + 1) draws
 pub use Rattle.rules.proofs.Births.{chain-count}
-pub use Rattle.rules.proofs.FairCalls.{chain-ended, chain-not-before}
+pub use Rattle.rules.proofs.FairCalls.{birth-countable, chain-draw, chain-ended, chain-not-before}
 -- Tightness: two answers that meet one promise are equal, and so are the lent buffers
 pub use Rattle.rules.proofs.Answers.{one-turn, one-check, one-verdict, one-start, one-step, one-view, one-count, one-draw, one-rank, one-actor, one-legal, one-key, one-truncation, one-reward, one-space, one-action-space, one-body}
 -- Tightness: two parts that the body query may hand back have equal words at one address
@@ -58,3 +59,4 @@ pub use Rattle.rules.proofs.Words.{image-back}
 pub use Rattle.rules.proofs.InitialFacts.{initial-again}
 pub use Rattle.rules.proofs.StepFacts.{step-again}
 pub use Rattle.rules.proofs.Again.{draw-again}
+pub use Rattle.rules.proofs.FairCalls.{written-again}

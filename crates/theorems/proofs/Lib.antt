@@ -1,6 +1,5 @@
 pub mod Refusals
 pub mod Eaten
 pub mod Longest
-pub mod Cases
 pub mod Definitions
 pub mod Headlines

@@ -10,7 +10,7 @@ use lib.Ieee.{Float}
 use lib.ListN.{length, drop}
 use lib.Seq.{drop-append-seam}
 use Rattle.lists.specs.Lists.{overFront}
-use Rattle.lists.specs.Tables.{Table, FirstRow}
+use Rattle.rules.specs.Tables.{Table}
 use Rattle.rules.specs.State.{snakeOf}
 use Rattle.rules.specs.Image.{imageOf, stateOf}
 use Rattle.rules.specs.Setting.{sideOf, settingOrder, initialState}
@@ -26,6 +26,7 @@ use Rattle.rules.specs.Promises.{Validates, Starts, Steps, Observes, Counts, Dr
 use Rattle.rules.specs.declared.Setting.{Setting}
 use Rattle.rules.specs.declared.Event.{Event}
 use Rattle.rules.specs.declared.Weights.{Weights}
+use Rattle.rules.specs.declared.Refusal.{Refusal}
 use Rattle.rules.specs.declared.Verdict.{Verdict}
 use Rattle.rules.specs.declared.Verdict.the-variants.{Refused as RefusedVerdict}
 use Rattle.rules.specs.declared.Answer.{Answer}
@@ -47,11 +48,13 @@ use Rattle.rules.specs.declared.Reward.the-variants.{Refused as RefusedSum}
 use Rattle.rules.specs.declared.Space.{Space}
 use Rattle.rules.specs.declared.Space.the-variants.{Refused as RefusedSpace}
 use Rattle.rules.specs.Orders.{initialOrder, stepOrder, observeOrder, countOrder, drawOrder, rankOrder, imageOrder, agentOrder, rewardOrder, spaceOrder}
-use Rattle.rules.proofs.Tables.{table-refuses}
+use Rattle.rules.proofs.Tables.{table-refuses, table-first, table-seen}
+use Rattle.rules.proofs.Answers.{answer-one, verdict-one, number-one, key-one, actor-one, legal-one, mark-one, sum-one, space-one}
+use Rattle.theorems.specs.Answers.{RefusedBy}
 
 -- document 01's 'Order', and that each table has those numbers
 abbrev numbers : Table → List ℕ
-numbers t = map (λ (e : ℕ × Bool). e .0) t
+numbers t = map (λ (e : Refusal × Bool). e .0 .number) t
 
 abbrev settingNumbers : List ℕ
 settingNumbers = 1 ∷ 2 ∷ 3 ∷ 4 ∷ 5 ∷ 6 ∷ 7 ∷ 8 ∷ 9 ∷ 10 ∷ 11 ∷ 12 ∷ []
@@ -91,79 +94,85 @@ reward-order w = refl
 pub space-order : (g : ℤ) → numbers (spaceOrder g) ≡ 5 ∷ []
 space-order g = refl
 
--- ---- a refusal's number is that of the first row that holds, for each call that refuses
+-- ---- for each call that refuses: refused by k if and only if k is the number of its table's first row that holds
 
-module _ {A B : Type 0} (f : A → B) where
-  seen-refuses : (x : Says A) (k : ℕ) → seen f x ≡ refuses k → x ≡ refuses k
-  seen-refuses (refuses n) k h = let z : n ≡ k = cc in ap refuses z
-  seen-refuses (gives a) k h = let z : _≡_ {A = ℕ} 0 1 = cc in absurd (omega arith)
+-- by what an answer says: `refusal k` says that it refuses by k, and no other answer says that
+module _ {R A : Type 0} (said : R → Says A) (refusal : Refusal → R) (as-said : (k : Refusal) → said (refusal k) ≡ refuses k) (one : (r q : R) → said r ≡ said q → r ≡ q) where
+  by-rows : (t : Table) (a : A) (r : R) → said r ≡ byTable t (gives a) → RefusedBy refusal t r
+  by-rows t a r e = record {
+    number = λ k h. table-refuses t a k (sym e ∙ ap said h ∙ as-said k);
+    refused = λ k h. one r (refusal k) (e ∙ table-first t (gives a) k h ∙ sym (as-said k));
+  }
 
-  first-row : (t : Table) (a : A) (k : ℕ) → seen f (byTable t (gives a)) ≡ refuses k → FirstRow t k
-  first-row t a k h = table-refuses t a k (seen-refuses (byTable t (gives a)) k h)
+-- of the calls that write, which say how many words
+by-words : {A : Type 0} (f : A → ℕ) (t : Table) (a : A) (r : Answer) → says r ≡ seen f (byTable t (gives a)) → RefusedBy RefusedAnswer t r
+by-words f t a r e = by-rows says RefusedAnswer (λ k. refl) answer-one t (f a) r (e ∙ table-seen f t a)
 
-module _ (k : ℕ) where
-  pub validate-number : (s : Setting) (r : Verdict) → Validates s r → r ≡ RefusedVerdict k → FirstRow (settingOrder s) k
-  unfolding settingSays
-  validate-number s r p e = table-refuses (settingOrder s) tt k (sym (p .answer) ∙ ap saysVerdict e)
+by-number : (t : Table) (a : ℕ) (r : Number) → saysNumber r ≡ byTable t (gives a) → RefusedBy RefusedNumber t r
+by-number = by-rows saysNumber RefusedNumber (λ k. refl) number-one
 
-  pub initial-number : (s : Setting) (old new : List ℕ) (r : Answer) → Starts s old new r → r ≡ RefusedAnswer k → FirstRow (initialOrder s (length old)) k
-  unfolding initialSays
-  initial-number s old new r p e = first-row _ (initialOrder s (length old)) (initialState s) k (sym (p .answer) ∙ ap says e)
+pub validate-refused : (s : Setting) (r : Verdict) → Validates s r → RefusedBy RefusedVerdict (settingOrder s) r
+unfolding settingSays
+validate-refused s r p = by-rows saysVerdict RefusedVerdict (λ k. refl) verdict-one (settingOrder s) tt r (p .answer)
 
-  pub step-number : (s : Setting) (w acts old new : List ℕ) (r : Stepped) → Steps s w acts old new r → r .answer ≡ RefusedAnswer k → FirstRow (stepOrder s w acts (length old)) k
-  unfolding stepSays
-  step-number s w acts old new r p e = first-row _ (stepOrder s w acts (length old)) (stepped s (stateOf w) acts) k (sym (p .answer) ∙ ap says e)
+pub initial-refused : (s : Setting) (old new : List ℕ) (r : Answer) → Starts s old new r → RefusedBy RefusedAnswer (initialOrder s (length old)) r
+unfolding initialSays
+initial-refused s old new r p = by-words _ (initialOrder s (length old)) (initialState s) r (p .answer)
 
-  pub observe-number : (w : List ℕ) (a : ℕ) (old new : List Float) (r : Answer) → Observes w a old new r → r ≡ RefusedAnswer k → FirstRow (observeOrder w a (length old)) k
-  unfolding observeSays
-  observe-number w a old new r p e = first-row _ (observeOrder w a (length old)) (view (stateOf w) a) k (sym (p .answer) ∙ ap says e)
+pub step-refused : (s : Setting) (w acts old new : List ℕ) (r : Stepped) → Steps s w acts old new r → RefusedBy RefusedAnswer (stepOrder s w acts (length old)) (r .answer)
+unfolding stepSays
+step-refused s w acts old new r p = by-words _ (stepOrder s w acts (length old)) (stepped s (stateOf w) acts) (r .answer) (p .answer)
 
-  pub count-number : (w : List ℕ) (r : Number) → Counts w r → r ≡ RefusedNumber k → FirstRow (countOrder w) k
-  unfolding countSays
-  count-number w r p e = table-refuses (countOrder w) (outcomes (stateOf w)) k (sym (p .answer) ∙ ap saysNumber e)
+pub observe-refused : (w : List ℕ) (a : ℕ) (old new : List Float) (r : Answer) → Observes w a old new r → RefusedBy RefusedAnswer (observeOrder w a (length old)) r
+unfolding observeSays
+observe-refused w a old new r p = by-words _ (observeOrder w a (length old)) (view (stateOf w) a) r (p .answer)
 
-  pub draw-number : (w : List ℕ) (i : ℕ) (old new list cells : List ℕ) (r : Drawn) → Draws w i old new list cells r → r .answer ≡ RefusedAnswer k
-      → FirstRow (drawOrder w i (length old) (length list)) k
-  unfolding drawSays
-  draw-number w i old new list cells r p e =
-      first-row _ (drawOrder w i (length old) (length list)) (record { next = afterDraw (stateOf w) i; cells = drawn (stateOf w) i }) k (sym (p .answer) ∙ ap says e)
+pub count-refused : (w : List ℕ) (r : Number) → Counts w r → RefusedBy RefusedNumber (countOrder w) r
+unfolding countSays
+count-refused w r p = by-number (countOrder w) (outcomes (stateOf w)) r (p .answer)
 
-  pub rank-number : (w l : List ℕ) (r : Number) → Ranks w l r → r ≡ RefusedNumber k → FirstRow (rankOrder w l) k
-  unfolding rankSays
-  rank-number w l r p e = table-refuses (rankOrder w l) (rankOf (stateOf w) l) k (sym (p .answer) ∙ ap saysNumber e)
+pub draw-refused : (w : List ℕ) (i : ℕ) (old new list cells : List ℕ) (r : Drawn) → Draws w i old new list cells r
+    → RefusedBy RefusedAnswer (drawOrder w i (length old) (length list)) (r .answer)
+unfolding drawSays
+draw-refused w i old new list cells r p =
+    by-words _ (drawOrder w i (length old) (length list)) (record { next = afterDraw (stateOf w) i; cells = drawn (stateOf w) i }) (r .answer) (p .answer)
 
-  pub actor-number : (w : List ℕ) (r : Actor) → ActsNext w r → r ≡ RefusedActor k → FirstRow (imageOrder w) k
-  unfolding actorSays
-  actor-number w r p e = table-refuses (imageOrder w) (chanceActs (stateOf w)) k (sym (p .answer) ∙ ap saysActor e)
+pub rank-refused : (w l : List ℕ) (r : Number) → Ranks w l r → RefusedBy RefusedNumber (rankOrder w l) r
+unfolding rankSays
+rank-refused w l r p = by-number (rankOrder w l) (rankOf (stateOf w) l) r (p .answer)
 
-  pub legal-number : (w : List ℕ) (a : ℕ) (r : Legal) → Allows w a r → r ≡ RefusedLegal k → FirstRow (agentOrder w a) k
-  unfolding legalSays
-  legal-number w a r p e = table-refuses (agentOrder w a) (legalFor (stateOf w) a) k (sym (p .answer) ∙ ap saysLegal e)
+pub actor-refused : (w : List ℕ) (r : Actor) → ActsNext w r → RefusedBy RefusedActor (imageOrder w) r
+unfolding actorSays
+actor-refused w r p = by-rows saysActor RefusedActor (λ k. refl) actor-one (imageOrder w) (chanceActs (stateOf w)) r (p .answer)
 
-  pub key-number : (w : List ℕ) (r : LengthCell) → Keys w r → r ≡ RefusedKey k → FirstRow (imageOrder w) k
-  unfolding keySays
-  key-number w r p e = table-refuses (imageOrder w) (lengthKey (stateOf w)) k (sym (p .answer) ∙ ap saysKey e)
+pub legal-refused : (w : List ℕ) (a : ℕ) (r : Legal) → Allows w a r → RefusedBy RefusedLegal (agentOrder w a) r
+unfolding legalSays
+legal-refused w a r p = by-rows saysLegal RefusedLegal (λ k. refl) legal-one (agentOrder w a) (legalFor (stateOf w) a) r (p .answer)
 
-  pub truncation-number : (w : List ℕ) (a : ℕ) (v : Event) (r : Truncated) → Truncates w a v r → r ≡ RefusedMark k → FirstRow (agentOrder w a) k
-  unfolding truncationSays
-  truncation-number w a v r p e = table-refuses (agentOrder w a) (truncated v (snakeOf (stateOf w) a .alive)) k (sym (p .answer) ∙ ap saysMark e)
+pub key-refused : (w : List ℕ) (r : LengthCell) → Keys w r → RefusedBy RefusedKey (imageOrder w) r
+unfolding keySays
+key-refused w r p = by-rows saysKey RefusedKey (λ k. refl) key-one (imageOrder w) (lengthKey (stateOf w)) r (p .answer)
 
-  pub reward-number : (w : Weights) (v : Event) (r : Reward) → Rewards w v r → r ≡ RefusedSum k → FirstRow (rewardOrder w) k
-  unfolding rewardSays
-  reward-number w v r p e = table-refuses (rewardOrder w) (rewardOf w v) k (sym (p .answer) ∙ ap saysSum e)
+pub truncation-refused : (w : List ℕ) (a : ℕ) (v : Event) (r : Truncated) → Truncates w a v r → RefusedBy RefusedMark (agentOrder w a) r
+unfolding truncationSays
+truncation-refused w a v r p = by-rows saysMark RefusedMark (λ k. refl) mark-one (agentOrder w a) (truncated v (snakeOf (stateOf w) a .alive)) r (p .answer)
 
-  pub space-number : (g : ℤ) (r : Space) → ObservationSpace g r → r ≡ RefusedSpace k → FirstRow (spaceOrder g) k
-  unfolding spaceSays
-  space-number g r p e = table-refuses (spaceOrder g) (box 5 (sideOf g) (sideOf g) (lit false) (lit true)) k (sym (p .answer) ∙ ap saysSpace e)
+pub reward-refused : (w : Weights) (v : Event) (r : Reward) → Rewards w v r → RefusedBy RefusedSum (rewardOrder w) r
+unfolding rewardSays
+reward-refused w v r p = by-rows saysSum RefusedSum (λ k. refl) sum-one (rewardOrder w) (rewardOf w v) r (p .answer)
+
+pub space-refused : (g : ℤ) (r : Space) → ObservationSpace g r → RefusedBy RefusedSpace (spaceOrder g) r
+unfolding spaceSays
+space-refused g r p = by-rows saysSpace RefusedSpace (λ k. refl) space-one (spaceOrder g) (box 5 (sideOf g) (sideOf g) (lit false) (lit true)) r (p .answer)
 
 -- ---- a refusal leaves every lent word
 
 module _ {A B C : Type 0} (f : A → B) (g : A → List C) (old : List C) where
-  kept : (x : Says A) (k : ℕ) → seen f x ≡ refuses k → lent g old x ≡ old
+  kept : (x : Says A) (k : Refusal) → seen f x ≡ refuses k → lent g old x ≡ old
   kept (refuses n) k h = refl
   kept (gives a) k h = let z : _≡_ {A = ℕ} 0 1 = cc in absurd (omega arith)
 
-module _ (k : ℕ) where
+module _ (k : Refusal) where
   pub initial-untouched : (s : Setting) (old new : List ℕ) (r : Answer) → Starts s old new r → r ≡ RefusedAnswer k → new ≡ old
   initial-untouched s old new r p e = p .words ∙ kept _ imageOf old (initialSays s (length old)) k (sym (p .answer) ∙ ap says e)
 

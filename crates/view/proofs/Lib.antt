@@ -1,3 +1,4 @@
+pub mod Turning
 pub mod Marks
 pub mod Shown
 pub mod Gates

@@ -11,6 +11,7 @@ use borrow.Author.Tests.{ltb-true}
 use Rattle.lists.specs.Choice.{_if_else_}
 use Rattle.lists.proofs.Tests.{tell}
 use Rattle.rules.specs.Image.{snakesIn, wellFormed}
+use Rattle.rules.specs.Tables.{by}
 use Rattle.rules.specs.Says.{refuses, gives, seen, lent, byTable}
 use Rattle.rules.specs.Calls.{observeSays}
 use Rattle.rules.specs.Promises.{Observes}
@@ -26,7 +27,7 @@ module _ (w v : List ℕ) (a : ℕ) (p : wellFormed w ≡ true) (q : wellFormed 
   inside-says room t =
       let u : ltb a (snakesIn v) ≡ true = ap (ltb a) (sym (k .snakes)) ∙ t in
       rw (p, q, t, u)
-      (ap₂ (λ (g : ℕ) (x : List Float). refuses 29 if ltb room (5 * (g * g)) else gives x) (k .side) (same-view w v a (ltb-true a (snakesIn w) t) k))
+      (ap₂ (λ (g : ℕ) (x : List Float). refuses (by 29) if ltb room (5 * (g * g)) else gives x) (k .side) (same-view w v a (ltb-true a (snakesIn w) t) k))
 
   outside-says : (room : ℕ) → ltb a (snakesIn w) ≡ false → observeSays w a room ≡ observeSays v a room
   unfolding observeSays byTable

@@ -11,14 +11,14 @@ use crate::snake::{self, EgocentricSnake, StepEvent};
 
 /// Whether `Snake::validate` computes a setting without overflow: its rows are 32-bit products.
 fn rows_fit(s: &Setting) -> bool {
-    let factor = if (3..=8).contains(&s.snakes) { s.snakes as i64 } else { 1 };
-    i32::try_from(factor * i64::from(s.grid)).is_ok()
+    let factor = if (3..=8).contains(&s.num_snakes) { s.num_snakes as i64 } else { 1 };
+    i32::try_from(factor * i64::from(s.grid_size)).is_ok()
 }
 
 /// Setting check: 1 to 12. On the domain the Rust's own message must mean the paper's number.
 pub fn check_setting(s: &Setting) -> Result<(), Number> {
     let answer = paper::check_setting(s);
-    if s.grid <= 32 && rows_fit(s) {
+    if s.grid_size <= 32 && rows_fit(s) {
         let ruled = rust::game(s).validate().map_err(|message| rust::number_of_message(&message));
         assert_eq!(answer, ruled, "the paper and validate differ on {s:?}");
     }
@@ -34,7 +34,7 @@ fn image(state: &State) -> Vec<u16> {
 
 pub fn initial(s: &Setting) -> Result<State, Number> {
     check_setting(s)?;
-    Ok(rust::from_rust(&rust::game(s).initial_state(), s.grid as u16))
+    Ok(rust::from_rust(&rust::game(s).initial_state(), s.grid_size as u16))
 }
 
 pub fn initial_image(s: &Setting, room: u64) -> Result<Vec<u16>, Number> {
@@ -203,7 +203,15 @@ pub fn observation_space(grid: i32) -> Result<Vec<usize>, Number> {
 }
 
 pub fn action_space() -> usize {
-    let any = Setting { snakes: 2, grid: 3, length: 1, play_to_last: false, lead: None, food: 0, max_ticks: None };
+    let any = Setting {
+        num_snakes: 2,
+        grid_size: 3,
+        initial_length: 1,
+        play_to_last: false,
+        win_food_lead: None,
+        initial_food_count: 0,
+        max_ticks: None,
+    };
     match rust::game(&any).action_space() {
         Space::Discrete { n } => n,
         Space::Box { .. } => panic!("actions are discrete"),

@@ -7,6 +7,7 @@ use reinfors_core::{Reward, StateEncoder};
 use crate::fields::Fields;
 use crate::paper::{self, Setting, Snake, State};
 use crate::probe;
+use crate::replay::letters;
 use crate::rust::{self, caught};
 use crate::snake::{self, EgocentricSnake, SnakeState, StepEvent};
 
@@ -56,13 +57,9 @@ fn shown(s: &SnakeState) -> String {
     format!("due {}{birth}, {}, food {food:?}", s.pending_food, snakes.join(", "))
 }
 
+/// Each snake's event in the replay's letters.
 fn events_shown(events: &[Option<StepEvent>]) -> String {
-    let one = |e: &StepEvent| match (e.death_cause, e.ate_food) {
-        (Some(cause), _) => format!("{cause:?}"),
-        (None, true) => "ate".to_string(),
-        (None, false) => "-".to_string(),
-    };
-    events.iter().flatten().map(one).collect::<Vec<_>>().join(" ")
+    events.iter().flatten().map(letters).collect::<Vec<_>>().join(" ")
 }
 
 // ---- calls
@@ -83,7 +80,8 @@ fn initial(text: &str) -> Call {
 fn step(text: &str, s: &State, actions: &[usize]) -> Call {
     let does = caught(|| {
         let t = game(text).step(&rust::to_rust(s), actions);
-        format!("{}; events {}", shown(&t.next_state), events_shown(&t.events))
+        let over = if t.terminal { ", terminal" } else { "" };
+        format!("{}{over}; events {}", shown(&t.next_state), events_shown(&t.events))
     });
     let listed: String = actions.iter().map(|a| format!(" {a}")).collect();
     Call { line: format!("s {text} 16384 {}{listed} {}", actions.len(), image(s)), does }
@@ -162,15 +160,15 @@ impl Table {
     fn settings(&mut self) {
         let cases = [
             (1, "one snake", "1 3 1 0 - 0 -"),
-            (1, "nine snakes", "9 16 1 0 - 0 -"),
+            (1, "nine snakes", "9 5 1 0 - 0 -"),
             (2, "length 0", "2 3 0 0 - 0 -"),
             (3, "lead 0", "2 3 1 0 0 0 -"),
-            (4, "a lead of three snakes", "3 4 1 0 1 0 -"),
+            (4, "a lead of three snakes", "3 3 1 0 1 0 -"),
             (5, "grid 33", "2 33 1 0 - 0 -"),
             (6, "food above g²", "2 3 1 0 - 10 -"),
             (6, "food above 2^32: the Rust keeps its low 32 bits", "2 3 1 0 - 4294967297 -"),
             (6, "grid 0 with food", "2 0 1 0 - 1 -"),
-            (8, "product above 2^53", "8 11 1 0 - 8 -"),
+            (8, "product above 2^53 on the smallest grid", "8 11 1 0 - 8 -"),
             (9, "no room to trace", "2 3 7 0 - 0 -"),
             (10, "a cell outside", "2 1 1 0 - 0 -"),
             (11, "a cell taken twice", "2 3 5 0 - 0 -"),
@@ -188,6 +186,34 @@ impl Table {
         }
     }
 
+    /// The Rust's `step` reads the setting's grid, `play_to_last` and lead, and validates nothing. No well-formed
+    /// image has the snakes of 1 or the grid of 5: there 21 holds too. In the other rows the setting alone is at fault.
+    fn steps_of_refused_settings(&mut self) {
+        let pair = state(3, 0, false, &[alive(RIGHT, &[4]), alive(LEFT, &[3])], &[]);
+        let three = state(3, 0, false, &[alive(RIGHT, &[4, 3]), alive(LEFT, &[8]), corpse()], &[]);
+        let edge = state(3, 0, false, &[alive(RIGHT, &[5]), alive(RIGHT, &[6])], &[]);
+        let six: Vec<Snake> = (0..6).map(|row| alive(RIGHT, &[22 * row])).collect();
+        let rows = state(22, 0, false, &six, &[]);
+        let spot = state(1, 0, false, &[alive(RIGHT, &[0]), alive(LEFT, &[0])], &[]);
+        let cases: [(u8, &str, &str, &State, &[usize]); 12] = [
+            (1, "a setting of one snake", "1 3 1 0 - 0 -", &pair, &[0, 2]),
+            (1, "a setting of nine snakes", "9 5 1 0 - 0 -", &pair, &[0, 2]),
+            (2, "length 0", "2 3 0 0 - 0 -", &pair, &[0, 2]),
+            (3, "lead 0: over with equal lengths", "2 3 1 0 0 0 -", &pair, &[0, 2]),
+            (4, "a lead of three snakes: it decides between the last two", "3 3 1 0 1 0 -", &three, &[0, 0, 0]),
+            (5, "grid 33 over an image of side 3: its wall", "2 33 1 0 - 0 -", &edge, &[0, 0]),
+            (6, "food above g²", "2 3 1 0 - 10 -", &pair, &[0, 2]),
+            (8, "product above 2^53 with the fewest snakes", "6 22 1 0 - 6 -", &rows, &[0; 6]),
+            (9, "no room to trace", "2 3 7 0 - 0 -", &pair, &[0, 2]),
+            (10, "a cell outside: grid 1", "2 1 1 0 - 0 -", &spot, &[0, 0]),
+            (11, "a cell taken twice", "2 3 5 0 - 0 -", &pair, &[0, 2]),
+            (12, "food above the free cells", "2 3 1 0 - 8 -", &pair, &[0, 2]),
+        ];
+        for (number, what, text, state, actions) in cases {
+            self.row(number, &format!("`step`, {what}"), step(text, state, actions));
+        }
+    }
+
     fn images(&mut self) {
         let any = "2 3 1 0 - 0 -";
         let doubled = state(3, 0, false, &[alive(RIGHT, &[4, 3, 3]), alive(LEFT, &[8])], &[]);
@@ -200,11 +226,15 @@ impl Table {
         self.row(20, "`snake_length_cell`, the same", length_cell(&bodiless));
         let outside = state(3, 0, false, &[alive(RIGHT, &[9]), alive(LEFT, &[8])], &[]);
         self.row(20, "`step`, a body cell g²", step(any, &outside, &[1, 0]));
-        self.row(20, "`egocentric_parts`, the same", observed(&outside, 1));
+        self.row(20, "`egocentric_parts`, the same, an agent that heads Left", observed(&outside, 1));
+        self.row(20, "`egocentric_parts`, the same, an agent that heads Right: a wrong place", observed(&outside, 0));
         let pair = [alive(RIGHT, &[4]), alive(LEFT, &[5])];
         self.row(20, "`chance_node`, food on cell g²", count(&state(3, 1, false, &pair, &[9])));
         self.row(20, "`chance_node`, food due 1,025", count(&state(3, 1025, true, &pair, &[])));
+        let spot = [alive(RIGHT, &[0]), alive(LEFT, &[0])];
+        self.row(20, "`chance_node`, more cells taken than g²", count(&state(1, 1, false, &spot, &[1])));
         self.row(20, "`chance_node`, side 33", count(&state(33, 1, false, &pair, &[])));
+        self.row(20, "`chance_node`, first side whose square overflows", count(&state(46341, 1, false, &pair, &[])));
         let nine = vec![alive(UP, &[0, 1, 2]); 9];
         self.row(20, "`snake_length_cell`, nine snakes", length_cell(&state(3, 0, false, &nine, &[])));
         self.row(20, "`step`, one snake", step(any, &state(3, 0, false, &[alive(RIGHT, &[4])], &[]), &[0]));
@@ -242,8 +272,8 @@ impl Table {
             draw(&state(3, 1, true, &pair, &[]), 7),
         );
         self.row(27, "`apply_chance_node`, no free cell, index 1", draw(&state(3, 1, false, &pair, &all), 1));
-        let wide = state(5, 21, false, &[alive(RIGHT, &[24]), alive(LEFT, &[24])], &[21, 22, 23]);
-        self.row(28, "`chance_node`, 21 due on 21 free cells", count(&wide));
+        let wide = state(5, 17, false, &[alive(RIGHT, &[24]), alive(LEFT, &[24])], &[]);
+        self.row(28, "`chance_node`, 17 due on 24 free cells", count(&wide));
         self.row(28, "`apply_chance_node`, the same", draw(&wide, 0));
     }
 
@@ -267,6 +297,7 @@ impl Table {
 pub fn print() -> String {
     let mut table = Table::default();
     table.settings();
+    table.steps_of_refused_settings();
     table.images();
     table.steps();
     table.chance();

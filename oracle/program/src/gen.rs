@@ -193,19 +193,19 @@ impl Generator {
     /// One field put at or around a limit.
     fn unsettle(&mut self, s: &mut Setting) {
         let rng = &mut self.rng;
-        let cells = i64::from(s.grid).pow(2) as u64;
-        let used = s.length.saturating_mul(s.snakes);
+        let cells = i64::from(s.grid_size).pow(2) as u64;
+        let used = s.initial_length.saturating_mul(s.num_snakes);
         match rng.below(12) {
-            0 => s.snakes = rng.between(0, 10),
-            1 => s.snakes = *rng.pick(&[0, 1, 9, 10, 258, (1 << 32) + 2, u64::MAX]),
-            2 => s.length = *rng.pick(&[0, 0, 1, u64::MAX, 1 << 32, (1 << 32) + 1, 10_000]),
-            3 => s.length = rng.between(0, 40),
-            4 => s.lead = *rng.pick(&[None, Some(0), Some(0), Some(1), Some(2), Some(u64::MAX)]),
-            5 | 6 => s.grid = self.any_grid(),
-            7 => s.food = (cells + rng.below(3)).saturating_sub(1),
-            8 => s.food = (cells.saturating_sub(used) + rng.below(5)).saturating_sub(2),
-            9 => s.food = *rng.pick(&[0, 1, 1_024, 1_025, 9_999, 10_000, 10_001, 1 << 53, u64::MAX]),
-            10 => s.food = rng.between(0, 9),
+            0 => s.num_snakes = rng.between(0, 10),
+            1 => s.num_snakes = *rng.pick(&[0, 1, 9, 10, 258, (1 << 32) + 2, u64::MAX]),
+            2 => s.initial_length = *rng.pick(&[0, 0, 1, u64::MAX, 1 << 32, (1 << 32) + 1, 10_000]),
+            3 => s.initial_length = rng.between(0, 40),
+            4 => s.win_food_lead = *rng.pick(&[None, Some(0), Some(0), Some(1), Some(2), Some(u64::MAX)]),
+            5 | 6 => s.grid_size = self.any_grid(),
+            7 => s.initial_food_count = (cells + rng.below(3)).saturating_sub(1),
+            8 => s.initial_food_count = (cells.saturating_sub(used) + rng.below(5)).saturating_sub(2),
+            9 => s.initial_food_count = *rng.pick(&[0, 1, 1_024, 1_025, 9_999, 10_000, 10_001, 1 << 53, u64::MAX]),
+            10 => s.initial_food_count = rng.between(0, 9),
             _ => s.max_ticks = *rng.pick(&[None, Some(0), Some(1), Some(u64::MAX)]),
         }
     }
@@ -215,17 +215,17 @@ impl Generator {
         let rng = &mut self.rng;
         let n = images::snake_count(rng);
         let mut s = Setting {
-            snakes: n,
-            grid: match rng.below(4) {
+            num_snakes: n,
+            grid_size: match rng.below(4) {
                 0..=1 => i32::from(images::side(rng)),
                 // where the product of n factors crosses 2^53
                 2 => rng.between(8, 22) as i32,
                 _ => rng.between(1, 32) as i32,
             },
-            length: rng.between(1, 5),
+            initial_length: rng.between(1, 5),
             play_to_last: rng.once_in(2),
-            lead: if n == 2 && rng.once_in(2) { Some(rng.between(1, 3)) } else { None },
-            food: rng.between(0, 8),
+            win_food_lead: if n == 2 && rng.once_in(2) { Some(rng.between(1, 3)) } else { None },
+            initial_food_count: rng.between(0, 8),
             max_ticks: if rng.once_in(4) { Some(rng.below(50)) } else { None },
         };
         for _ in 0..self.rng.below(4) {
@@ -254,10 +254,10 @@ impl Generator {
             return self.player.next(rng);
         }
         let mut s = images::accepted(rng);
-        let mut state = images::any_state(rng, s.snakes, s.grid as u16);
+        let mut state = images::any_state(rng, s.num_snakes, s.grid_size as u16);
         images::set_due(rng, &mut state, false);
-        if s.lead.is_some() {
-            s.lead = Some(images::lead_near(rng, &state));
+        if s.win_food_lead.is_some() {
+            s.win_food_lead = Some(images::lead_near(rng, &state));
         }
         (s, state)
     }

@@ -299,12 +299,12 @@ pub fn setting_for(rng: &mut Random, n: u64, side: u16) -> Option<Setting> {
         let simple = attempt == 3;
         let lead = if n == 2 && rng.once_in(2) { Some(rng.between(1, 4)) } else { None };
         let s = Setting {
-            snakes: n,
-            grid: i32::from(side),
-            length: if simple { 1 } else { rng.between(1, 4) },
+            num_snakes: n,
+            grid_size: i32::from(side),
+            initial_length: if simple { 1 } else { rng.between(1, 4) },
             play_to_last: rng.once_in(3),
-            lead: if simple { None } else { lead },
-            food: if simple { 0 } else { rng.between(0, cells.min(6)) },
+            win_food_lead: if simple { None } else { lead },
+            initial_food_count: if simple { 0 } else { rng.between(0, cells.min(6)) },
             max_ticks: if rng.once_in(3) { Some(rng.between(0, 30)) } else { None },
         };
         if paper::check_setting(&s).is_ok() {

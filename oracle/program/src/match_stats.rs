@@ -42,16 +42,17 @@ impl MatchStats {
         if !answer.starts_with("i ") {
             return;
         }
-        self.add_if(true, &format!("snakes {}", setting.snakes));
+        self.add_if(true, &format!("snakes {}", setting.num_snakes));
         self.add_if(setting.play_to_last, "play_to_last");
-        self.sides.insert(setting.grid);
+        self.sides.insert(setting.grid_size);
         let moves: Vec<&str> = answer.lines().filter(|line| line.starts_with('m')).collect();
         self.longest = self.longest.max(moves.len());
         self.add_if(moves.len() >= 1000, "1,000 moves or more");
         let is_over = |line: &str| line.starts_with("m 1");
         let living = |line: &str| line.split(' ').skip(4).filter(|snake| snake.starts_with('1')).count();
         self.add_if(moves.iter().any(|line| is_over(line)), "terminal move");
-        self.add_if(setting.lead.is_some() && moves.iter().any(|m| is_over(m) && living(m) == 2), "won by the lead");
+        let led = setting.win_food_lead.is_some() && moves.iter().any(|m| is_over(m) && living(m) == 2);
+        self.add_if(led, "won by the lead");
         self.add_if(moves.iter().any(|line| line.contains('y')), "truncation");
         self.add_if(moves.iter().any(|line| !is_over(line) && line.contains('w')), "won and played on");
     }

@@ -200,7 +200,7 @@ pub fn wide_and_long(seed: u64) -> Vec<Entry> {
             }
         }
     }
-    // snakes, side, length, play_to_last, food, max_ticks, lines
+    // num_snakes, grid_size, initial_length, play_to_last, initial_food_count, max_ticks, lines
     let long = [
         (2, 32, 1, false, 0, None, 6000),
         (2, 12, 3, false, 2, None, 4000),
@@ -211,10 +211,18 @@ pub fn wide_and_long(seed: u64) -> Vec<Entry> {
         (7, 30, 4, false, 2, None, 2000),
         (8, 32, 5, true, 1, Some(2000), 3000),
     ];
-    for (snakes, grid, length, play_to_last, food, max_ticks, most) in long {
-        let setting = Setting { snakes, grid, length, play_to_last, lead: None, food, max_ticks };
+    for (num_snakes, grid_size, initial_length, play_to_last, initial_food_count, max_ticks, most) in long {
+        let setting = Setting {
+            num_snakes,
+            grid_size,
+            initial_length,
+            play_to_last,
+            win_food_lead: None,
+            initial_food_count,
+            max_ticks,
+        };
         let lines = played(&mut rng, setting, most, images::careful);
-        entries.push(whole(format!("long-snakes-{snakes}"), &lines));
+        entries.push(whole(format!("long-snakes-{num_snakes}"), &lines));
     }
     entries
 }

@@ -10,12 +10,12 @@ pub type Number = u8;
 /// Replay's first line.
 #[derive(Clone, Debug, PartialEq)]
 pub struct Setting {
-    pub snakes: u64,
-    pub grid: i32,
-    pub length: u64,
+    pub num_snakes: u64,
+    pub grid_size: i32,
+    pub initial_length: u64,
     pub play_to_last: bool,
-    pub lead: Option<u64>,
-    pub food: u64,
+    pub win_food_lead: Option<u64>,
+    pub initial_food_count: u64,
     pub max_ticks: Option<u64>,
 }
 
@@ -23,12 +23,12 @@ impl Setting {
     /// The seven fields of a first line; none where a field is unreadable.
     pub fn read(fields: &mut Fields) -> Option<Setting> {
         Some(Setting {
-            snakes: fields.number()?,
-            grid: grid(fields.next()?)?,
-            length: fields.number()?,
+            num_snakes: fields.number()?,
+            grid_size: grid(fields.next()?)?,
+            initial_length: fields.number()?,
             play_to_last: flag(fields.next()?)?,
-            lead: optional(fields.next()?)?,
-            food: number(fields.next()?)?,
+            win_food_lead: optional(fields.next()?)?,
+            initial_food_count: number(fields.next()?)?,
             max_ticks: optional(fields.next()?)?,
         })
     }
@@ -37,12 +37,12 @@ impl Setting {
         let or_dash = |n: Option<u64>| n.map_or("-".to_string(), |n| n.to_string());
         format!(
             "{} {} {} {} {} {} {}",
-            self.snakes,
-            self.grid,
-            self.length,
+            self.num_snakes,
+            self.grid_size,
+            self.initial_length,
             u8::from(self.play_to_last),
-            or_dash(self.lead),
-            self.food,
+            or_dash(self.win_food_lead),
+            self.initial_food_count,
             or_dash(self.max_ticks)
         )
     }
@@ -64,7 +64,7 @@ fn on_grid(g: i64, (r, c): Place) -> bool {
 
 /// The body of snake `i`, or none where it cannot be traced to its length.
 fn placed(s: &Setting, i: i64) -> Option<Vec<Place>> {
-    let (g, n) = (i64::from(s.grid), s.snakes as i64);
+    let (g, n) = (i64::from(s.grid_size), s.num_snakes as i64);
     let row = if n == 2 { g / 2 } else { (i + 1) * g / (n + 1) };
     let (head, turns) = if i % 2 == 0 {
         ((row, g / 3), [LEFT, DOWN, RIGHT, UP])
@@ -76,14 +76,14 @@ fn placed(s: &Setting, i: i64) -> Option<Vec<Place>> {
     for (dr, dc) in turns {
         loop {
             let next = (at.0 + dr, at.1 + dc);
-            if body.len() as u64 == s.length || !on_grid(g, next) {
+            if body.len() as u64 == s.initial_length || !on_grid(g, next) {
                 break;
             }
             body.push(next);
             at = next;
         }
     }
-    if body.len() as u64 == s.length {
+    if body.len() as u64 == s.initial_length {
         Some(body)
     } else {
         None
@@ -97,35 +97,35 @@ pub fn falling(n: u64, k: u64) -> Option<u64> {
 
 /// 1 to 12 as listed.
 pub fn check_setting(s: &Setting) -> Result<(), Number> {
-    if !(2..=8).contains(&s.snakes) {
+    if !(2..=8).contains(&s.num_snakes) {
         return Err(1);
     }
-    if s.length == 0 {
+    if s.initial_length == 0 {
         return Err(2);
     }
-    if s.lead == Some(0) {
+    if s.win_food_lead == Some(0) {
         return Err(3);
     }
-    if s.lead.is_some() && s.snakes != 2 {
+    if s.win_food_lead.is_some() && s.num_snakes != 2 {
         return Err(4);
     }
-    if s.grid > 32 {
+    if s.grid_size > 32 {
         return Err(5);
     }
-    let g = i64::from(s.grid);
+    let g = i64::from(s.grid_size);
     let cells = if g < 0 { 0 } else { (g * g) as u64 };
-    if s.food > cells {
+    if s.initial_food_count > cells {
         return Err(6);
     }
-    if s.food > 10_000 {
+    if s.initial_food_count > 10_000 {
         return Err(7);
     }
-    match falling(cells, s.snakes.min(s.food)) {
+    match falling(cells, s.num_snakes.min(s.initial_food_count)) {
         Some(product) if product <= 1 << 53 => {}
         _ => return Err(8),
     }
     let mut bodies = Vec::new();
-    for i in 0..s.snakes as i64 {
+    for i in 0..s.num_snakes as i64 {
         bodies.push(placed(s, i).ok_or(9)?);
     }
     let mut taken = Vec::new();
@@ -138,7 +138,7 @@ pub fn check_setting(s: &Setting) -> Result<(), Number> {
         }
         taken.push(place);
     }
-    if s.food > cells - taken.len() as u64 {
+    if s.initial_food_count > cells - taken.len() as u64 {
         return Err(12);
     }
     Ok(())
@@ -320,7 +320,7 @@ pub fn check_step(s: &Setting, words: &[u16], actions: &[u64]) -> Result<State, 
     check_setting(s)?;
     let state = read_image(words).ok_or(20)?;
     let n = state.snakes.len();
-    if n as u64 != s.snakes || i32::from(state.side) != s.grid {
+    if n as u64 != s.num_snakes || i32::from(state.side) != s.grid_size {
         return Err(21);
     }
     if state.due > 0 {

@@ -130,7 +130,7 @@ pub fn step(s: &Setting, state: &State, actions: &[u64]) -> (bool, Vec<Event>, S
     }
     let few = if s.play_to_last { 0 } else { 1 };
     let mut terminal = living.len() <= few;
-    if let (Some(lead), 2) = (s.lead, living.len()) {
+    if let (Some(lead), 2) = (s.win_food_lead, living.len()) {
         let (a, b) = (living[0], living[1]);
         let (long, short) = if snakes[a].body.len() > snakes[b].body.len() { (a, b) } else { (b, a) };
         if (snakes[long].body.len() - snakes[short].body.len()) as u64 >= lead {

@@ -1,4 +1,4 @@
-//! The replay of document 01: its lines, order and places are the paper's, each move and draw is the Rust's.
+//! The replay of document 01: its lines, order and placings are the paper's, each move and draw is the Rust's.
 
 use reinfors_core::game::Game;
 
@@ -43,7 +43,8 @@ fn read_line(line: &[u8], n: usize) -> Option<Line> {
     Some(read)
 }
 
-fn letters(e: &StepEvent) -> String {
+/// An event's letters.
+pub fn letters(e: &StepEvent) -> String {
     let cause = match e.death_cause {
         None => ' ',
         Some(DeathCause::Wall) => 'W',
@@ -139,7 +140,7 @@ impl Match {
         }
     }
 
-    fn places(&self) -> String {
+    fn placings(&self) -> String {
         let mut text = "p".to_string();
         for own in &self.died {
             let later = |other: &&Option<u64>| match (own, other) {
@@ -174,5 +175,5 @@ pub fn replay(input: &[u8]) -> String {
             Err(number) => return out + &refused(number),
         }
     }
-    out + &game.places()
+    out + &game.placings()
 }

@@ -8,12 +8,12 @@ use crate::snake::{Action, Cell, DeathCause, SnakeBody, SnakeReward, SnakeState,
 /// The published game of a setting.
 pub fn game(s: &Setting) -> crate::snake::Snake {
     crate::snake::Snake {
-        num_snakes: s.snakes as usize,
-        grid_size: s.grid,
-        initial_length: s.length as usize,
+        num_snakes: s.num_snakes as usize,
+        grid_size: s.grid_size,
+        initial_length: s.initial_length as usize,
         play_to_last: s.play_to_last,
-        win_food_lead: s.lead.map(|n| n as usize),
-        initial_food_count: s.food as usize,
+        win_food_lead: s.win_food_lead.map(|n| n as usize),
+        initial_food_count: s.initial_food_count as usize,
         max_ticks: s.max_ticks.map(|n| n as usize),
     }
 }

@@ -75,18 +75,23 @@ fn number<T: std::fmt::Debug>(answer: Result<T, Refusal>) -> u8 {
     answer.expect_err("a refusal").number()
 }
 
-fn setting(snakes: u64, grid: i32, size: u64, food: u64) -> Setting {
+fn setting(
+    num_snakes: u64,
+    grid_size: i32,
+    initial_length: u64,
+    initial_food_count: u64,
+) -> Setting {
     Setting {
-        snakes,
-        grid,
-        size,
-        food,
+        num_snakes,
+        grid_size,
+        initial_length,
+        initial_food_count,
         ..Setting::default()
     }
 }
 
 fn letters(e: Event) -> String {
-    let cause = match e.cause {
+    let cause = match e.death_cause {
         None => "",
         Some(Cause::Wall) => "W",
         Some(Cause::SelfBody) => "S",
@@ -95,13 +100,13 @@ fn letters(e: Event) -> String {
     };
     let mut text = String::new();
     for (flag, letter) in [
-        (e.ate, "a"),
+        (e.ate_food, "a"),
         (true, cause),
-        (e.killed, "k"),
+        (e.killed_opponent, "k"),
         (e.won, "w"),
         (e.lost, "l"),
         (e.drew, "x"),
-        (e.survived, "y"),
+        (e.survived_to_max_ticks, "y"),
     ] {
         if flag {
             text += letter;
@@ -180,7 +185,7 @@ fn settings() {
     assert_eq!(
         number(
             Setting {
-                lead: Some(0),
+                win_food_lead: Some(0),
                 ..setting(2, 3, 1, 1)
             }
             .validate()
@@ -190,7 +195,7 @@ fn settings() {
     assert_eq!(
         number(
             Setting {
-                lead: Some(1),
+                win_food_lead: Some(1),
                 ..setting(3, 5, 1, 1)
             }
             .validate()
@@ -199,8 +204,8 @@ fn settings() {
     );
     assert_eq!(
         Setting {
-            lead: Some(1),
-            ticks: Some(0),
+            win_food_lead: Some(1),
+            max_ticks: Some(0),
             ..setting(2, 3, 1, 1)
         }
         .validate(),
@@ -270,7 +275,7 @@ fn facing_neighbours() {
         .unwrap();
     let drew = Event {
         died: true,
-        cause: Some(Cause::OppBody),
+        death_cause: Some(Cause::OppBody),
         drew: true,
         ..Event::default()
     };
@@ -280,12 +285,12 @@ fn facing_neighbours() {
         .unwrap();
     let lost = Event {
         died: true,
-        cause: Some(Cause::OppBody),
+        death_cause: Some(Cause::OppBody),
         lost: true,
         ..Event::default()
     };
     let won = Event {
-        killed: true,
+        killed_opponent: true,
         won: true,
         ..Event::default()
     };
@@ -419,10 +424,10 @@ fn rewards() {
         reward(
             &w,
             Event {
-                ate: true,
-                killed: true,
+                ate_food: true,
+                killed_opponent: true,
                 won: true,
-                survived: true,
+                survived_to_max_ticks: true,
                 ..e
             }
         ),
@@ -434,7 +439,7 @@ fn rewards() {
             Event {
                 died: true,
                 lost: true,
-                ate: true,
+                ate_food: true,
                 ..e
             }
         ),
@@ -482,14 +487,14 @@ fn events_as_numbers() {
         assert_eq!(
             image.truncation(0, event),
             Ok(Event {
-                survived: true,
+                survived_to_max_ticks: true,
                 ..event
             })
         );
         assert_eq!(
             image.truncation(1, event),
             Ok(Event {
-                survived: false,
+                survived_to_max_ticks: false,
                 ..event
             })
         );

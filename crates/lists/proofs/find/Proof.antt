@@ -7,9 +7,6 @@ use borrow.Author.Needs.{needs}
 use Rattle.lists.proofs.find.Statement.{statement}
 use Rattle.lists.proofs.find.Tie as tie
 
-holds-requires : tie.Need-holds-requires
-holds-requires c κs = search needs
-
 returns : tie.Need-returns
 returns c = sym (found-none _ _ (sym (c .before .holds .ensures) ∙ not-true _ (c .if1 .taken)))
 
@@ -17,7 +14,9 @@ place-of-requires : tie.Need-place-of-requires
 place-of-requires c κs = sym (c .before .holds .ensures) ∙ not-false _ (c .if1 .left)
 
 returns-2 : tie.Need-returns-2
-returns-2 c = ap At (c .place-of .ensures) ∙ sym (found-at _ _ (sym (c .before .before .holds .ensures) ∙ not-false _ (c .before .if1 .left)))
+returns-2 c =
+    let after-holds : tie.After-holds = search in
+    ap At (c .place-of .ensures) ∙ sym (found-at _ _ (sym (after-holds .holds .ensures) ∙ not-false _ (c .before .if1 .left)))
 
 pub find-spec : {M : Type 1} → statement M
-find-spec = tie.close (tie.spec holds-requires returns place-of-requires returns-2)
+find-spec = tie.close (tie.spec (λ c κs. search needs) returns place-of-requires returns-2)

@@ -34,13 +34,16 @@ loop-less c = omega arith
 
 loop-again : tie.Need-loop-again Inv-loop μ-loop
 loop-again c =
-    let a = c .before .before .before .args in
-    let l = c .before .before .loop in
+    let at-loop : tie.At-loop Inv-loop μ-loop = search in
+    let start : tie.Start Inv-loop μ-loop = search in
+    let a = start .args in
+    let l = at-loop .loop in
     (omega arith, search-next (a .x) (now (a .list)) (l .i) (l .found) (c .before .loop-test .taken) (l .inv .1))
 
 returns : tie.Need-returns Inv-loop μ-loop
 returns c =
-    let a = c .before .before .args in
+    let start : tie.Start Inv-loop μ-loop = search in
+    let a = start .args in
     let l = c .before .loop in
     sym (or-false (l .found)) ∙ ap (λ (b : Bool). l .found || b) (sym (member-end (a .x) (now (a .list)) (l .i) (omega arith))) ∙ l .inv .1
 

@@ -28,9 +28,12 @@ shared-slice-read-if1 c = omega arith
 
 returns : tie.Need-returns Inv-loop μ-loop
 returns c =
-    let a = c .before .before .before .before .args in
-    let l = c .before .before .before .loop in
-    let e = place-here (a .x) (now (a .list)) (l .i) (c .before .before .loop-test .taken) (c .if1 .taken) in
+    let in-loop : tie.In-loop Inv-loop μ-loop = search in
+    let at-loop : tie.At-loop Inv-loop μ-loop = search in
+    let start : tie.Start Inv-loop μ-loop = search in
+    let a = start .args in
+    let l = at-loop .loop in
+    let e = place-here (a .x) (now (a .list)) (l .i) (in-loop .loop-test .taken) (c .if1 .taken) in
     omega (arith, l .inv .2)
 
 add-i : tie.Need-add-i Inv-loop μ-loop
@@ -41,16 +44,20 @@ loop-less c = omega arith
 
 loop-again : tie.Need-loop-again Inv-loop μ-loop
 loop-again c =
-    let a = c .before .before .before .before .args in
-    let l = c .before .before .before .loop in
-    let t = c .before .before .loop-test .taken in
+    let in-loop : tie.In-loop Inv-loop μ-loop = search in
+    let at-loop : tie.At-loop Inv-loop μ-loop = search in
+    let start : tie.Start Inv-loop μ-loop = search in
+    let a = start .args in
+    let l = at-loop .loop in
+    let t = in-loop .loop-test .taken in
     let n = c .if1 .left in
     let e = place-next (a .x) (now (a .list)) (l .i) t n in
     (omega arith, sym (member-next (a .x) (now (a .list)) (l .i) t (λ q. n (sym q))) ∙ l .inv .1, omega (arith, l .inv .2))
 
 returns-2 : tie.Need-returns-2 Inv-loop μ-loop
 returns-2 c =
-    let a = c .before .before .args in
+    let start : tie.Start Inv-loop μ-loop = search in
+    let a = start .args in
     let l = c .before .loop in
     absurd (false≢true (sym (member-end (a .x) (now (a .list)) (l .i) (c .loop-test .left)) ∙ l .inv .1))
 

@@ -42,9 +42,11 @@ loop-less c = omega arith
 
 loop-again : tie.Need-loop-again Inv-loop μ-loop
 loop-again c =
-    let i = c .before .before .loop .inv in
-    let j = c .before .before .loop .j in
-    let a = c .before .before .before .args in
+    let at-loop : tie.At-loop Inv-loop μ-loop = search in
+    let start : tie.Start Inv-loop μ-loop = search in
+    let i = at-loop .loop .inv in
+    let j = at-loop .loop .j in
+    let a = start .args in
     let d = now (a .out) in
     let s = now (a .src) in
     let in-out : a .at + j < length d = omega arith in
@@ -55,7 +57,8 @@ same-length c = c .before .loop .inv .1
 
 returns : tie.Need-returns Inv-loop μ-loop
 returns c =
-    let a = c .before .before .args in
+    let start : tie.Start Inv-loop μ-loop = search in
+    let a = start .args in
     let e : c .before .loop .j ≡ length (now (a .src)) = omega arith in
     c .before .loop .inv .2 ∙ ap (λ (k : ℕ). paste (now (a .out)) (a .at) (now (a .src)) k) e ∙ paste-all (now (a .out)) (a .at) (now (a .src))
 

@@ -5,20 +5,13 @@ use borrow.Author.Needs.{needs}
 use Rattle.placement.proofs.span.Statement.{statement}
 use Rattle.placement.proofs.span.Tie as tie
 
-mul-result : tie.Need-mul-result
-mul-result c = search needs
-
-add-result : tie.Need-add-result
-add-result c = search needs
-
-div-result : tie.Need-div-result
-div-result c = search needs
-
 add-result-2 : tie.Need-add-result-2
 add-result-2 c = record { fits = omega (arith, c .pre .0, div-le-self (2 * c .args .g) (c .args .n + 1)) }
 
-returns : tie.Need-returns
-returns c = search needs
-
 pub span-spec : {M : Type 1} → statement M
-span-spec = tie.close (tie.spec mul-result add-result div-result add-result-2 returns)
+span-spec =
+    tie.close
+    (tie.spec
+    (λ c. search needs) (λ c. search needs) (λ c. search needs)
+    add-result-2
+    (λ c. search needs))

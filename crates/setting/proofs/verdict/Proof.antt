@@ -1,14 +1,8 @@
-use mathlib.Core.Path.{sym}
-use Rattle.rules.proofs.Tables.{first-refuses}
+-- `setting::verdict` meets its contract: 0 accepts, and another number refuses by itself. Assumes nothing.
 use borrow.Author.Needs.{needs}
+use Rattle.rules.proofs.Tables.{refuses-first}
 use Rattle.setting.proofs.verdict.Statement.{statement}
 use Rattle.setting.proofs.verdict.Tie as tie
 
-returns : tie.Need-returns
-returns c = search needs
-
-returns-2 : tie.Need-returns-2
-returns-2 c = sym (first-refuses (c .before .args .number) _ (c .if1 .left))
-
 pub verdict-spec : {M : Type 1} → statement M
-verdict-spec = tie.close (tie.spec returns returns-2)
+verdict-spec = tie.close (tie.spec (λ c. search needs) (λ c κs. search needs) (λ c. search (needs, refuses-first)))

@@ -1,28 +1,13 @@
-use Rattle.bindings.specs.Flat.{flatActor}
-use Rattle.rules.specs.Says.{saysActor}
-use Rattle.rules.specs.declared.Actor.{Actor}
-use mathlib.Core.Path.{sym, ap}
+-- `bindings::actor` meets its contract: each case of the answer is that case of the flat record. Assumes nothing.
 use borrow.Author.Needs.{needs}
 use Rattle.bindings.proofs.answers.actor.Statement.{statement}
 use Rattle.bindings.proofs.answers.actor.Tie as tie
 
-enum-told : tie.Need-enum-told
-enum-told c = search needs
-
-enum-told-2 : tie.Need-enum-told-2
-enum-told-2 c = search needs
-
-enum-known-a : tie.Need-enum-known-a
-enum-known-a c = search needs
-
-returns : tie.Need-returns
-returns c = ap (λ (a : Actor). flatActor (saysActor a)) (sym (c .enum-told .given .1))
-
-returns-2 : tie.Need-returns-2
-returns-2 c = ap (λ (a : Actor). flatActor (saysActor a)) (sym (c .enum-told2 .given .1))
-
-returns-3 : tie.Need-returns-3
-returns-3 c = ap (λ (a : Actor). flatActor (saysActor a)) (sym (c .before .a .given .1))
-
 pub actor-spec : {M : Type 1} → statement M
-actor-spec = tie.close (tie.spec enum-told enum-told-2 enum-known-a returns returns-2 returns-3)
+actor-spec =
+    tie.close
+    (tie.spec
+    (λ c. search needs) (λ c. search needs) (λ c. search needs)
+    (λ c. cc)
+    (λ c. cc)
+    (λ c. cc))

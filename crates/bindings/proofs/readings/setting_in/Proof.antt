@@ -1,21 +1,16 @@
+-- `bindings::setting_in` meets its contract: field by field; a grid_size is the number that it was handed over as. Assumes nothing.
+use borrow.Author.Needs.{needs}
+use mathlib.Core.Path.{_≡_}
 use mir.Syntax.{w32}
 use mir.Val.{toZ, ofZ}
-use mathlib.Core.Path.{_≡_}
-use borrow.Author.Needs.{needs}
 use Rattle.bindings.proofs.readings.setting_in.Statement.{statement}
 use Rattle.bindings.proofs.readings.setting_in.Tie as tie
 
-limit-in-requires : tie.Need-limit-in-requires
-limit-in-requires c κs = search needs
-
-limit-in-requires-2 : tie.Need-limit-in-requires-2
-limit-in-requires-2 c κs = search needs
-
-returns : tie.Need-returns
-returns c =
-    let a = c .before .before .before .args in
-    let z : toZ w32 (ofZ w32 (a .s .grid)) ≡ a .s .grid = search needs in
-    rw (z, c .before .before .limit-in .ensures, c .before .limit-in2 .ensures)
+setting-read : tie.Need-returns
+setting-read c =
+    let start : tie.Start = search in
+    let side : toZ w32 (ofZ w32 (start .args .s .«grid_size»)) ≡ start .args .s .«grid_size» = search needs in
+    cc
 
 pub setting-in-spec : {M : Type 1} → statement M
-setting-in-spec = tie.close (tie.spec limit-in-requires limit-in-requires-2 returns)
+setting-in-spec = tie.close (tie.spec (λ c κs. search needs) (λ c κs. search needs) setting-read)

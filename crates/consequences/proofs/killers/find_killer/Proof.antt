@@ -1,56 +1,19 @@
--- The invariant: the lowest of all is the lowest of those from j on.
+-- `consequences::find_killer` meets its contract: the invariant says that none of the snakes passed holds the cell (`Laws`).
+-- Assumes nothing.
+use Prim.Native.Nat.{_-_}
+use borrow.Author.Needs.{needs}
+use Rattle.judge.specs.Loops.{Passing}
+use Rattle.consequences.specs.After.{holdsIn}
+use Rattle.judge.proofs.Loops.{pass-none}
+use Rattle.consequences.proofs.Laws.{part-in, holder-here, holder-on, holder-none}
 use Rattle.consequences.proofs.killers.find_killer.Statement.{statement}
-use native.Mathlib.Omega.{arith}
-use Prim.Native.Nat.{_-_, _≤_}
-use mathlib.Core.Path.{_≡_, sym, _∙_}
-use lib.ListN.{getD}
-use Rattle.consequences.specs.After.{gone, holdsAt}
-use Rattle.lists.specs.Below.{lowestFrom}
-use native.Mathlib.Nat.{sub-zero}
-use denote.Ref.{now}
-use Rattle.lists.proofs.Below.{lowest-here, lowest-next, lowest-end}
 use Rattle.consequences.proofs.killers.find_killer.Tie as tie
 
 abbrev Inv-loop : tie.InvT-loop
-Inv-loop image n cell all j₀ j = (j ≤ n) × (lowestFrom (λ j. holdsAt image (getD all j gone) cell) 0 n ≡ lowestFrom (λ j. holdsAt image (getD all j gone) cell) j (n - j))
+Inv-loop image n cell all j₀ j = Passing (holdsIn image all cell) n j
 
 abbrev μ-loop : tie.MeasureT-loop
 μ-loop image n cell all j₀ j = n - j
-
-loop-holds : tie.Need-loop-holds Inv-loop μ-loop
-loop-holds c = (omega arith, rw sub-zero)
-
-mul-a : tie.Need-mul-a Inv-loop μ-loop
-mul-a c = omega arith
-
-array-copy-out-a : tie.Need-array-copy-out-a Inv-loop μ-loop
-array-copy-out-a c = omega arith
-
-has-cell-requires : tie.Need-has-cell-requires Inv-loop μ-loop
-has-cell-requires c κs = c .before .before .before .before .pre .1 (c .before .before .loop .j)
-
-returns : tie.Need-returns Inv-loop μ-loop
-returns c =
-    let l = c .before .before .before .before .loop in
-    let a = c .before .before .before .before .before .before .args in
-    sym (l .inv .1 ∙ lowest-here (λ j. holdsAt (now (a .image)) (getD (a .t2) j gone) (a .cell)) (l .j) (a .n) (omega arith) (sym (c .before .has-cell .ensures) ∙ c .if1 .taken))
-
-add-j : tie.Need-add-j Inv-loop μ-loop
-add-j c = omega arith
-
-loop-less : tie.Need-loop-less Inv-loop μ-loop
-loop-less c = omega arith
-
-loop-again : tie.Need-loop-again Inv-loop μ-loop
-loop-again c =
-    let l = c .before .before .before .before .loop in
-    let a = c .before .before .before .before .before .before .args in
-    (omega arith, l .inv .1 ∙ lowest-next (λ j. holdsAt (now (a .image)) (getD (a .t2) j gone) (a .cell)) (l .j) (a .n) (omega arith) (sym (c .before .has-cell .ensures) ∙ c .if1 .left))
-
-returns-2 : tie.Need-returns-2 Inv-loop μ-loop
-returns-2 c =
-    let a = c .before .before .before .args in
-    sym (c .before .loop .inv .1 ∙ lowest-end (λ j. holdsAt (now (a .image)) (getD (a .t2) j gone) (a .cell)) (c .before .loop .j) (a .n) (omega arith))
 
 pub find-killer-spec : {M : Type 1} → statement M
 find-killer-spec =
@@ -58,12 +21,10 @@ find-killer-spec =
     (tie.spec
     Inv-loop
     μ-loop
-    loop-holds
-    mul-a
-    array-copy-out-a
-    has-cell-requires
-    returns
-    add-j
-    loop-less
-    loop-again
-    returns-2)
+    (λ c. search pass-none)
+    (λ c. search needs) (λ c. search needs)
+    (λ c κs. search part-in)
+    (λ c. search holder-here)
+    (λ c. search needs) (λ c. search needs)
+    (λ c. search holder-on)
+    (λ c. search holder-none))

@@ -1,50 +1,12 @@
-use denote.Ref.{now}
-use mathlib.Core.List.{[], _∷_}
-use mathlib.Core.Path.{_∙_}
+-- `image::write_contents` meets its contract: the five words, the birth as a number (`contents-written`). Assumes nothing.
 use borrow.Author.Needs.{needs}
-use Rattle.lists.specs.Lists.{writeAt}
+use Rattle.image.proofs.Read.{contents-written}
 use Rattle.image.proofs.words.write_contents.Statement.{statement}
 use Rattle.image.proofs.words.write_contents.Tie as tie
-
-cast-t8 : tie.Need-cast-t8
-cast-t8 c = search needs
-
-cast-t9 : tie.Need-cast-t9
-cast-t9 c = search needs
-
-cast-t10 : tie.Need-cast-t10
-cast-t10 c = search needs
-
-flag-requires : tie.Need-flag-requires
-flag-requires c κs = search needs
-
-cast-t12 : tie.Need-cast-t12
-cast-t12 c = search needs
-
-slice-aggregate-write-at : tie.Need-slice-aggregate-write-at
-slice-aggregate-write-at c = search needs
-
-write-at-requires : tie.Need-write-at-requires
-write-at-requires c κs = search needs
-
-same-length : tie.Need-same-length
-same-length c = search needs
-
-returns : tie.Need-returns
-returns c =
-    let a = c .before .before .before .before .before .before .before .args in
-    c .before .before .write-at .ensures ∙ (λ k. writeAt (now (a .out)) 0 (a .n ∷ a .g ∷ a .due ∷ c .before .before .before .before .before .flag .ensures k ∷ a .foods ∷ []))
 
 pub write-contents-spec : {M : Type 1} → statement M
 write-contents-spec =
     tie.close
     (tie.spec
-    cast-t8
-    cast-t9
-    cast-t10
-    flag-requires
-    cast-t12
-    slice-aggregate-write-at
-    write-at-requires
-    same-length
-    returns)
+    (λ c. search needs) (λ c. search needs) (λ c. search needs) (λ c κs. search needs) (λ c. search needs) (λ c. search needs) (λ c κs. search needs) (λ c. search needs)
+    (λ c. search contents-written))

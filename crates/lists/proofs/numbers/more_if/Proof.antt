@@ -6,9 +6,6 @@ use mathlib.Core.Path.{ap}
 use Rattle.lists.proofs.Tests.{bit-le, byte-bit}
 use Rattle.lists.proofs.numbers.more_if.Tie as tie
 
-cast-result : tie.Need-cast-result
-cast-result c = search needs
-
 add-result : tie.Need-add-result
 add-result c = omega (arith, byte-bit (c .args .b), bit-le (c .args .b))
 
@@ -16,4 +13,4 @@ returns : tie.Need-returns
 returns c = ap (λ (x : ℕ). c .args .k + x) (byte-bit (c .args .b))
 
 pub more-if-spec : {M : Type 1} → statement M
-more-if-spec = tie.close (tie.spec cast-result add-result returns)
+more-if-spec = tie.close (tie.spec (λ c. search needs) add-result returns)

@@ -17,35 +17,29 @@ abbrev μ-loop : tie.MeasureT-loop
 loop-holds : tie.Need-loop-holds Inv-loop μ-loop
 loop-holds c = (omega arith, sym (falling-none (c .args .n)), omega arith)
 
-sub-factor : tie.Need-sub-factor Inv-loop μ-loop
-sub-factor c = search needs
-
-div-if1 : tie.Need-div-if1 Inv-loop μ-loop
-div-if1 c = search needs
-
 returns : tie.Need-returns Inv-loop μ-loop
 returns c =
-    let s = c .before .before .loop in
-    let a = c .before .before .before .args in
+    let at-loop : tie.At-loop Inv-loop μ-loop = search in
+    let start : tie.Start Inv-loop μ-loop = search in
+    let s = at-loop .loop in
+    let a = start .args in
     product-over (a .n) (a .k) (s .j) (s .p) (omega arith) (omega arith) (s .inv .1) (c .if1 .taken)
 
 mul-p : tie.Need-mul-p Inv-loop μ-loop
 mul-p c =
-    let s = c .before .before .loop in
-    let a = c .before .before .before .args in
+    let at-loop : tie.At-loop Inv-loop μ-loop = search in
+    let start : tie.Start Inv-loop μ-loop = search in
+    let s = at-loop .loop in
+    let a = start .args in
     let h = product-fits (a .n) (a .k) (s .j) (s .p) (omega arith) (omega arith) (s .inv .1) (c .if1 .left) in
     omega arith
 
-add-j : tie.Need-add-j Inv-loop μ-loop
-add-j c = search needs
-
-loop-less : tie.Need-loop-less Inv-loop μ-loop
-loop-less c = search needs
-
 loop-again : tie.Need-loop-again Inv-loop μ-loop
 loop-again c =
-    let s = c .before .before .loop in
-    let a = c .before .before .before .args in (
+    let at-loop : tie.At-loop Inv-loop μ-loop = search in
+    let start : tie.Start Inv-loop μ-loop = search in
+    let s = at-loop .loop in
+    let a = start .args in (
       omega arith,
       rw (s .inv .1) (sym (falling-next (a .n) (s .j))),
       product-fits (a .n) (a .k) (s .j) (s .p) (omega arith) (omega arith) (s .inv .1) (c .if1 .left),
@@ -53,8 +47,9 @@ loop-again c =
 
 returns-2 : tie.Need-returns-2 Inv-loop μ-loop
 returns-2 c =
+    let start : tie.Start Inv-loop μ-loop = search in
     let s = c .before .loop in
-    let a = c .before .before .args in
+    let a = start .args in
     let e : s .j ≡ a .k = omega arith in
     product-done (a .n) (a .k) (s .p) (rw e at (s .inv .1)) (s .inv .2)
 
@@ -65,11 +60,9 @@ product-spec =
     Inv-loop
     μ-loop
     loop-holds
-    sub-factor
-    div-if1
+    (λ c. search needs) (λ c. search needs)
     returns
     mul-p
-    add-j
-    loop-less
+    (λ c. search needs) (λ c. search needs)
     loop-again
     returns-2)

@@ -3,7 +3,7 @@ use native.Mathlib.Omega.{arith}
 use mathlib.Core.Path.{ap, _∙_}
 use denote.Ref.{now}
 use lib.IntN.{pos}
-use Rattle.rules.specs.Places.{inside}
+use Rattle.rules.specs.Grid.{inside}
 use Rattle.rules.specs.declared.Place.{Place}
 use Rattle.rules.proofs.Starts.{start-inside}
 use Rattle.placement.proofs.Laying.{Laying, laying-start, laying-room, laying-long, laying-count, laying-short, laying-on, laying-end}
@@ -23,34 +23,45 @@ loop-holds c =
 
 start-place-requires : tie.Need-start-place-requires Inv-loop μ-loop
 start-place-requires c κs =
-    let p = c .before .before .before .pre in
+    let start : tie.Start Inv-loop μ-loop = search in
+    let p = start .pre in
     record { side-min = p .side-min; side-max = p .side-max; snakes-min = p .snakes-min; snakes-max = p .snakes-max; number = c .loop-test .taken }
 
 trace-body-requires : tie.Need-trace-body-requires Inv-loop μ-loop
 trace-body-requires c κs =
-    let l = c .before .before .before in
+    let in-loop : tie.In-loop Inv-loop μ-loop = search in
+    let l : tie.At-loop Inv-loop μ-loop = search in
     let a = l .before .before .args in
     let p = l .before .before .pre in
-    let i = start-inside (a .g) (a .n) (l .loop .i) (p .side-min) (c .before .before .loop-test .taken) in
-    ((laying-room (a .g) (a .n) (a .size) (now (a .cells)) p (l .loop .cells) (l .loop .at) (l .loop .i) (l .loop .inv) (c .before .before .loop-test .taken), p .side-max, p .size-min), ap (λ (q : Place). inside (pos (a .g)) q) (c .before .start-place .ensures) ∙ i)
+    let i = start-inside (a .g) (a .n) (l .loop .i) (p .side-min) (in-loop .loop-test .taken) in
+    ((laying-room (a .g) (a .n) (a .size) (now (a .cells)) p (l .loop .cells) (l .loop .at) (l .loop .i) (l .loop .inv) (in-loop .loop-test .taken), p .side-max, p .size-min), ap (λ (q : Place). inside (pos (a .g)) q) (c .before .start-place .ensures) ∙ i)
 
 same-length : tie.Need-same-length Inv-loop μ-loop
 same-length c =
-    let l = c .before .before .before .before .before .before .before in
+    let after-trace-body : tie.After-trace-body Inv-loop μ-loop = search in
+    let after-start-place : tie.After-start-place Inv-loop μ-loop = search in
+    let in-loop : tie.In-loop Inv-loop μ-loop = search in
+    let l : tie.At-loop Inv-loop μ-loop = search in
     let a = l .before .before .args in
-    laying-long (a .g) (a .n) (a .size) (now (a .cells)) (l .before .before .pre) (l .loop .cells) (l .loop .at) (l .loop .i) (l .loop .inv) _ _ _ (c .before .before .before .before .before .before .loop-test .taken) (c .before .before .before .before .before .start-place .ensures) (c .before .before .before .trace-body .ensures)
+    laying-long (a .g) (a .n) (a .size) (now (a .cells)) (l .before .before .pre) (l .loop .cells) (l .loop .at) (l .loop .i) (l .loop .inv) _ _ _ (in-loop .loop-test .taken) (after-start-place .start-place .ensures) (after-trace-body .trace-body .ensures)
 
 returns : tie.Need-returns Inv-loop μ-loop
 returns c =
-    let l = c .before .before .before .before .before .before .before in
+    let after-trace-body : tie.After-trace-body Inv-loop μ-loop = search in
+    let after-start-place : tie.After-start-place Inv-loop μ-loop = search in
+    let in-loop : tie.In-loop Inv-loop μ-loop = search in
+    let l : tie.At-loop Inv-loop μ-loop = search in
     let a = l .before .before .args in
-    laying-short (a .g) (a .n) (a .size) (now (a .cells)) (l .before .before .pre) (l .loop .cells) (l .loop .at) (l .loop .i) (l .loop .inv) _ _ _ (c .before .before .before .before .before .before .loop-test .taken) (c .before .before .before .before .before .start-place .ensures) (c .before .before .before .trace-body .ensures) (c .if1 .taken)
+    laying-short (a .g) (a .n) (a .size) (now (a .cells)) (l .before .before .pre) (l .loop .cells) (l .loop .at) (l .loop .i) (l .loop .inv) _ _ _ (in-loop .loop-test .taken) (after-start-place .start-place .ensures) (after-trace-body .trace-body .ensures) (c .if1 .taken)
 
 add-at : tie.Need-add-at Inv-loop μ-loop
 add-at c =
-    let l = c .before .before .before .before .before .before .before in
+    let after-trace-body : tie.After-trace-body Inv-loop μ-loop = search in
+    let after-start-place : tie.After-start-place Inv-loop μ-loop = search in
+    let in-loop : tie.In-loop Inv-loop μ-loop = search in
+    let l : tie.At-loop Inv-loop μ-loop = search in
     let a = l .before .before .args in
-    let h = laying-count (a .g) (a .n) (a .size) (now (a .cells)) (l .before .before .pre) (l .loop .cells) (l .loop .at) (l .loop .i) (l .loop .inv) _ _ _ (c .before .before .before .before .before .before .loop-test .taken) (c .before .before .before .before .before .start-place .ensures) (c .before .before .before .trace-body .ensures) in
+    let h = laying-count (a .g) (a .n) (a .size) (now (a .cells)) (l .before .before .pre) (l .loop .cells) (l .loop .at) (l .loop .i) (l .loop .inv) _ _ _ (in-loop .loop-test .taken) (after-start-place .start-place .ensures) (after-trace-body .trace-body .ensures) in
     omega (arith, h, l .loop .inv .long, l .before .before .pre .room)
 
 add-i : tie.Need-add-i Inv-loop μ-loop
@@ -61,9 +72,12 @@ loop-less c = omega arith
 
 loop-again : tie.Need-loop-again Inv-loop μ-loop
 loop-again c =
-    let l = c .before .before .before .before .before .before .before in
+    let after-trace-body : tie.After-trace-body Inv-loop μ-loop = search in
+    let after-start-place : tie.After-start-place Inv-loop μ-loop = search in
+    let in-loop : tie.In-loop Inv-loop μ-loop = search in
+    let l : tie.At-loop Inv-loop μ-loop = search in
     let a = l .before .before .args in
-    laying-on (a .g) (a .n) (a .size) (now (a .cells)) (l .before .before .pre) (l .loop .cells) (l .loop .at) (l .loop .i) (l .loop .inv) _ _ _ (c .before .before .before .before .before .before .loop-test .taken) (c .before .before .before .before .before .start-place .ensures) (c .before .before .before .trace-body .ensures) (c .if1 .left)
+    laying-on (a .g) (a .n) (a .size) (now (a .cells)) (l .before .before .pre) (l .loop .cells) (l .loop .at) (l .loop .i) (l .loop .inv) _ _ _ (in-loop .loop-test .taken) (after-start-place .start-place .ensures) (after-trace-body .trace-body .ensures) (c .if1 .left)
 
 same-length-2 : tie.Need-same-length-2 Inv-loop μ-loop
 same-length-2 c = c .before .loop .inv .long

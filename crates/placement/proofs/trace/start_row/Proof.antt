@@ -11,9 +11,6 @@ use Rattle.placement.proofs.trace.start_row.Tie as tie
 returns : tie.Need-returns
 returns c = simp (eq-eqb _ _ (c .if1 .taken))
 
-add-result : tie.Need-add-result
-add-result c = search needs
-
 mul-result : tie.Need-mul-result
 mul-result c =
     let a = c .before .args in
@@ -22,15 +19,15 @@ mul-result c =
     let m : (a .i + 1) * a .g ≤ 8 * 32 = mul-le-mul i g in
     record { fits = omega (arith, m) }
 
-add-result-2 : tie.Need-add-result-2
-add-result-2 c = search needs
-
-div-result : tie.Need-div-result
-div-result c = search needs
-
 returns-2 : tie.Need-returns-2
 returns-2 c = simp (ne-eqb _ _ (c .if1 .left)) (rw (add-one, add-one))
 
 pub start-row-spec : {M : Type 1} → statement M
 start-row-spec =
-    tie.close (tie.spec returns add-result mul-result add-result-2 div-result returns-2)
+    tie.close
+    (tie.spec
+    returns
+    (λ c. search needs)
+    mul-result
+    (λ c. search needs) (λ c. search needs)
+    returns-2)

@@ -7,7 +7,7 @@ use mathlib.Core.Bool.{true, false}
 use lib.IntN.{pos}
 use lib.ListN.{drop, getD}
 use borrow.Author.Needs.{needs}
-use Rattle.rules.specs.Places.{ahead, inside}
+use Rattle.rules.specs.Grid.{ahead, inside}
 use Rattle.rules.specs.Placement.{tracing, unblocked}
 use Rattle.rules.specs.declared.Heading.{Heading}
 use Rattle.rules.specs.declared.Heading.the-variants.{Up}
@@ -29,21 +29,17 @@ loop-holds c = (search needs, refl)
 direction-requires : tie.Need-direction-requires Inv-loop μ-loop
 direction-requires c κs = omega arith
 
-ahead-requires : tie.Need-ahead-requires Inv-loop μ-loop
-ahead-requires c κs = search needs
-
-on-grid-requires : tie.Need-on-grid-requires Inv-loop μ-loop
-on-grid-requires c κs = search needs
-
 returns : tie.Need-returns Inv-loop μ-loop
 returns c =
-    let l = c .before .before .before .before .before in
+    let after-ahead : tie.After-ahead Inv-loop μ-loop = search in
+    let after-direction : tie.After-direction Inv-loop μ-loop = search in
+    let l : tie.At-loop Inv-loop μ-loop = search in
     let a = l .before .before .args in
     let t : l .loop .turn < 4 = search needs in
-    let d = c .before .before .before .direction .ensures in
-    let q : c .before .before .ahead .result ≡ ahead (getD (tracing (a .even)) (l .loop .turn) Up) (a .from .place) =
-    c .before .before .ahead .ensures ∙ ap (λ (h : Heading). ahead h (a .from .place)) d in
-    let i : inside (pos (a .g)) (c .before .before .ahead .result) ≡ true = sym (c .before .on-grid .ensures) ∙ c .if1 .taken in
+    let d = after-direction .direction .ensures in
+    let q : after-ahead .ahead .result ≡ ahead (getD (tracing (a .even)) (l .loop .turn) Up) (a .from .place) =
+    after-ahead .ahead .ensures ∙ ap (λ (h : Heading). ahead h (a .from .place)) d in
+    let i : inside (pos (a .g)) (after-ahead .ahead .result) ≡ true = sym (c .before .on-grid .ensures) ∙ c .if1 .taken in
     record {
       most = omega arith;
       left = l .loop .inv .1 ∙ walk-open (pos (a .g)) (a .even) (a .from .place) (l .loop .turn) t (ap (λ (p : Place). inside (pos (a .g)) p) (sym q) ∙ i);
@@ -59,17 +55,20 @@ loop-less c = omega arith
 
 loop-again : tie.Need-loop-again Inv-loop μ-loop
 loop-again c =
-    let l = c .before .before .before .before .before in
+    let after-ahead : tie.After-ahead Inv-loop μ-loop = search in
+    let after-direction : tie.After-direction Inv-loop μ-loop = search in
+    let l : tie.At-loop Inv-loop μ-loop = search in
     let a = l .before .before .args in
     let t : l .loop .turn < 4 = search needs in
-    let q : c .before .before .ahead .result ≡ ahead (getD (tracing (a .even)) (l .loop .turn) Up) (a .from .place) =
-    c .before .before .ahead .ensures ∙ ap (λ (h : Heading). ahead h (a .from .place)) (c .before .before .before .direction .ensures) in
-    let i : inside (pos (a .g)) (c .before .before .ahead .result) ≡ false = sym (c .before .on-grid .ensures) ∙ c .if1 .left in
+    let q : after-ahead .ahead .result ≡ ahead (getD (tracing (a .even)) (l .loop .turn) Up) (a .from .place) =
+    after-ahead .ahead .ensures ∙ ap (λ (h : Heading). ahead h (a .from .place)) (after-direction .direction .ensures) in
+    let i : inside (pos (a .g)) (after-ahead .ahead .result) ≡ false = sym (c .before .on-grid .ensures) ∙ c .if1 .left in
     (omega arith, l .loop .inv .1 ∙ walk-shut (pos (a .g)) (a .even) (a .from .place) (l .loop .turn) t (ap (λ (p : Place). inside (pos (a .g)) p) (sym q) ∙ i))
 
 returns-2 : tie.Need-returns-2 Inv-loop μ-loop
 returns-2 c =
-    let a = c .before .before .before .args in
+    let start : tie.Start Inv-loop μ-loop = search in
+    let a = start .args in
     let l = c .before .loop in
     record {
       most = omega arith;
@@ -86,8 +85,7 @@ walk-on-spec =
     μ-loop
     loop-holds
     direction-requires
-    ahead-requires
-    on-grid-requires
+    (λ c κs. search needs) (λ c κs. search needs)
     returns
     add-turn
     loop-less

@@ -8,9 +8,6 @@ use borrow.Author.Needs.{needs}
 use Rattle.probe.proofs.rewards.bits_of.Statement.{statement}
 use Rattle.probe.proofs.rewards.bits_of.Tie as tie
 
-returns : tie.Need-returns
-returns c = search needs
-
 real : (x : Float) → ne x x ≡ false → T (not (isNan x))
 unfolding isNan
 real nan e = absurd (subst T (sym nan-differs ∙ e) tt)
@@ -20,8 +17,5 @@ real (fin s m k) e = tt
 float-to-bits-result : tie.Need-float-to-bits-result
 float-to-bits-result c = real (c .before .args .x) (c .if1 .left)
 
-returns-2 : tie.Need-returns-2
-returns-2 c = search needs
-
 pub bits-of-spec : {M : Type 1} → statement M
-bits-of-spec = tie.close (tie.spec returns float-to-bits-result returns-2)
+bits-of-spec = tie.close (tie.spec (λ c. search needs) float-to-bits-result (λ c. search needs))

@@ -17,39 +17,19 @@ seven true true true true true false g = refl
 seven true true true true true true false = refl
 seven true true true true true true true = refl
 
-is-finite-requires : tie.Need-is-finite-requires
-is-finite-requires c κs = search needs
-
-is-finite-requires-2 : tie.Need-is-finite-requires-2
-is-finite-requires-2 c κs = search needs
-
-is-finite-requires-3 : tie.Need-is-finite-requires-3
-is-finite-requires-3 c κs = search needs
-
-is-finite-requires-4 : tie.Need-is-finite-requires-4
-is-finite-requires-4 c κs = search needs
-
-is-finite-requires-5 : tie.Need-is-finite-requires-5
-is-finite-requires-5 c κs = search needs
-
-is-finite-requires-6 : tie.Need-is-finite-requires-6
-is-finite-requires-6 c κs = search needs
-
-is-finite-requires-7 : tie.Need-is-finite-requires-7
-is-finite-requires-7 c κs = search needs
-
 returns : tie.Need-returns
-returns c = rw (c .before .before .before .before .before .before .is-finite .ensures, c .before .before .before .before .before .is-finite2 .ensures, c .before .before .before .before .is-finite3 .ensures, c .before .before .before .is-finite4 .ensures, c .before .before .is-finite5 .ensures, c .before .is-finite6 .ensures, c .is-finite7 .ensures) (seven _ _ _ _ _ _ _)
+returns c =
+    let after-is-finite5 : tie.After-is-finite5 = search in
+    let after-is-finite4 : tie.After-is-finite4 = search in
+    let after-is-finite3 : tie.After-is-finite3 = search in
+    let after-is-finite2 : tie.After-is-finite2 = search in
+    let after-is-finite : tie.After-is-finite = search in
+    rw (after-is-finite .is-finite .ensures, after-is-finite2 .is-finite2 .ensures, after-is-finite3 .is-finite3 .ensures, after-is-finite4 .is-finite4 .ensures, after-is-finite5 .is-finite5 .ensures, c .before .is-finite6 .ensures, c .is-finite7 .ensures) (seven _ _ _ _ _ _ _)
 
 pub all-finite-spec : {M : Type 1} → statement M
 all-finite-spec =
     tie.close
     (tie.spec
-    is-finite-requires
-    is-finite-requires-2
-    is-finite-requires-3
-    is-finite-requires-4
-    is-finite-requires-5
-    is-finite-requires-6
-    is-finite-requires-7
+    (λ c κs. search needs) (λ c κs. search needs) (λ c κs. search needs) (λ c κs. search needs) (λ c κs. search needs)
+    (λ c κs. search needs) (λ c κs. search needs)
     returns)

@@ -4,7 +4,7 @@ use native.Mathlib.Omega.{arith}
 use mathlib.Core.Path.{sym, ap, _∙_}
 use lib.Dec.{ltb}
 use Rattle.lists.specs.Products.{falling}
-use Rattle.lists.specs.Tables.{fault}
+use Rattle.rules.specs.Tables.{fault}
 use borrow.Author.Tests.{lt-ltb, le-ltb}
 use Rattle.rules.proofs.Facts.{square-le}
 use borrow.Author.Needs.{needs}
@@ -22,30 +22,38 @@ returns-2 : tie.Need-returns-2
 unfolding fault
 returns-2 c = simp (le-ltb _ _ (c .before .if1 .left), lt-ltb _ _ (c .if2 .taken))
 
-smaller-requires : tie.Need-smaller-requires
-smaller-requires c κs = search needs
-
 too-many-requires : tie.Need-too-many-requires
 too-many-requires c κs =
-    let a = c .before .before .before .args in
+    let else1 : tie.Else1 = search in
+    let start : tie.Start = search in
+    let a = start .args in
     let m : c .smaller .result ≤ a .food = rw (c .smaller .ensures) (min-le-right (a .n) (a .food)) in
-    le-trans m (c .before .before .if1 .left)
+    le-trans m (else1 .if1 .left)
 
 returns-3 : tie.Need-returns-3
 unfolding fault
 returns-3 c =
-    let b = c .before .before .before in
-    let t = sym (c .before .too-many .ensures ∙ ap (λ (k : ℕ). ltb 9007199254740992 (falling (b .before .before .args .side * b .before .before .args .side) k)) (c .before .before .smaller .ensures)) ∙ c .if3 .taken in
+    let after-smaller : tie.After-smaller = search in
+    let b : tie.Else2 = search in
+    let t = sym (c .before .too-many .ensures ∙ ap (λ (k : ℕ). ltb 9007199254740992 (falling (b .before .before .args .side * b .before .before .args .side) k)) (after-smaller .smaller .ensures)) ∙ c .if3 .taken in
     simp (le-ltb _ _ (b .before .if1 .left), le-ltb _ _ (b .if2 .left), t)
 
 returns-4 : tie.Need-returns-4
 unfolding fault
 returns-4 c =
-    let b = c .before .before .before in
-    let t = sym (c .before .too-many .ensures ∙ ap (λ (k : ℕ). ltb 9007199254740992 (falling (b .before .before .args .side * b .before .before .args .side) k)) (c .before .before .smaller .ensures)) ∙ c .if3 .left in
+    let after-smaller : tie.After-smaller = search in
+    let b : tie.Else2 = search in
+    let t = sym (c .before .too-many .ensures ∙ ap (λ (k : ℕ). ltb 9007199254740992 (falling (b .before .before .args .side * b .before .before .args .side) k)) (after-smaller .smaller .ensures)) ∙ c .if3 .left in
     simp (le-ltb _ _ (b .before .if1 .left), le-ltb _ _ (b .if2 .left), t)
 
 pub crowded-spec : {M : Type 1} → statement M
 crowded-spec =
     tie.close
-    (tie.spec mul-area returns returns-2 smaller-requires too-many-requires returns-3 returns-4)
+    (tie.spec
+    mul-area
+    returns
+    returns-2
+    (λ c κs. search needs)
+    too-many-requires
+    returns-3
+    returns-4)

@@ -7,7 +7,7 @@ use mir.Syntax.{w32}
 use mir.Val.{toZ, ofZ}
 use borrow.Author.Tests.{eq-eqb, ne-eqb}
 use borrow.Author.Needs.{needs}
-use Rattle.lists.specs.Tables.{fault}
+use Rattle.rules.specs.Tables.{fault}
 use Rattle.rules.specs.Setting.{sideOf}
 use Rattle.rules.specs.SettingParts.{limitsCheck}
 use Rattle.rules.proofs.Starts.{side-small}
@@ -23,22 +23,16 @@ returns-2 : tie.Need-returns-2
 unfolding limitsCheck fault
 returns-2 c = simp (c .before .if1 .left, eq-eqb _ _ (c .if2 .taken))
 
-is-zero-requires : tie.Need-is-zero-requires
-is-zero-requires c κs = search needs
-
 returns-3 : tie.Need-returns-3
 unfolding limitsCheck fault
 returns-3 c =
-    let b = c .before .before in
+    let b : tie.Else2 = search in
     simp (b .before .if1 .left, ne-eqb _ _ (b .if2 .left), sym (c .before .is-zero .ensures) ∙ c .if3 .taken)
-
-is-set-requires : tie.Need-is-set-requires
-is-set-requires c κs = search needs
 
 returns-4 : tie.Need-returns-4
 unfolding limitsCheck fault
 returns-4 c =
-    let z = c .before .before in
+    let z : tie.Else3 = search in
     let b = z .before .before in
     simp (b .before .if1 .left, ne-eqb _ _ (b .if2 .left), sym (z .before .is-zero .ensures) ∙ z .if3 .left, ← c .before .is-set .ensures, c .if4 .taken)
 
@@ -48,18 +42,15 @@ returns-5 c =
     let f = c .before in
     let z = f .before .before in
     let b = z .before .before in
-    let g = b .before .before .before .args .setting .grid in
+    let g = b .before .before .before .args .setting .«grid_size» in
     let e : toZ w32 (ofZ w32 g) ≡ g = search needs in
     let h : ltZ (pos 32) g ≡ true = rw e at (c .if5 .taken) in
     simp (b .before .if1 .left, ne-eqb _ _ (b .if2 .left), sym (z .before .is-zero .ensures) ∙ z .if3 .left, ← f .before .is-set .ensures, f .if4 .left, h)
 
-side-of-requires : tie.Need-side-of-requires
-side-of-requires c κs = search needs
-
 crowded-requires : tie.Need-crowded-requires
 crowded-requires c κs =
-    let f = c .before .before in
-    let g = f .before .before .before .before .before .before .before .args .setting .grid in
+    let s : tie.Start = search in
+    let g = s .args .setting .«grid_size» in
     let e : toZ w32 (ofZ w32 g) ≡ g = search needs in
     let h : ltZ (pos 32) g ≡ false = rw e at (c .before .if5 .left) in
     rw (c .side-of .ensures ∙ ap sideOf e) (side-small g h)
@@ -67,15 +58,16 @@ crowded-requires c κs =
 returns-6 : tie.Need-returns-6
 unfolding limitsCheck fault
 returns-6 c =
-    let f = c .before .before .before in
+    let else5 : tie.Else5 = search in
+    let f : tie.Else4 = search in
     let z = f .before .before in
     let b = z .before .before in
     let a = b .before .before .before .args in
-    let g = a .setting .grid in
+    let g = a .setting .«grid_size» in
     let e : toZ w32 (ofZ w32 g) ≡ g = search needs in
-    let h : ltZ (pos 32) g ≡ false = rw e at (c .before .before .if5 .left) in
+    let h : ltZ (pos 32) g ≡ false = rw e at (else5 .if5 .left) in
     simp (b .before .if1 .left, ne-eqb _ _ (b .if2 .left), sym (z .before .is-zero .ensures) ∙ z .if3 .left, ← f .before .is-set .ensures, f .if4 .left, h)
-    (c .crowded .ensures ∙ ap (λ (k : ℕ). crowdCheck (a .setting .snakes) k (a .setting .food)) (c .before .side-of .ensures ∙ ap sideOf e))
+    (c .crowded .ensures ∙ ap (λ (k : ℕ). crowdCheck (a .setting .«num_snakes») k (a .setting .«initial_food_count»)) (c .before .side-of .ensures ∙ ap sideOf e))
 
 pub limits-spec : {M : Type 1} → statement M
 limits-spec =
@@ -83,11 +75,11 @@ limits-spec =
     (tie.spec
     returns
     returns-2
-    is-zero-requires
+    (λ c κs. search needs)
     returns-3
-    is-set-requires
+    (λ c κs. search needs)
     returns-4
     returns-5
-    side-of-requires
+    (λ c κs. search needs)
     crowded-requires
     returns-6)

@@ -10,9 +10,6 @@ use Rattle.lists.proofs.Fitted.{fitted-above}
 use Rattle.setting.proofs.limits.too_many.Statement.{statement}
 use Rattle.setting.proofs.limits.too_many.Tie as tie
 
-product-requires : tie.Need-product-requires
-product-requires c κs = search needs
-
 returns : tie.Need-returns
 returns c =
     let a = c .before .args in
@@ -20,4 +17,4 @@ returns c =
     ∙ fitted-above 9007199254740992 (falling (a .area) (a .k)) (omega arith) (falling-pos (a .area) (a .k) (c .before .pre))
 
 pub too-many-spec : {M : Type 1} → statement M
-too-many-spec = tie.close (tie.spec product-requires returns)
+too-many-spec = tie.close (tie.spec (λ c κs. search needs) returns)

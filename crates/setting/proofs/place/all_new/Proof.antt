@@ -1,13 +1,8 @@
-use Rattle.lists.proofs.Boards.{board-blank}
+-- `setting::all_new` meets its contract: one pass of stamps over an empty board is the test. Assumes nothing.
 use borrow.Author.Needs.{needs}
+use Rattle.boards.proofs.Boards.{board-blank}
 use Rattle.setting.proofs.place.all_new.Statement.{statement}
 use Rattle.setting.proofs.place.all_new.Tie as tie
 
-stamps-once-requires : tie.Need-stamps-once-requires
-stamps-once-requires c κs = (search needs, board-blank)
-
-returns : tie.Need-returns
-returns c = search needs
-
 pub all-new-spec : {M : Type 1} → statement M
-all-new-spec = tie.close (tie.spec stamps-once-requires returns)
+all-new-spec = tie.close (tie.spec (λ c κs. search (needs, board-blank)) (λ c. search needs))

@@ -15,83 +15,77 @@ use borrow.Author.Needs.{needs}
 use Rattle.setting.proofs.place.place_check.Statement.{statement}
 use Rattle.setting.proofs.place.place_check.Tie as tie
 
-beyond-requires : tie.Need-beyond-requires
-beyond-requires c κs = search needs
-
 returns : tie.Need-returns
 returns c =
-    let b = c .before .before .before .before in
+    let b : tie.Start = search in
     let s = b .args .setting in
     let p = b .pre .0 in
-    let e : toZ w32 (ofZ w32 (s .grid)) ≡ s .grid = search needs in
-    let h : ltZ (s .grid) (pos 2) ≡ true = rw e at (c .before .if1 .taken) in
-    judge-small _ (s .size) 1 _ _ _ _ (small-less (s .snakes) (s .food) (p .snakes-min) (p .snakes-max) (s .grid) (s .size) (p .size-min) h) (c .beyond .ensures)
-
-beyond-requires-2 : tie.Need-beyond-requires-2
-beyond-requires-2 c κs = search needs
+    let e : toZ w32 (ofZ w32 (s .«grid_size»)) ≡ s .«grid_size» = search needs in
+    let h : ltZ (s .«grid_size») (pos 2) ≡ true = rw e at (c .before .if1 .taken) in
+    judge-small _ (s .«initial_length») 1 _ _ _ _ (small-less (s .«num_snakes») (s .«initial_food_count») (p .snakes-min) (p .snakes-max) (s .«grid_size») (s .«initial_length») (p .size-min) h) (c .beyond .ensures)
 
 returns-2 : tie.Need-returns-2
 returns-2 c =
-    let b = c .before .before .before .before .before in
+    let else1 : tie.Else1 = search in
+    let b : tie.Start = search in
     let s = b .args .setting in
     let p = b .pre .0 in
-    let e : toZ w32 (ofZ w32 (s .grid)) ≡ s .grid = search needs in
-    let h : ltZ (s .grid) (pos 2) ≡ false = rw e at (c .before .before .if1 .left) in
-    let k : ltZ (s .grid) (pos 3) ≡ true = rw e at (c .before .if2 .taken) in
-    judge-small _ (s .size) 3 _ _ _ _ (small-two (s .snakes) (s .food) (p .snakes-min) (p .snakes-max) (s .grid) (s .size) (p .size-min) (grid-two (s .grid) h k)) (c .beyond2 .ensures)
-
-cast-n : tie.Need-cast-n
-cast-n c = search needs
+    let e : toZ w32 (ofZ w32 (s .«grid_size»)) ≡ s .«grid_size» = search needs in
+    let h : ltZ (s .«grid_size») (pos 2) ≡ false = rw e at (else1 .if1 .left) in
+    let k : ltZ (s .«grid_size») (pos 3) ≡ true = rw e at (c .before .if2 .taken) in
+    judge-small _ (s .«initial_length») 3 _ _ _ _ (small-two (s .«num_snakes») (s .«initial_food_count») (p .snakes-min) (p .snakes-max) (s .«grid_size») (s .«initial_length») (p .size-min) (grid-two (s .«grid_size») h k)) (c .beyond2 .ensures)
 
 plain-requires : tie.Need-plain-requires
 plain-requires c κs =
-    let b = c .before .before .before .before .before .before in
+    let else2 : tie.Else2 = search in
+    let b : tie.Start = search in
     let s = b .args .setting in
-    let e : toZ w32 (ofZ w32 (s .grid)) ≡ s .grid = search needs in
-    let k : ltZ (s .grid) (pos 3) ≡ false = rw e at (c .before .before .if2 .left) in
-    rw e (record { positive = side-plain-three (s .grid) k; small = omega (arith, side-abs (s .grid) k, side-small (s .grid) (b .pre .0 .grid-max)) })
+    let e : toZ w32 (ofZ w32 (s .«grid_size»)) ≡ s .«grid_size» = search needs in
+    let k : ltZ (s .«grid_size») (pos 3) ≡ false = rw e at (else2 .if2 .left) in
+    rw e (record { positive = side-plain-three (s .«grid_size») k; small = omega (arith, side-abs (s .«grid_size») k, side-small (s .«grid_size») (b .pre .0 .grid-max)) })
 
 judge-requires : tie.Need-judge-requires
 judge-requires c κs =
-    let b = c .before .before .before .before .before .before .before in
+    let else2 : tie.Else2 = search in
+    let b : tie.Start = search in
     let s = b .args .setting in
     let p = b .pre .0 in
-    let e : toZ w32 (ofZ w32 (s .grid)) ≡ s .grid = search needs in
-    let k : ltZ (s .grid) (pos 3) ≡ false = rw e at (c .before .before .before .if2 .left) in
-    let m : c .plain .result ≡ sideOf (s .grid) = c .plain .ensures ∙ ap natAbs e ∙ side-abs (s .grid) k in (
+    let e : toZ w32 (ofZ w32 (s .«grid_size»)) ≡ s .«grid_size» = search needs in
+    let k : ltZ (s .«grid_size») (pos 3) ≡ false = rw e at (else2 .if2 .left) in
+    let m : c .plain .result ≡ sideOf (s .«grid_size») = c .plain .ensures ∙ ap natAbs e ∙ side-abs (s .«grid_size») k in (
       record {
-        side-min = omega (arith, m, side-three (s .grid) k);
-        side-max = omega (arith, m, side-small (s .grid) (p .grid-max));
+        side-min = omega (arith, m, side-three (s .«grid_size») k);
+        side-max = omega (arith, m, side-small (s .«grid_size») (p .grid-max));
         snakes-min = p .snakes-min;
         snakes-max = p .snakes-max;
         size-min = p .size-min;
         room = b .pre .1;
       },
-      omega (arith, p .food-max, square-le (sideOf (s .grid)) (side-small (s .grid) (p .grid-max))),
+      omega (arith, p .food-max, square-le (sideOf (s .«grid_size»)) (side-small (s .«grid_size») (p .grid-max))),
     )
-
-same-length : tie.Need-same-length
-same-length c = search needs
 
 returns-3 : tie.Need-returns-3
 returns-3 c =
-    let b = c .before .before .before .before .before .before .before .before .before .before in
+    let after-judge : tie.After-judge = search in
+    let after-plain : tie.After-plain = search in
+    let else2 : tie.Else2 = search in
+    let b : tie.Start = search in
     let s = b .args .setting in
-    let e : toZ w32 (ofZ w32 (s .grid)) ≡ s .grid = search needs in
-    let k : ltZ (s .grid) (pos 3) ≡ false = rw e at (c .before .before .before .before .before .before .if2 .left) in
-    let m : c .before .before .before .plain .result ≡ sideOf (s .grid) = c .before .before .before .plain .ensures ∙ ap natAbs e ∙ side-abs (s .grid) k in
-    judge-side (s .grid) _ (s .snakes) (s .size) (s .food) (now (b .args .cells)) _ _ m (grid-side (s .grid) k) (c .before .before .judge .ensures)
+    let e : toZ w32 (ofZ w32 (s .«grid_size»)) ≡ s .«grid_size» = search needs in
+    let k : ltZ (s .«grid_size») (pos 3) ≡ false = rw e at (else2 .if2 .left) in
+    let m : after-plain .plain .result ≡ sideOf (s .«grid_size») = after-plain .plain .ensures ∙ ap natAbs e ∙ side-abs (s .«grid_size») k in
+    judge-side (s .«grid_size») _ (s .«num_snakes») (s .«initial_length») (s .«initial_food_count») (now (b .args .cells)) _ _ m (grid-side (s .«grid_size») k) (after-judge .judge .ensures)
 
 pub place-check-spec : {M : Type 1} → statement M
 place-check-spec =
     tie.close
     (tie.spec
-    beyond-requires
+    (λ c κs. search needs)
     returns
-    beyond-requires-2
+    (λ c κs. search needs)
     returns-2
-    cast-n
+    (λ c. search needs)
     plain-requires
     judge-requires
-    same-length
+    (λ c. search needs)
     returns-3)

@@ -10,66 +10,57 @@ use Rattle.placement.proofs.Apart.{apart-side, apart-total, apart-check}
 use Rattle.setting.proofs.place.place_number.Statement.{statement}
 use Rattle.setting.proofs.place.place_number.Tie as tie
 
-side-of-requires : tie.Need-side-of-requires
-side-of-requires c κs = search needs
-
 span-requires : tie.Need-span-requires
 span-requires c κs =
-    let b = c .before .before in
+    let b : tie.Start = search in
     let s = b .args .setting in
-    let e : toZ w32 (ofZ w32 (s .grid)) ≡ s .grid = search needs in
+    let e : toZ w32 (ofZ w32 (s .«grid_size»)) ≡ s .«grid_size» = search needs in
     (apart-side s (b .pre) _ (c .side-of .ensures ∙ ap sideOf e), b .pre .snakes-max)
 
 mul-full : tie.Need-mul-full
 mul-full c =
-    let b = c .before .before .before .before in
+    let after-side-of : tie.After-side-of = search in
+    let b : tie.Start = search in
     let s = b .args .setting in
-    let d = c .before .before .side-of in
-    let e : toZ w32 (ofZ w32 (s .grid)) ≡ s .grid = search needs in
+    let d = after-side-of .side-of in
+    let e : toZ w32 (ofZ w32 (s .«grid_size»)) ≡ s .«grid_size» = search needs in
     record { fits = omega (arith, square-le (d .result) (apart-side s (b .pre) _ (d .ensures ∙ ap sideOf e))) }
 
 mul-full-2 : tie.Need-mul-full-2
 mul-full-2 c =
-    let b = c .before .before .before .before in
+    let after-side-of : tie.After-side-of = search in
+    let b : tie.Start = search in
     let s = b .args .setting in
-    let e : toZ w32 (ofZ w32 (s .grid)) ≡ s .grid = search needs in
-    record { fits = omega (arith, apart-total s (b .pre) _ (c .before .before .side-of .ensures ∙ ap sideOf e) _ (c .before .span .ensures) (omega (arith, c .if1 .taken))) }
+    let e : toZ w32 (ofZ w32 (s .«grid_size»)) ≡ s .«grid_size» = search needs in
+    record { fits = omega (arith, apart-total s (b .pre) _ (after-side-of .side-of .ensures ∙ ap sideOf e) _ (c .before .span .ensures) (omega (arith, c .if1 .taken))) }
 
 full-requires : tie.Need-full-requires
 full-requires c κs =
-    let b = c .before .before .before .before in
+    let after-side-of : tie.After-side-of = search in
+    let b : tie.Start = search in
     let s = b .args .setting in
-    let e : toZ w32 (ofZ w32 (s .grid)) ≡ s .grid = search needs in (
-      apart-total s (b .pre) _ (c .before .before .side-of .ensures ∙ ap sideOf e) _ (c .before .span .ensures) (omega (arith, c .if1 .taken)),
-      omega (arith, b .pre .food-max, square-le (sideOf (s .grid)) (side-small (s .grid) (b .pre .grid-max))),
+    let e : toZ w32 (ofZ w32 (s .«grid_size»)) ≡ s .«grid_size» = search needs in (
+      apart-total s (b .pre) _ (after-side-of .side-of .ensures ∙ ap sideOf e) _ (c .before .span .ensures) (omega (arith, c .if1 .taken)),
+      omega (arith, b .pre .food-max, square-le (sideOf (s .«grid_size»)) (side-small (s .«grid_size») (b .pre .grid-max))),
     )
 
 returns : tie.Need-returns
 returns c =
-    let b = c .before .before .before .before .before in
+    let after-span : tie.After-span = search in
+    let after-side-of : tie.After-side-of = search in
+    let b : tie.Start = search in
     let s = b .args .setting in
-    let e : toZ w32 (ofZ w32 (s .grid)) ≡ s .grid = search needs in
-    c .full .ensures ∙ apart-check s (b .pre) _ (c .before .before .before .side-of .ensures ∙ ap sideOf e) _ (c .before .before .span .ensures) (c .before .if1 .taken)
-
-slice-aggregate-place-check : tie.Need-slice-aggregate-place-check
-slice-aggregate-place-check c = search needs
-
-place-check-requires : tie.Need-place-check-requires
-place-check-requires c κs = search needs
-
-returns-2 : tie.Need-returns-2
-returns-2 c = search needs
+    let e : toZ w32 (ofZ w32 (s .«grid_size»)) ≡ s .«grid_size» = search needs in
+    c .full .ensures ∙ apart-check s (b .pre) _ (after-side-of .side-of .ensures ∙ ap sideOf e) _ (after-span .span .ensures) (c .before .if1 .taken)
 
 pub place-number-spec : {M : Type 1} → statement M
 place-number-spec =
     tie.close
     (tie.spec
-    side-of-requires
+    (λ c κs. search needs)
     span-requires
     mul-full
     mul-full-2
     full-requires
     returns
-    slice-aggregate-place-check
-    place-check-requires
-    returns-2)
+    (λ c. search needs) (λ c κs. search needs) (λ c. search needs))

@@ -19,43 +19,19 @@ abbrev μ-loop : tie.MeasureT-loop
 loop-holds : tie.Need-loop-holds Inv-loop μ-loop
 loop-holds c = (omega arith, filled-none (deathAt (c .args .k) (c .args .t2) (c .args .t3)) 8 0)
 
-mul-e : tie.Need-mul-e Inv-loop μ-loop
-mul-e c = search needs
-
-array-copy-out-e : tie.Need-array-copy-out-e Inv-loop μ-loop
-array-copy-out-e c = search needs
-
-mul-death-of : tie.Need-mul-death-of Inv-loop μ-loop
-mul-death-of c = search needs
-
-array-read-death-of : tie.Need-array-read-death-of Inv-loop μ-loop
-array-read-death-of c = search needs
-
-death-of-requires : tie.Need-death-of-requires Inv-loop μ-loop
-death-of-requires c κs = search needs
-
-mul-out : tie.Need-mul-out Inv-loop μ-loop
-mul-out c = search needs
-
-array-write-out : tie.Need-array-write-out Inv-loop μ-loop
-array-write-out c = search needs
-
-add-i : tie.Need-add-i Inv-loop μ-loop
-add-i c = search needs
-
-loop-less : tie.Need-loop-less Inv-loop μ-loop
-loop-less c = search needs
-
 loop-again : tie.Need-loop-again Inv-loop μ-loop
 loop-again c =
-    let a = c .before .before .before .before .args in
-    let l = c .before .before .before .loop in
+    let at-loop : tie.At-loop Inv-loop μ-loop = search in
+    let start : tie.Start Inv-loop μ-loop = search in
+    let a = start .args in
+    let l = at-loop .loop in
     let f = deathAt (a .k) (a .t2) (a .t3) in
     (omega arith, ap (λ (x : List ℕ). set x (l .i) (c .death-of .result)) (l .inv .1) ∙ rw (c .death-of .ensures) (filled-more f (l .i) 8 0 (omega arith)))
 
 returns : tie.Need-returns Inv-loop μ-loop
 returns c =
-    let a = c .before .before .args in
+    let start : tie.Start Inv-loop μ-loop = search in
+    let a = start .args in
     let e : c .before .loop .i ≡ 8 = omega arith in
     c .before .loop .inv .1 ∙ ap (λ (k : ℕ). filled (deathAt (a .k) (a .t2) (a .t3)) k 8 0) e
 
@@ -66,14 +42,7 @@ deaths-after-spec =
     Inv-loop
     μ-loop
     loop-holds
-    mul-e
-    array-copy-out-e
-    mul-death-of
-    array-read-death-of
-    death-of-requires
-    mul-out
-    array-write-out
-    add-i
-    loop-less
+    (λ c. search needs) (λ c. search needs) (λ c. search needs) (λ c. search needs) (λ c κs. search needs)
+    (λ c. search needs) (λ c. search needs) (λ c. search needs) (λ c. search needs)
     loop-again
     returns)

@@ -6,16 +6,11 @@ use borrow.Author.Needs.{needs}
 use Rattle.standing.proofs.moves.ends_by.Statement.{statement}
 use Rattle.standing.proofs.moves.ends_by.Tie as tie
 
-count-on-requires : tie.Need-count-on-requires
-count-on-requires c κs = search needs
-
-has-reached-requires : tie.Need-has-reached-requires
-has-reached-requires c κs = search needs
-
 returns : tie.Need-returns
 returns c =
-    let a = c .before .before .before .args in
-    ap (λ (x : Bool). not (a .over) && x) (c .has-reached .ensures ∙ ap (λ (k : ℕ). reached (a .m .setting .ticks) k) (c .before .count-on .ensures))
+    let start : tie.Start = search in
+    let a = start .args in
+    ap (λ (x : Bool). not (a .over) && x) (c .has-reached .ensures ∙ ap (λ (k : ℕ). reached (a .m .setting .«max_ticks») k) (c .before .count-on .ensures))
 
 pub ends-by-spec : {M : Type 1} → statement M
-ends-by-spec = tie.close (tie.spec count-on-requires has-reached-requires returns)
+ends-by-spec = tie.close (tie.spec (λ c κs. search needs) (λ c κs. search needs) returns)

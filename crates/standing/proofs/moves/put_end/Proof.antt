@@ -3,22 +3,17 @@ use borrow.Author.Needs.{needs}
 use Rattle.standing.proofs.moves.put_end.Statement.{statement}
 use Rattle.standing.proofs.moves.put_end.Tie as tie
 
-snakes-of-requires : tie.Need-snakes-of-requires
-snakes-of-requires c κs = search needs
-
-places-requires : tie.Need-places-requires
-places-requires c κs = search needs
-
-put-places-requires : tie.Need-put-places-requires
-put-places-requires c κs = search needs
-
-same-length : tie.Need-same-length
-same-length c = search needs
-
 returns : tie.Need-returns
 unfolding endText
-returns c = rw (← c .before .before .before .before .before .before .snakes-of .ensures .0, ← c .before .before .before .before .places .ensures) (c .before .before .put-places .ensures)
+returns c =
+    let after-put-placings : tie.After-put-placings = search in
+    let after-placings : tie.After-placings = search in
+    let after-snakes-of : tie.After-snakes-of = search in
+    rw (← after-snakes-of .snakes-of .ensures .0, ← after-placings .placings .ensures) (after-put-placings .put-placings .ensures)
 
 pub put-end-spec : {M : Type 1} → statement M
 put-end-spec =
-    tie.close (tie.spec snakes-of-requires places-requires put-places-requires same-length returns)
+    tie.close
+    (tie.spec
+    (λ c κs. search needs) (λ c κs. search needs) (λ c κs. search needs) (λ c. search needs)
+    returns)

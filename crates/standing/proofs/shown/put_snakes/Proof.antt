@@ -5,8 +5,8 @@ use native.Mathlib.Omega.{arith}
 use borrow.Author.Needs.{needs}
 use Rattle.lists.specs.Below.{concatBelow}
 use Rattle.lists.proofs.Below.{concat-none, concat-next}
-use Rattle.letters.proofs.Writing.{both, wider, nothing}
-use Rattle.letters.specs.Text.{Wrote}
+use Rattle.printing.proofs.Writing.{both, wider, nothing}
+use Rattle.printing.specs.Text.{Wrote}
 use Rattle.standing.specs.Shown.{snakeShownBy}
 use Rattle.standing.proofs.shown.put_snakes.Statement.{statement}
 use Rattle.standing.proofs.shown.put_snakes.Tie as tie
@@ -18,35 +18,22 @@ abbrev μ-loop : tie.MeasureT-loop
 μ-loop out₀ from image n events at₀ i₀ out at i = n - i
 
 loop-holds : tie.Need-loop-holds Inv-loop μ-loop
-loop-holds c = (search needs, rw concat-none (nothing (now (c .before .before .args .out)) (c .before .before .args .from) 0))
-
-mul-e : tie.Need-mul-e Inv-loop μ-loop
-mul-e c = search needs
-
-array-copy-out-e : tie.Need-array-copy-out-e Inv-loop μ-loop
-array-copy-out-e c = search needs
-
-put-snake-requires : tie.Need-put-snake-requires Inv-loop μ-loop
-put-snake-requires c κs = search needs
-
-add-i : tie.Need-add-i Inv-loop μ-loop
-add-i c = search needs
-
-loop-less : tie.Need-loop-less Inv-loop μ-loop
-loop-less c = search needs
+loop-holds c =
+    let start : tie.Start Inv-loop μ-loop = search in
+    (search needs, rw concat-none (nothing (now (start .args .out)) (start .args .from) 0))
 
 loop-again : tie.Need-loop-again Inv-loop μ-loop
 loop-again c =
-    let l = c .before .before .before .before .before .before .loop in
+    let after-put-snake : tie.After-put-snake Inv-loop μ-loop = search in
+    let at-loop : tie.At-loop Inv-loop μ-loop = search in
+    let l = at-loop .loop in
     let i = l .i in
-    (search needs, rw concat-next (wider (52 * (i + 1)) (both (l .inv .1) (c .before .before .put-snake .ensures) (omega arith)) (omega arith)))
-
-same-length : tie.Need-same-length Inv-loop μ-loop
-same-length c = search needs
+    (search needs, rw concat-next (wider (52 * (i + 1)) (both (l .inv .1) (after-put-snake .put-snake .ensures) (omega arith)) (omega arith)))
 
 returns : tie.Need-returns Inv-loop μ-loop
 returns c =
-    let a = c .before .before .before .before .args in
+    let start : tie.Start Inv-loop μ-loop = search in
+    let a = start .args in
     let l = c .before .loop in
     let e : l .i ≡ a .n = omega arith in
     wider 416 (rw e at (l .inv .1)) (omega arith)
@@ -58,11 +45,7 @@ put-snakes-spec =
     Inv-loop
     μ-loop
     loop-holds
-    mul-e
-    array-copy-out-e
-    put-snake-requires
-    add-i
-    loop-less
+    (λ c. search needs) (λ c. search needs) (λ c κs. search needs) (λ c. search needs) (λ c. search needs)
     loop-again
-    same-length
+    (λ c. search needs)
     returns)

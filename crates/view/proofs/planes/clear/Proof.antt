@@ -1,60 +1,16 @@
+-- `view::clear` meets its contract. The invariant: the first j numbers are 0.0 (`Cleared`). The measure is how many are left. Assumes nothing.
 use borrow.Author.Needs.{needs}
-use native.Mathlib.Omega.{arith}
-use Prim.Native.Nat.{ℕ, _+_, _-_, _≤_, _<_}
-use mathlib.Core.Path.{_≡_, refl, ap, _∙_}
-use mathlib.Core.List.{List}
-use lib.ListN.{length, getD, set, replicate, length-set, length-replicate, getD-replicate}
-use lib.Ieee.{Float}
-use denote.Ref.{now}
-use Rattle.lists.proofs.Writes.{paste-all, paste-more, write-front}
-use Rattle.view.specs.Marks.{dark}
-use lib.Seq.{paste, paste-zero}
+use Prim.Native.Nat.{_-_}
+use Rattle.view.specs.Marks.{Cleared}
+use Rattle.view.proofs.Marks.{cleared-none, cleared-next, cleared-all}
 use Rattle.view.proofs.planes.clear.Statement.{statement}
 use Rattle.view.proofs.planes.clear.Tie as tie
 
 abbrev Inv-loop : tie.InvT-loop
-Inv-loop obs₀ n j₀ obs j = (j ≤ n) × (length obs ≡ length obs₀) × (obs ≡ paste obs₀ 0 (replicate n dark) j)
+Inv-loop obs₀ n j₀ obs j = Cleared n j obs₀ obs
 
 abbrev μ-loop : tie.MeasureT-loop
 μ-loop obs₀ n j₀ obs j = n - j
-
-loop-holds : tie.Need-loop-holds Inv-loop μ-loop
-loop-holds c = (omega arith, refl, paste-zero (now (c .args .obs)) 0 (replicate (c .args .n) dark))
-
-mul-obs : tie.Need-mul-obs Inv-loop μ-loop
-mul-obs c = search needs
-
-slice-write-obs : tie.Need-slice-write-obs Inv-loop μ-loop
-slice-write-obs c = search needs
-
-add-j : tie.Need-add-j Inv-loop μ-loop
-add-j c = search needs
-
-loop-less : tie.Need-loop-less Inv-loop μ-loop
-loop-less c = search needs
-
-loop-again : tie.Need-loop-again Inv-loop μ-loop
-loop-again c =
-    let at = c .before .loop in
-    let n = c .before .before .args .n in
-    let d = now (c .before .before .args .obs) in
-    let z = replicate n dark in
-    let k : at .j < length z = rw (length-replicate n dark) (omega arith) in
-    let e : getD z (at .j) dark ≡ dark = getD-replicate n (at .j) dark dark (omega arith) in
-    let f : at .j ≡ 0 + at .j = omega arith in
-    (omega arith, simp length-set (at .inv .1), ap (λ (l : List Float). set l (at .j) dark) (at .inv .2) ∙ ap (λ (i : ℕ). set (paste d 0 z (at .j)) i dark) f ∙ (rw e at (paste-more d 0 z (at .j) dark (omega arith) k)))
-
-same-length : tie.Need-same-length Inv-loop μ-loop
-same-length c = search needs
-
-returns : tie.Need-returns Inv-loop μ-loop
-returns c =
-    let at = c .before .loop in
-    let n = c .before .before .args .n in
-    let d = now (c .before .before .args .obs) in
-    let z = replicate n dark in
-    let e : at .j ≡ length z = rw (length-replicate n dark) (omega arith) in
-    at .inv .2 ∙ ap (paste d 0 z) e ∙ paste-all d 0 z ∙ write-front d z
 
 pub clear-spec : {M : Type 1} → statement M
 clear-spec =
@@ -62,11 +18,8 @@ clear-spec =
     (tie.spec
     Inv-loop
     μ-loop
-    loop-holds
-    mul-obs
-    slice-write-obs
-    add-j
-    loop-less
-    loop-again
-    same-length
-    returns)
+    (λ c. search cleared-none)
+    (λ c. search needs) (λ c. search needs) (λ c. search needs) (λ c. search needs)
+    (λ c. search cleared-next)
+    (λ c. search needs)
+    (λ c. search cleared-all))

@@ -1,76 +1,20 @@
--- The invariant: what is left to mark on the plane as it is gives what all cells give on the plane as it was.
+-- `view::mark` meets its contract. The invariant: what is left to mark on the plane as it is gives what all cells give on the plane as it was (`CellsMarked`).
+-- The measure is how many cells are left. Assumes nothing.
 use borrow.Author.Needs.{needs}
-use native.Mathlib.Omega.{arith}
-use Prim.Native.Nat.{_-_, _≤_}
-use mathlib.Core.Path.{_≡_, refl, sym, _∙_}
-use mathlib.Core.List.{map}
-use lib.ListN.{length, drop, length-set}
-use denote.Ref.{now}
-use Rattle.rules.proofs.Facts.{square-le}
-use Rattle.rules.specs.View.{turnedCell}
-use Rattle.view.proofs.Marks.{marks-end, marks-next}
-use Rattle.view.specs.Marks.{marked}
+use Prim.Native.Nat.{_-_}
+use lib.ListN.{length}
+use Rattle.lists.proofs.Fits.{word-fits-32}
+use Rattle.view.specs.Marks.{CellsMarked}
+use Rattle.view.proofs.Turning.{cell-square, place-fits, bytes-fit, place-in}
+use Rattle.view.proofs.Marks.{cells-none, cells-next, cells-all}
 use Rattle.view.proofs.planes.mark.Statement.{statement}
 use Rattle.view.proofs.planes.mark.Tie as tie
 
 abbrev Inv-loop : tie.InvT-loop
-Inv-loop plane₀ cells heading g i₀ plane i = (i ≤ length cells) × (length plane ≡ length plane₀)
-    × (marked (map (turnedCell g heading) (drop i cells)) plane ≡ marked (map (turnedCell g heading) cells) plane₀)
+Inv-loop plane₀ cells heading g i₀ plane i = CellsMarked g heading cells i plane₀ plane
 
 abbrev μ-loop : tie.MeasureT-loop
 μ-loop plane₀ cells heading g i₀ plane i = length cells - i
-
-loop-holds : tie.Need-loop-holds Inv-loop μ-loop
-loop-holds c = (omega arith, refl, refl)
-
-mul-turned : tie.Need-mul-turned Inv-loop μ-loop
-mul-turned c = search needs
-
-shared-slice-read-turned : tie.Need-shared-slice-read-turned Inv-loop μ-loop
-shared-slice-read-turned c = search needs
-
-cast-turned : tie.Need-cast-turned Inv-loop μ-loop
-cast-turned c = omega (arith, c .shared-slice-known2 .given (c .before .before .loop .i))
-
-turned-requires : tie.Need-turned-requires Inv-loop μ-loop
-turned-requires c κs =
-    let s = c .before .before .before .before .before .args in
-    let p = c .before .before .before .before .before .pre in
-    let at = c .before .before .loop in
-    (p .0, p .2 (at .i) (omega arith))
-
-cast-plane : tie.Need-cast-plane Inv-loop μ-loop
-cast-plane c = omega (arith, square-le _ (c .before .before .before .before .before .before .pre .0), c .turned .ensures .1)
-
-mul-plane : tie.Need-mul-plane Inv-loop μ-loop
-mul-plane c = omega (arith, square-le _ (c .before .before .before .before .before .before .pre .0), c .turned .ensures .1)
-
-slice-write-plane : tie.Need-slice-write-plane Inv-loop μ-loop
-slice-write-plane c = omega (arith, c .before .before .before .before .before .before .pre .1, c .turned .ensures .1)
-
-add-i : tie.Need-add-i Inv-loop μ-loop
-add-i c = search needs
-
-loop-less : tie.Need-loop-less Inv-loop μ-loop
-loop-less c = search needs
-
-loop-again : tie.Need-loop-again Inv-loop μ-loop
-loop-again c =
-    let s = c .before .before .before .before .before .before .args in
-    let p = c .before .before .before .before .before .before .pre in
-    let at = c .before .before .before .loop in
-    let u = marks-next (turnedCell (s .g) (s .heading)) (s .cells .now) (at .i) (at .plane) (omega arith) in
-    (omega arith, simp length-set (at .inv .1), rw (c .turned .ensures .0) (sym u ∙ at .inv .2))
-
-same-length : tie.Need-same-length Inv-loop μ-loop
-same-length c = search needs
-
-returns : tie.Need-returns Inv-loop μ-loop
-returns c =
-    let s = c .before .before .before .before .args in
-    let p = c .before .before .before .before .pre in
-    let at = c .before .loop in
-    sym (marks-end (turnedCell (s .g) (s .heading)) (s .cells .now) (at .i) (at .plane) (omega arith)) ∙ at .inv .2
 
 pub mark-spec : {M : Type 1} → statement M
 mark-spec =
@@ -78,16 +22,14 @@ mark-spec =
     (tie.spec
     Inv-loop
     μ-loop
-    loop-holds
-    mul-turned
-    shared-slice-read-turned
-    cast-turned
-    turned-requires
-    cast-plane
-    mul-plane
-    slice-write-plane
-    add-i
-    loop-less
-    loop-again
-    same-length
-    returns)
+    (λ c. search cells-none)
+    (λ c. search needs) (λ c. search needs)
+    (λ c. search word-fits-32)
+    (λ c κs. search cell-square)
+    (λ c. search place-fits)
+    (λ c. search bytes-fit)
+    (λ c. search place-in)
+    (λ c. search needs) (λ c. search needs)
+    (λ c. search cells-next)
+    (λ c. search needs)
+    (λ c. search cells-all))

@@ -1,0 +1,4 @@
+pub mod Free
+pub mod Boards
+pub mod Scans
+pub mod Squares

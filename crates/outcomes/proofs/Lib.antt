@@ -1,0 +1,4 @@
+pub mod Picks
+pub mod Radix
+pub mod Marking
+pub mod Rows

@@ -1,9 +1,0 @@
-use Rattle.places.proofs.Bits.{eq-bits}
-use Rattle.places.proofs.equal.Statement.{statement}
-use Rattle.places.proofs.equal.Tie as tie
-
-returns : tie.Need-returns
-returns c = eq-bits (c .args .a) (c .args .b) (c .fits .a) (c .fits .b)
-
-pub equal-spec : {M : Type 1} → statement M
-equal-spec = tie.close (tie.spec returns)

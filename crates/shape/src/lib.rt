@@ -1,7 +1,0 @@
-// Which slices are well-formed images: refusal 20.
-mod cells;
-mod check;
-mod contents;
-
-pub use cells::stamps_once;
-pub use check::well_formed;
