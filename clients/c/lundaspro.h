@@ -27,14 +27,13 @@ extern "C" {
 #define LUNDASPRO_EVENT_WORDS 8    /* the events of a step: events, exactly what a step needs */
 #define LUNDASPRO_PLANE_NUMBERS 5120 /* an observation: obs */
 
-/* Refusals. */
+/* Refusals. No call gives 7. */
 #define LUNDASPRO_SNAKES 1          /* snakes not 2..8 */
 #define LUNDASPRO_LENGTH_ZERO 2     /* initial length 0 */
 #define LUNDASPRO_LEAD_ZERO 3       /* food lead 0 */
 #define LUNDASPRO_LEAD_NOT_TWO 4    /* food lead set, snakes not 2 */
 #define LUNDASPRO_GRID 5            /* grid above 32 (space query: or below 1) */
 #define LUNDASPRO_FOOD_AREA 6       /* food above g*g (0 when g < 0) */
-#define LUNDASPRO_FOOD_CHAIN 7      /* food above 10,000 */
 #define LUNDASPRO_PRODUCT 8         /* product of min(snakes, food) factors from g*g downward above 2^53 */
 #define LUNDASPRO_UNTRACEABLE 9     /* some body cannot be traced to its length */
 #define LUNDASPRO_CELL_OUTSIDE 10   /* first bad cell: outside */

@@ -26,7 +26,6 @@ impl Refusal {
             4 => "food lead set, snakes not 2",
             5 => "grid above 32 (space query: or below 1)",
             6 => "food above g² (0 when g < 0)",
-            7 => "food above 10,000",
             8 => "product g²(g²-1).. of min(snakes, food) factors above 2^53",
             9 => "some body cannot be traced to its length",
             10 => "first bad cell, in snake then body order: outside",

@@ -113,7 +113,7 @@ no-room : (s : Setting) (w acts : List ℕ) → Refuses (stepSays s w acts 0)
 unfolding stepSays
 no-room s w acts =
     let o = stepped s (stateOf w) acts in
-    no-gift (stepSays s w acts 0) (λ t e. false≢true (sym (given-out (stepOrder s w acts 0) o t e 17) ∙ lt-ltb 0 (length (imageOf (o .next))) (some-words (o .next))))
+    no-gift (stepSays s w acts 0) (λ t e. false≢true (sym (given-out (stepOrder s w acts 0) o t e 16) ∙ lt-ltb 0 (length (imageOf (o .next))) (some-words (o .next))))
 
 untold-is : (x : Says Transition) → Refuses x → (r : FlatWritten) → r ≡ flatWritten (seen (λ o. length (imageOf (o .next))) x)
     → (front old : List ℕ) → front ≡ lent (λ o. imageOf (o .next)) [] x

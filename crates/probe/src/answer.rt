@@ -3,6 +3,7 @@ use crate::fields::numbers_in;
 use crate::rewards;
 use crate::spaces;
 use crate::steps;
+use crate::units;
 use crate::with_image::image_call;
 use crate::writing::flush;
 use crate::writing::letter_line;
@@ -12,6 +13,7 @@ fn numbers_call(letter: u8, values: &[u64], text: &mut [u8], at: usize) -> usize
     match letter {
         b'w' => rewards::reward_line(values, text, at),
         b'h' => spaces::turn_line(values, text, at),
+        b'n' => units::outcome_line(values, text, at),
         _ => image_call(letter, values, text, at),
     }
 }

@@ -13,7 +13,7 @@ use crate::writing::refuse;
 use rules::Answer;
 use rules::Number;
 
-fn put_result(text: &mut [u8], at: usize, number: Number) -> usize {
+pub fn put_result(text: &mut [u8], at: usize, number: Number) -> usize {
     match number {
         Number::Value(v) => answer_number(text, at, v),
         Number::Refused(r) => refuse(text, at, r.number, true),

@@ -8,6 +8,7 @@ mod marks;
 mod rewards;
 mod spaces;
 mod steps;
+mod units;
 mod views;
 mod with_image;
 mod writing;

@@ -1,4 +1,4 @@
-// The check of a setting (refusals 1 to 12), and the initial state.
+// The check of a setting (refusals 1 to 12 without 7), and the initial state.
 mod limits;
 mod place;
 mod start;

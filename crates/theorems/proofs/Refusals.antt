@@ -20,9 +20,10 @@ use Rattle.rules.specs.View.{view, lit}
 use Rattle.rules.specs.LengthKey.{lengthKey}
 use Rattle.rules.specs.Turns.{chanceActs, legalFor, truncated}
 use Rattle.rules.specs.Reward.{rewardOf}
+use Rattle.rules.specs.UnitNumber.{outcomeOf}
 use Rattle.rules.specs.Says.{Says, refuses, gives, byTable, seen, beside, lent, says, saysVerdict, saysNumber, saysKey, saysActor, saysLegal, saysMark, saysSum, box, saysSpace}
-use Rattle.rules.specs.Calls.{settingSays, initialSays, stepSays, observeSays, countSays, Draw, drawSays, rankSays, actorSays, legalSays, keySays, truncationSays, rewardSays, spaceSays}
-use Rattle.rules.specs.Promises.{Validates, Starts, Steps, Observes, Counts, Draws, Ranks, ActsNext, Allows, Keys, Truncates, Rewards, ObservationSpace}
+use Rattle.rules.specs.Calls.{settingSays, initialSays, stepSays, observeSays, countSays, Draw, drawSays, rankSays, actorSays, legalSays, keySays, truncationSays, rewardSays, outcomeSays, spaceSays}
+use Rattle.rules.specs.Promises.{Validates, Starts, Steps, Observes, Counts, Draws, Ranks, ActsNext, Allows, Keys, Truncates, Rewards, Chooses, ObservationSpace}
 use Rattle.rules.specs.declared.Setting.{Setting}
 use Rattle.rules.specs.declared.Event.{Event}
 use Rattle.rules.specs.declared.Weights.{Weights}
@@ -47,7 +48,7 @@ use Rattle.rules.specs.declared.Reward.{Reward}
 use Rattle.rules.specs.declared.Reward.the-variants.{Refused as RefusedSum}
 use Rattle.rules.specs.declared.Space.{Space}
 use Rattle.rules.specs.declared.Space.the-variants.{Refused as RefusedSpace}
-use Rattle.rules.specs.Orders.{initialOrder, stepOrder, observeOrder, countOrder, drawOrder, rankOrder, imageOrder, agentOrder, rewardOrder, spaceOrder}
+use Rattle.rules.specs.Orders.{initialOrder, stepOrder, observeOrder, countOrder, drawOrder, rankOrder, imageOrder, agentOrder, rewardOrder, outcomeOrder, spaceOrder}
 use Rattle.rules.proofs.Tables.{table-refuses, table-first, table-seen}
 use Rattle.rules.proofs.Answers.{answer-one, verdict-one, number-one, key-one, actor-one, legal-one, mark-one, sum-one, space-one}
 use Rattle.theorems.specs.Answers.{RefusedBy}
@@ -57,7 +58,7 @@ abbrev numbers : Table → List ℕ
 numbers t = map (λ (e : Refusal × Bool). e .0 .number) t
 
 abbrev settingNumbers : List ℕ
-settingNumbers = 1 ∷ 2 ∷ 3 ∷ 4 ∷ 5 ∷ 6 ∷ 7 ∷ 8 ∷ 9 ∷ 10 ∷ 11 ∷ 12 ∷ []
+settingNumbers = 1 ∷ 2 ∷ 3 ∷ 4 ∷ 5 ∷ 6 ∷ 8 ∷ 9 ∷ 10 ∷ 11 ∷ 12 ∷ []
 
 pub setting-order : (s : Setting) → numbers (settingOrder s) ≡ settingNumbers
 setting-order s = refl
@@ -90,6 +91,9 @@ agent-order w a = refl
 
 pub reward-order : (w : Weights) → numbers (rewardOrder w) ≡ 31 ∷ []
 reward-order w = refl
+
+pub outcome-order : (c : ℕ) (u : Float) → numbers (outcomeOrder c u) ≡ 80 ∷ 81 ∷ []
+outcome-order c u = refl
 
 pub space-order : (g : ℤ) → numbers (spaceOrder g) ≡ 5 ∷ []
 space-order g = refl
@@ -160,6 +164,10 @@ truncation-refused w a v r p = by-rows saysMark RefusedMark (λ k. refl) mark-on
 pub reward-refused : (w : Weights) (v : Event) (r : Reward) → Rewards w v r → RefusedBy RefusedSum (rewardOrder w) r
 unfolding rewardSays
 reward-refused w v r p = by-rows saysSum RefusedSum (λ k. refl) sum-one (rewardOrder w) (rewardOf w v) r (p .answer)
+
+pub outcome-refused : (c : ℕ) (u : Float) (r : Number) → Chooses c u r → RefusedBy RefusedNumber (outcomeOrder c u) r
+unfolding outcomeSays
+outcome-refused c u r p = by-number (outcomeOrder c u) (outcomeOf c u) r (p .answer)
 
 pub space-refused : (g : ℤ) (r : Space) → ObservationSpace g r → RefusedBy RefusedSpace (spaceOrder g) r
 unfolding spaceSays
