@@ -1,0 +1,14 @@
+pub mod Told
+pub mod Fitting
+pub mod Paging
+pub mod RowLaws
+pub mod Laying
+pub mod Booked
+pub mod Turns
+pub mod Clear
+pub mod Bound
+pub mod Binding
+pub mod OneForm
+pub mod Separate
+pub mod Theorems
+pub mod Sample

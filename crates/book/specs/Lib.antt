@@ -1,0 +1,11 @@
+pub mod Settings
+pub mod Contents
+pub mod Rows
+pub mod Orders
+pub mod Read
+pub mod Accepted
+pub mod Writing
+pub mod Bindable
+pub mod Calls
+pub mod Promises
+pub mod Turning
