@@ -30,7 +30,8 @@ use Rattle.book.specs.Accepted.{Accepted}
 use Rattle.book.specs.Bindable.{Bindable}
 use Rattle.book.specs.Calls.{pageSays, writeSays}
 use Rattle.book.specs.Writing.{Asked, RowFits}
-use Rattle.book.proofs.Paging.{accepted, past-41}
+use Rattle.book.proofs.Finding.{accepted}
+use Rattle.book.proofs.Paging.{past-41}
 use Rattle.book.proofs.Clear.{clear}
 use Rattle.book.proofs.Bound.{bound-pages, bound-one, bound-last, bound-lead, bound-ticks, bound-setting, bound-start, start-step, bound-long, bound-end, bound-page}
 use Rattle.book.proofs.Booked.{asked-parts, asked-accepted, asked-few, asked-none, asked-fits, write-says}
@@ -56,12 +57,14 @@ module _ (s : Setting) (p : ℕ) (f : ℕ → List ℕ) (ok : Bindable s p f) wh
   start-in : (i : ℕ) → i < p → startIn book i < length book
   start-in i h = rw (bound-start s p f i h, bound-long s p f) (omega (arith, start-step s p f i, page-some i h, concat-mono f (1 + i) p (omega arith)))
 
-  pub bound-opens : Accepted book
+  pub bound-opens : Accepted book (length book)
   bound-opens =
       accepted
       book
+      (length book)
       (clear
       book
+      (length book)
       (rw (bound-long s p f) (omega arith))
       (bound-one s p f)
       (bound-last s p f)

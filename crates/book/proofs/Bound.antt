@@ -116,7 +116,7 @@ module _ (s : Setting) (p : ℕ) (f : ℕ → List ℕ) where
   pub bound-long : length book ≡ startOf p f p
   bound-long = book-long s p f
 
-  pub bound-end : (i : ℕ) → i < p → endIn book i ≡ startOf p f (1 + i)
+  pub bound-end : (i : ℕ) → i < p → endIn book (length book) i ≡ startOf p f (1 + i)
   bound-end i h = rw bound-pages (elim (ordered (1 + i) p) [
     | less l t ↦ rw t (bound-start (1 + i) l)
     | more l t ↦ rw t (let e : 1 + i ≡ p = omega arith in rw e bound-long)

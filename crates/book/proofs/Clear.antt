@@ -18,26 +18,26 @@ use Rattle.book.specs.Settings.{limitOff, settingIn}
 use Rattle.book.specs.Contents.{front, pagesIn, startIn}
 use Rattle.book.specs.Orders.{layoutRows, startRows, contentsOrder, rises, outside}
 
-module _ (b : List ℕ) (long : 17 ≤ length b) (one : word b 0 ≡ 1) (yes-no : word b 4 ≤ 1) (lead-on : limitOff b 5 ≡ false) (ticks-on : limitOff b 11 ≡ false)
-    (setting : settingCheck (settingIn b) ≡ 0) (contents-in : front (pagesIn b) ≤ length b) (after-contents : 0 < pagesIn b → startIn b 0 ≡ front (pagesIn b))
-    (rising : (i : ℕ) → 1 + i < pagesIn b → startIn b i < startIn b (1 + i)) (starts-in : (i : ℕ) → i < pagesIn b → startIn b i < length b)
-    (none-left : pagesIn b ≡ 0 → length b ≤ 17) where
-  first-row : (ltb 0 (pagesIn b) && not (eqb (startIn b 0) (front (pagesIn b)))) ≡ false
-  first-row = elim (compared (pagesIn b) 0) [
-    | same e t ↦ rw (le-ltb 0 (pagesIn b) (omega arith))
-    | other n t ↦ rw (lt-ltb 0 (pagesIn b) (omega arith), eq-eqb _ _ (after-contents (omega arith)))
+module _ (c : List ℕ) (n : ℕ) (long : 17 ≤ length c) (one : word c 0 ≡ 1) (yes-no : word c 4 ≤ 1) (lead-on : limitOff c 5 ≡ false) (ticks-on : limitOff c 11 ≡ false)
+    (setting : settingCheck (settingIn c) ≡ 0) (contents-in : front (pagesIn c) ≤ length c) (after-contents : 0 < pagesIn c → startIn c 0 ≡ front (pagesIn c))
+    (rising : (i : ℕ) → 1 + i < pagesIn c → startIn c i < startIn c (1 + i)) (starts-in : (i : ℕ) → i < pagesIn c → startIn c i < n)
+    (none-left : pagesIn c ≡ 0 → n ≤ 17) where
+  first-row : (ltb 0 (pagesIn c) && not (eqb (startIn c 0) (front (pagesIn c)))) ≡ false
+  first-row = elim (compared (pagesIn c) 0) [
+    | same e t ↦ rw (le-ltb 0 (pagesIn c) (omega arith))
+    | other m t ↦ rw (lt-ltb 0 (pagesIn c) (omega arith), eq-eqb _ _ (after-contents (omega arith)))
   ]
 
-  last-row : (eqb (pagesIn b) 0 && ltb 17 (length b)) ≡ false
-  last-row = elim (compared (pagesIn b) 0) [ same e t ↦ rw (t, le-ltb 17 (length b) (none-left e)) | other n t ↦ rw t ]
+  last-row : (eqb (pagesIn c) 0 && ltb 17 n) ≡ false
+  last-row = elim (compared (pagesIn c) 0) [ same e t ↦ rw (t, le-ltb 17 n (none-left e)) | other m t ↦ rw t ]
 
-  all-rise : allBelow (pagesIn b - 1) (rises b) ≡ true
-  all-rise = all-true (rises b) (pagesIn b - 1) (λ i h. lt-ltb _ _ (rising i (omega arith)))
+  all-rise : allBelow (pagesIn c - 1) (rises c) ≡ true
+  all-rise = all-true (rises c) (pagesIn c - 1) (λ i h. lt-ltb _ _ (rising i (omega arith)))
 
-  all-in : someBelow (pagesIn b) (outside b) ≡ false
-  all-in = some-false (outside b) (pagesIn b) (λ i h. lt-leb _ _ (starts-in i h))
+  all-in : someBelow (pagesIn c) (outside c n) ≡ false
+  all-in = some-false (outside c n) (pagesIn c) (λ i h. lt-leb _ _ (starts-in i h))
 
-  pub clear : noneHold (contentsOrder b) ≡ true
+  pub clear : noneHold (contentsOrder c n) ≡ true
   unfolding contentsOrder layoutRows startRows all
   clear =
-      rw (le-ltb (length b) 17 long, eq-eqb (word b 0) 1 one, le-ltb 1 (word b 4) yes-no, lead-on, ticks-on, eq-eqb (settingCheck (settingIn b)) 0 setting, le-ltb (length b) (front (pagesIn b)) contents-in, first-row, all-rise, all-in, last-row)
+      rw (le-ltb (length c) 17 long, eq-eqb (word c 0) 1 one, le-ltb 1 (word c 4) yes-no, lead-on, ticks-on, eq-eqb (settingCheck (settingIn c)) 0 setting, le-ltb (length c) (front (pagesIn c)) contents-in, first-row, all-rise, all-in, last-row)

@@ -129,68 +129,69 @@ module _ (b : List ℕ) (n : ℕ) (up : allBelow n (rises b) ≡ true) where
     | more l t ↦ omega (arith, rising-to i j l (omega arith), step-up j g)
   ]
 
-module _ (b : List ℕ) (p : ℕ) (w : Word b 16 p) where
-  pub starts-cut : length b < 17 + 2 * p → StartsFit b false
+-- c is the front of a book of n words
+module _ (c : List ℕ) (n p : ℕ) (w : Word c 16 p) where
+  pub starts-cut : length c < 17 + 2 * p → StartsFit c n false
   unfolding startRows
-  starts-cut h = record { fits = sym (row-in (startRows b) 0 (lt-ltb (length b) (front (pagesIn b)) (rw (w .value) at h))) }
+  starts-cut h = record { fits = sym (row-in (startRows c n) 0 (lt-ltb (length c) (front (pagesIn c)) (rw (w .value) at h))) }
 
   -- a book of no pages
-  pub starts-none : 17 + 2 * p ≤ length b → p ≡ 0 → StartsFit b (leb (length b) 17)
+  pub starts-none : 17 + 2 * p ≤ length c → p ≡ 0 → StartsFit c n (leb n 17)
   unfolding startRows all allBelow someBelow
   starts-none h z = record {
     fits =
-        let e : pagesIn b ≡ 0 = sym (w .value) ∙ z in
-        rw (e, le-ltb (length b) 17 (omega arith)) (elim (ordered 17 (length b)) [
-          | less l t ↦ rw (t, lt-leb (length b) 17 l)
-          | more l t ↦ rw (t, le-leb (length b) 17 l)
+        let e : pagesIn c ≡ 0 = sym (w .value) ∙ z in
+        rw (e, le-ltb (length c) 17 (omega arith)) (elim (ordered 17 n) [
+          | less l t ↦ rw (t, lt-leb n 17 l)
+          | more l t ↦ rw (t, le-leb n 17 l)
         ]);
   }
 
   module _ (some : p ≡ 0 → ⊥) where
-    pub starts-late : (x : ℕ) → Pair b 17 x → (x ≡ 17 + 2 * p → ⊥) → StartsFit b false
+    pub starts-late : (x : ℕ) → Pair c 17 x → (x ≡ 17 + 2 * p → ⊥) → StartsFit c n false
     unfolding startRows
     starts-late x q h = record {
       fits =
-          let one : ltb 0 (pagesIn b) ≡ true = lt-ltb 0 (pagesIn b) (omega (arith, w .value)) in
-          let off : eqb (startIn b 0) (front (pagesIn b)) ≡ false = ne-eqb _ _ (λ e. h (q .value ∙ e ∙ ap front (sym (w .value)))) in
-          sym (row-in (startRows b) 1 (rw (one, off)));
+          let one : ltb 0 (pagesIn c) ≡ true = lt-ltb 0 (pagesIn c) (omega (arith, w .value)) in
+          let off : eqb (startIn c 0) (front (pagesIn c)) ≡ false = ne-eqb _ _ (λ e. h (q .value ∙ e ∙ ap front (sym (w .value)))) in
+          sym (row-in (startRows c n) 1 (rw (one, off)));
     }
 
-    pub starts-fall : (t : Bool) → Rising b (p - 1) (p - 1) t → not t ≡ true → StartsFit b false
+    pub starts-fall : (t : Bool) → Rising c (p - 1) (p - 1) t → not t ≡ true → StartsFit c n false
     unfolding startRows
-    starts-fall t q h = record { fits = sym (row-in (startRows b) 2 (rw (← (w .value), ← (q .rise)) h)) }
+    starts-fall t q h = record { fits = sym (row-in (startRows c n) 2 (rw (← (w .value), ← (q .rise)) h)) }
 
     -- of starts that rise the last is the highest
-    last-inside : allBelow (p - 1) (rises b) ≡ true → (y : ℕ) → y ≡ startIn b (p - 1) → ltb y (length b) ≡ not (someBelow p (outside b))
-    last-inside up y e = elim (ordered y (length b)) [
-      | less l t ↦ rw (t, some-false (outside b) p (λ i h. lt-leb (length b) (startIn b i) (omega (arith, rising-to b (p - 1) up i (p - 1) (omega arith) (omega arith)))))
-      | more l t ↦ rw (t, some-found (outside b) p (p - 1) (omega arith) (le-leb (length b) (startIn b (p - 1)) (omega arith)))
+    last-inside : allBelow (p - 1) (rises c) ≡ true → (y : ℕ) → y ≡ startIn c (p - 1) → ltb y n ≡ not (someBelow p (outside c n))
+    last-inside up y e = elim (ordered y n) [
+      | less l t ↦ rw (t, some-false (outside c n) p (λ i h. lt-leb n (startIn c i) (omega (arith, rising-to c (p - 1) up i (p - 1) (omega arith) (omega arith)))))
+      | more l t ↦ rw (t, some-found (outside c n) p (p - 1) (omega arith) (le-leb n (startIn c (p - 1)) (omega arith)))
     ]
 
-    pub starts-last : 17 + 2 * p ≤ length b → (x y : ℕ) (t : Bool) → Pair b 17 x → x ≡ 17 + 2 * p → Rising b (p - 1) (p - 1) t → not t ≡ false → Pair b (17 + 2 * (p - 1)) y
-        → StartsFit b (ltb y (length b))
+    pub starts-last : 17 + 2 * p ≤ length c → (x y : ℕ) (t : Bool) → Pair c 17 x → x ≡ 17 + 2 * p → Rising c (p - 1) (p - 1) t → not t ≡ false → Pair c (17 + 2 * (p - 1)) y
+        → StartsFit c n (ltb y n)
     unfolding startRows all
     starts-last h x y t q z r u v = record {
       fits =
-          let up : allBelow (p - 1) (rises b) ≡ true = sym (r .rise) ∙ not-false t u in
+          let up : allBelow (p - 1) (rises c) ≡ true = sym (r .rise) ∙ not-false t u in
           let one : ltb 0 p ≡ true = lt-ltb 0 p (omega arith) in
           let none : eqb p 0 ≡ false = ne-eqb p 0 some in
-          let right : eqb (startIn b 0) (front p) ≡ true = eq-eqb _ _ (sym (q .value) ∙ z) in
-          rw (← (w .value), le-ltb (length b) (front p) h, one, right, up, none) (last-inside up y (v .value) ∙ twice-not (someBelow p (outside b)));
+          let right : eqb (startIn c 0) (front p) ≡ true = eq-eqb _ _ (sym (q .value) ∙ z) in
+          rw (← (w .value), le-ltb (length c) (front p) h, one, right, up, none) (last-inside up y (v .value) ∙ twice-not (someBelow p (outside c n)));
     }
 
 -- ---- the whole table
 
-module _ (b : List ℕ) where
-  pub contents-cut : length b < 17 → ContentsFit b false
+module _ (c : List ℕ) (n : ℕ) where
+  pub contents-cut : length c < 17 → ContentsFit c n false
   unfolding contentsOrder
-  contents-cut h = record { fits = sym (row-in (contentsOrder b) 0 (lt-ltb (length b) 17 h)) }
+  contents-cut h = record { fits = sym (row-in (contentsOrder c n) 0 (lt-ltb (length c) 17 h)) }
 
-  pub contents-off : 17 ≤ length b → (t : Bool) → LayoutFits b t → not t ≡ true → ContentsFit b false
+  pub contents-off : 17 ≤ length c → (t : Bool) → LayoutFits c t → not t ≡ true → ContentsFit c n false
   unfolding contentsOrder all
-  contents-off h t q u = record { fits = rw (le-ltb (length b) 17 h, all-append (λ (e : Refusal × Bool). not (e .1)) (layoutRows b) (startRows b), ← (q .fits), not-true t u) }
+  contents-off h t q u = record { fits = rw (le-ltb (length c) 17 h, all-append (λ (e : Refusal × Bool). not (e .1)) (layoutRows c) (startRows c n), ← (q .fits), not-true t u) }
 
-  pub contents-on : 17 ≤ length b → (t r : Bool) → LayoutFits b t → not t ≡ false → StartsFit b r → ContentsFit b r
+  pub contents-on : 17 ≤ length c → (t r : Bool) → LayoutFits c t → not t ≡ false → StartsFit c n r → ContentsFit c n r
   unfolding contentsOrder all
   contents-on h t r q u v =
-      record { fits = rw (le-ltb (length b) 17 h, all-append (λ (e : Refusal × Bool). not (e .1)) (layoutRows b) (startRows b), ← (q .fits), ← (v .fits), not-false t u) }
+      record { fits = rw (le-ltb (length c) 17 h, all-append (λ (e : Refusal × Bool). not (e .1)) (layoutRows c) (startRows c n), ← (q .fits), ← (v .fits), not-false t u) }

@@ -1,5 +1,6 @@
 pub mod Told
 pub mod Fitting
+pub mod Finding
 pub mod Paging
 pub mod RowLaws
 pub mod Laying

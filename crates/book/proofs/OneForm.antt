@@ -17,7 +17,7 @@ use Rattle.rules.specs.Image.{word}
 use Rattle.book.specs.Settings.{pairWords, fourWords, fourAt, limitWords, limitOf, limitAt, limitOff, settingWords, settingIn}
 use Rattle.book.specs.Contents.{front, startOf, startsOf, contentsOf, bookOf, pagesIn, startIn, endIn, pageIn}
 use Rattle.book.specs.Accepted.{Accepted}
-use Rattle.book.proofs.Paging.{ends-is}
+use Rattle.book.proofs.Finding.{ends-is}
 
 -- ---- words of 16 bits and the numbers that they tell
 
@@ -52,7 +52,7 @@ limit-by w n words off four none = elim (compared w 1) [
       rw (t, z) (ap (λ (l : List ℕ). 0 ∷ l) (none u))
 ]
 
-module _ (b : List ℕ) (words : Under 65536 b) (a : Accepted b) where
+module _ (b : List ℕ) (words : Under 65536 b) (a : Accepted b (length b)) where
   abbrev p : ℕ
   p = pagesIn b
 
@@ -122,13 +122,13 @@ module _ (b : List ℕ) (words : Under 65536 b) (a : Accepted b) where
   edge-first : 0 < p → edge 0 ≡ front p
   edge-first h = edge-start 0 h ∙ a .after-contents h
 
-  edge-end : (i : ℕ) → edge (suc i) ≡ endIn b i
+  edge-end : (i : ℕ) → edge (suc i) ≡ endIn b (length b) i
   edge-end i = let e : suc i ≡ 1 + i = omega arith in rw e
 
   edge-low : (i : ℕ) → 0 < p → i ≤ p → front p ≤ edge i
   edge-low zero some h = omega (arith, edge-first some)
   edge-low (suc i) some h =
-      let z = ends-is b a i h in
+      let z = ends-is b (length b) a i h in
       omega (arith, edge-low i some (omega arith), edge-end i, edge-start i h, z .above)
 
   pages-are : (i : ℕ) → 0 < p → i ≤ p → concatBelow i (pageIn b) ≡ take (edge i - front p) body
@@ -136,8 +136,8 @@ module _ (b : List ℕ) (words : Under 65536 b) (a : Accepted b) where
   pages-are zero some h = let e : edge 0 - front p ≡ 0 = omega (arith, edge-first some) in rw e
   pages-are (suc i) some h =
       let m = edge i - front p in
-      let n = endIn b i - startIn b i in
-      let z = ends-is b a i h in
+      let n = endIn b (length b) i - startIn b i in
+      let z = ends-is b (length b) a i h in
       let e : edge (suc i) - front p ≡ m + n = omega (arith, edge-end i, edge-start i h, edge-low i some (omega arith), z .above) in
       let q : startIn b i ≡ front p + m = omega (arith, edge-start i h, edge-low i some (omega arith)) in
       rw e (ap (λ (l : List ℕ). l ++ take n (drop (startIn b i) b)) (pages-are i some (omega arith))

@@ -1,36 +1,32 @@
--- What reading a page says, by the tests made so far; and accepted contents as facts. Assumes nothing.
-use Prim.Native.Nat.{ℕ, _+_, _*_, _-_, _<_, _≤_}
+-- What reading a page says, by the tests made so far: what is found by the contents, then 20 and 21 for that page. Assumes nothing.
+use Prim.Native.Nat.{ℕ, _+_, _-_, _<_, _≤_}
 use native.Mathlib.Omega.{arith}
 use mathlib.Core.Path.{_≡_, refl, sym, ap, _∙_}
-use mathlib.Core.Bool.{Bool, true, false, not, _&&_, true≢false, false≢true}
+use mathlib.Core.Bool.{Bool, true, false, not}
 use Rattle.lists.specs.Choice.{_if_else_}
-use mathlib.Core.List.{List, [], _∷_, _++_}
-use lib.Dec.{ltb, eqb}
-use lib.ListN.{length, getD, take, drop}
+use mathlib.Core.List.{List, [], _∷_}
+use lib.ListN.{length, take, drop}
 use denote.Ref.{RefT}
-use borrow.Author.Tests.{eqb-true, eq-eqb, lt-ltb, le-ltb, ltb-true, ltb-false, leb-false, not-true, not-false}
-use Rattle.lists.specs.Below.{allBelow}
+use borrow.Author.Tests.{not-true, not-false}
 use Rattle.lists.specs.Lists.{all}
 use Rattle.rules.specs.Tables.{Table, fault, noneHold, by}
-use Rattle.lists.proofs.Tests.{ordered, less, more, and-left, and-right}
-use Rattle.lists.proofs.Lists.{all-append}
-use Rattle.lists.proofs.Below.{all-at, some-never}
-use Rattle.rules.proofs.Tables.{row-out, table-gives, table-both, table-given, table-fault, first-refuses}
-use Rattle.rules.specs.Image.{word, wellFormed}
+use Rattle.rules.proofs.Tables.{row-out, table-both, table-given, table-fault, first-refuses}
+use Rattle.rules.specs.Image.{wellFormed}
 use Rattle.rules.specs.Orders.{differs}
 use Rattle.rules.specs.Promises.{Checks}
 use Rattle.rules.specs.Says.{Says, refuses, gives, first, byTable}
 use Rattle.rules.specs.declared.Setting.{Setting}
 use Rattle.rules.specs.declared.Refusal.{Refusal}
 use Rattle.book.specs.Settings.{settingIn}
-use Rattle.book.specs.Contents.{front, pagesIn, startIn, endIn, pageIn}
-use Rattle.book.specs.Orders.{pageRows, layoutRows, startRows, contentsOrder, rises, outside, readOrder}
+use Rattle.book.specs.Contents.{pagesIn, pageIn}
+use Rattle.book.specs.Orders.{pageRows, findOrder, readOrder}
 use Rattle.book.specs.Accepted.{Accepted}
-use Rattle.book.specs.Read.{Word, Pair, ContentsFit, Other, ImageFault, Ends, Cut}
-use Rattle.book.specs.Calls.{Span, pageSays, saysPage}
-use Rattle.book.specs.Promises.{Pages, Hands}
+use Rattle.book.specs.Read.{Other, ImageFault, Cut}
+use Rattle.book.specs.Calls.{Span, spanIn, findSays, pageSays, thenRead, saysPage}
+use Rattle.book.specs.Promises.{Finds, Pages, Hands}
 use Rattle.book.specs.declared.PageFound.{PageFound}
 use Rattle.book.specs.declared.PageFound.the-variants.{Part, Refused}
+use Rattle.book.proofs.Finding.{found, find-is, find-opens, find-counted, find-inside, part-given}
 
 -- ---- 20 and 21 of an image
 
@@ -48,157 +44,99 @@ module _ (s : Setting) (w : List ℕ) (t : Bool) (q : Checks w t) where
     unfolding fault
     fault-none e = let d : differs s w ≡ false = sym (o .is) ∙ e in record { says = rw (← (q .answer), not-false t h, d) }
 
--- ---- accepted contents
+-- ---- a page is found, and then read
 
-module _ (b : List ℕ) (h : noneHold (contentsOrder b) ≡ true) where
-  -- the k-th row of the table of 40
-  row : (k : ℕ) → getD (contentsOrder b) k (by 0, false) .1 ≡ false
-  row k = row-out (contentsOrder b) k h
-
-  all-rise : allBelow (pagesIn b - 1) (rises b) ≡ true
-  unfolding contentsOrder layoutRows startRows
-  all-rise = not-false _ (row 8)
-
-  -- a row of two tests: where the first holds, the second does not
-  second : (t u : Bool) → (t && u) ≡ false → t ≡ true → u ≡ false
-  second true u z e = z
-  second false u z e = absurd (false≢true e)
-
-  pub accepted : Accepted b
-  unfolding contentsOrder layoutRows startRows
-  accepted = record {
-    passed = h;
-    long = ltb-false (length b) 17 (row 0);
-    one = eqb-true _ _ (not-false _ (row 1));
-    yes-no = ltb-false 1 (word b 4) (row 2);
-    lead-on = row 3;
-    ticks-on = row 4;
-    setting = eqb-true _ _ (not-false _ (row 5));
-    contents-in = ltb-false (length b) (front (pagesIn b)) (row 6);
-    after-contents = λ g. eqb-true _ _ (not-false _ (second _ _ (row 7) (lt-ltb 0 (pagesIn b) g)));
-    none-left = λ z. ltb-false 17 (length b) (second _ _ (row 10) (eq-eqb (pagesIn b) 0 z));
-    rising = λ i g. ltb-true _ _ (all-at (rises b) (pagesIn b - 1) i (omega arith) all-rise);
-    starts-in = λ i g. leb-false _ _ (some-never (outside b) (pagesIn b) i g (row 9));
-  }
-
-pub opened : (b : List ℕ) (t : Bool) → ContentsFit b t → not t ≡ false → Accepted b
-opened b t q h = accepted b (sym (q .fits) ∙ not-false t h)
-
--- word 16 is there
-pub counted : (b : List ℕ) → Accepted b → 16 < length b
-counted b a = omega (arith, a .long)
-
-pub page-there : (b : List ℕ) (i p : ℕ) → Word b 16 p → i < p → i < pagesIn b
-page-there b i p w h = omega (arith, w .value)
-
--- ---- where a page ends
-
-module _ (b : List ℕ) (a : Accepted b) (i : ℕ) (h : i < pagesIn b) (p : ℕ) (w : Word b 16 p) where
-  pub ends-next : 1 + i < p → (x : ℕ) → Pair b (17 + 2 * (1 + i)) x → Ends b i x
-  ends-next g x q =
-      let l : 1 + i < pagesIn b = omega (arith, w .value) in
-      let e : endIn b i ≡ startIn b (1 + i) = rw (lt-ltb (1 + i) (pagesIn b) l) in
-      record { value = q .value ∙ sym e; above = omega (arith, q .value, a .rising i l); inside = omega (arith, q .value, a .starts-in (1 + i) l) }
-
-  pub ends-last : p ≤ 1 + i → Ends b i (length b)
-  ends-last g =
-      let l : pagesIn b ≤ 1 + i = omega (arith, w .value) in
-      record { value = rw (le-ltb (1 + i) (pagesIn b) l); above = a .starts-in i h; inside = omega arith }
-
--- ---- what is said
-
--- a table of one number refuses by it
-pub by-one : {A : Type 0} (k : ℕ) (t u : Table) (r : Says A) → all (λ (e : Refusal × Bool). eqb (e .0 .number) k) t ≡ true → noneHold t ≡ false → byTable (t ++ u) r ≡ refuses (by k)
-unfolding byTable all
-by-one k [] u r n h = absurd (true≢false h)
-by-one k (e ∷ es) u r n h = go (e .0) (e .1) (eqb-true (e .0 .number) k (and-left _ _ n)) (λ q. by-one k es u r (and-right (eqb (e .0 .number) k) _ n) q) h
+-- the table of reading is that of finding, and the page's rows after it
+into : (b : List ℕ) (t : Table) (q : Span) → byTable t (thenRead b (gives q)) ≡ thenRead b (byTable t (gives q))
+unfolding byTable
+into b [] q = refl
+into b (e ∷ es) q = go (e .1) (into b es q)
   where
-    go : (m : Refusal) (t : Bool) → m .number ≡ k → (noneHold es ≡ false → byTable (es ++ u) r ≡ refuses (by k)) → (not t && noneHold es) ≡ false → (refuses m if t else byTable (es ++ u) r) ≡ refuses (by k)
-    go m true z f q = ap (λ (n : ℕ). refuses (by n)) z
-    go m false z f q = f q
+    go : (t : Bool) → byTable es (thenRead b (gives q)) ≡ thenRead b (byTable es (gives q))
+        → (refuses (e .0) if t else byTable es (thenRead b (gives q))) ≡ thenRead b (refuses (e .0) if t else byTable es (gives q))
+    go true z = refl
+    go false z = z
 
-module _ (b : List ℕ) (i : ℕ) where
-  pub page-40 : (t : Bool) → ContentsFit b t → not t ≡ true → (k : Refusal) → k ≡ by 40 → Pages b i (Refused k)
-  unfolding pageSays readOrder contentsOrder layoutRows startRows all
-  page-40 t q h k e = record { answer = ap refuses e ∙ sym (by-one 40 (contentsOrder b) _ _ refl (sym (q .fits) ∙ not-true t h)) }
+pub page-says : (b : List ℕ) (i : ℕ) → pageSays b i ≡ thenRead b (findSays b (length b) i)
+unfolding pageSays findSays readOrder pageIn
+page-says b i = table-both (findOrder b (length b) i) _ (gives (spanIn b (length b) i)) ∙ into b (findOrder b (length b) i) (spanIn b (length b) i)
 
-  module _ (a : Accepted b) where
-    abbrev here : Span
-    here = record { start = startIn b i; len = endIn b i - startIn b i }
+-- the page of accepted contents
+pub past-41 : (b : List ℕ) (i : ℕ) → Accepted b (length b) → i < pagesIn b
+    → pageSays b i ≡ first (fault (pageRows (settingIn b) (pageIn b i))) (gives (spanIn b (length b) i))
+unfolding all pageIn
+past-41 b i a h = page-says b i ∙ rw (found b (length b) i a h) (table-fault (pageRows (settingIn b) (pageIn b i)) (gives (spanIn b (length b) i)) refl)
 
-    past-40 : pageSays b i ≡ byTable ((by 41, not (ltb i (pagesIn b))) ∷ pageRows (settingIn b) (pageIn b i)) (gives here)
-    unfolding pageSays readOrder
-    past-40 = table-both (contentsOrder b) _ (gives here) ∙ table-gives (contentsOrder b) _ (a .passed)
+module _ (b : List ℕ) (i : ℕ) (r : PageFound) (f : Finds b (length b) i r) where
+  -- 40 and 41 are passed on
+  pub page-none : (k : Refusal) → r ≡ Refused k → Pages b i r
+  page-none k e =
+      let z : findSays b (length b) i ≡ refuses k = sym (f .answer) ∙ ap saysPage e in
+      record { answer = ap saysPage e ∙ sym (page-says b i ∙ rw z) }
 
-    pub page-41 : (p : ℕ) → Word b 16 p → p ≤ i → (k : Refusal) → k ≡ by 41 → Pages b i (Refused k)
-    unfolding byTable
-    page-41 p w h k e = record { answer = ap refuses e ∙ sym (past-40 ∙ rw (le-ltb i (pagesIn b) (omega (arith, w .value)))) }
+-- a part was found; n is its number
+module _ (book : RefT (List ℕ)) (i : ℕ) (r : PageFound) (f : Finds (book .now) (length (book .now)) i r) (start size : ℕ) (e : r ≡ Part start size)
+    (s : Setting) (x : s ≡ settingIn (book .now)) (part : RefT (List ℕ)) (p : Cut book start size part) (n : ℕ) (g : ImageFault s (part .now) n) where
+  abbrev b : List ℕ
+  b = book .now
 
-    module _ (h : i < pagesIn b) where
-      pub past-41 : pageSays b i ≡ first (fault (pageRows (settingIn b) (pageIn b i))) (gives here)
-      unfolding byTable all
-      past-41 = past-40 ∙ rw (lt-ltb i (pagesIn b) h) (table-fault (pageRows (settingIn b) (pageIn b i)) (gives here) refl)
+  numbered : pageSays b i ≡ first n (gives (record { start = start; len = size }))
+  unfolding all
+  numbered =
+      let z : n ≡ fault (pageRows (settingIn b) (take size (drop start b))) = rw (x, p .words) at (g .says) in
+      page-says b i
+      ∙ rw (part-given b (length b) i r f start size e, z) (table-fault (pageRows (settingIn b) (take size (drop start b))) (gives (record { start = start; len = size })) refl)
 
-      module _ (s : Setting) (e : s ≡ settingIn b) (start end : ℕ) (q : Pair b (17 + 2 * i) start) (z : Ends b i end) (n : ℕ)
-          (f : ImageFault s (take (end - start) (drop start b)) n) where
-        fault-is : n ≡ fault (pageRows (settingIn b) (pageIn b i))
-        unfolding pageIn
-        fault-is = rw (e, q .value, z .value) at (f .says)
+  pub page-refused : (n ≡ 0 → ⊥) → (k : Refusal) → k ≡ by n → Pages b i (Refused k)
+  page-refused h k y = record { answer = ap refuses y ∙ sym (numbered ∙ first-refuses n _ h) }
 
-        pub page-refused : (n ≡ 0 → ⊥) → (k : Refusal) → k ≡ by n → Pages b i (Refused k)
-        page-refused g k e = record { answer = ap refuses e ∙ sym (past-41 ∙ rw (← fault-is) (first-refuses n (gives here) g)) }
+  pub page-part : n ≡ 0 → Pages b i (Part start size)
+  page-part h = record { answer = sym (numbered ∙ rw h) }
 
-        pub page-part : n ≡ 0 → Pages b i (Part start (end - start))
-        page-part g = record { answer = rw (q .value, z .value) (sym (past-41 ∙ rw (← fault-is, g))) }
+-- ---- what a page that is read tells
+
+-- it was found, and its rows do not hold
+read-given : (b : List ℕ) (x : Says Span) (q : Span) → thenRead b x ≡ gives q → (x ≡ gives q) × (noneHold (pageRows (settingIn b) (take (q .len) (drop (q .start) b))) ≡ true)
+read-given b (refuses k) q e = let z : _≡_ {A = ℕ} 0 1 = cc in absurd (omega arith)
+read-given b (gives y) q e =
+    let t = table-given (pageRows (settingIn b) (take (y .len) (drop (y .start) b))) y q e in
+    (ap gives (t .1), rw (t .1) at (t .0))
+
+module _ (b : List ℕ) (i : ℕ) (q : Span) (e : pageSays b i ≡ gives q) where
+  abbrev rows : Table
+  rows = pageRows (settingIn b) (take (q .len) (drop (q .start) b))
+
+  both : (findSays b (length b) i ≡ gives q) × (noneHold rows ≡ true)
+  both = read-given b (findSays b (length b) i) q (sym (page-says b i) ∙ e)
+
+  pub page-span : spanIn b (length b) i ≡ q
+  page-span = find-is b (length b) i q (both .0)
+
+  pub page-opens : Accepted b (length b)
+  page-opens = find-opens b (length b) i q (both .0)
+
+  pub page-counted : i < pagesIn b
+  page-counted = find-counted b (length b) i q (both .0)
+
+  pub page-inside : q .start + q .len ≤ length b
+  page-inside = find-inside b (length b) i q (both .0)
+
+  -- the words of the page
+  pub page-words : take (q .len) (drop (q .start) b) ≡ pageIn b i
+  unfolding pageIn
+  page-words = ap (λ (z : Span). take (z .len) (drop (z .start) b)) (sym page-span)
+
+  pub page-formed : wellFormed (pageIn b i) ≡ true
+  page-formed = ap wellFormed (sym page-words) ∙ not-false (wellFormed (take (q .len) (drop (q .start) b))) (row-out rows 0 (both .1))
+
+  pub page-same : differs (settingIn b) (pageIn b i) ≡ false
+  page-same = ap (differs (settingIn b)) (sym page-words) ∙ row-out rows 1 (both .1)
 
 -- ---- the part that is handed back
 
-module _ (b : List ℕ) (a : Accepted b) (i : ℕ) (h : i < pagesIn b) where
-  -- a page's end, whichever it is
-  pub ends-is : Ends b i (endIn b i)
-  ends-is = elim (ordered (1 + i) (pagesIn b)) [
-    | less l t ↦ rw t (record { value = rw t; above = a .rising i l; inside = omega (arith, a .starts-in (1 + i) l) })
-    | more l t ↦ rw t (record { value = rw t; above = a .starts-in i h; inside = omega arith })
-  ]
-
-module _ (b : List ℕ) (i : ℕ) (q : Span) (e : pageSays b i ≡ gives q) where
-  no-row : noneHold (readOrder b i) ≡ true
-  unfolding pageSays
-  no-row = table-given (readOrder b i) _ q e .0
-
-  pub page-start : q .start ≡ startIn b i
-  unfolding pageSays
-  page-start = ap (λ (z : Span). z .start) (sym (table-given (readOrder b i) _ q e .1))
-
-  pub page-len : q .len ≡ endIn b i - startIn b i
-  unfolding pageSays
-  page-len = ap (λ (z : Span). z .len) (sym (table-given (readOrder b i) _ q e .1))
-
-  both-halves : (noneHold (contentsOrder b) && noneHold ((by 41, not (ltb i (pagesIn b))) ∷ pageRows (settingIn b) (pageIn b i))) ≡ true
-  unfolding readOrder
-  both-halves = sym (all-append (λ (z : Refusal × Bool). not (z .1)) (contentsOrder b) _) ∙ no-row
-
-  pub page-opens : Accepted b
-  page-opens = accepted b (and-left _ _ both-halves)
-
-  last-rows : (k : ℕ) → getD ((by 41, not (ltb i (pagesIn b))) ∷ pageRows (settingIn b) (pageIn b i)) k (by 0, false) .1 ≡ false
-  last-rows k = row-out _ k (and-right (noneHold (contentsOrder b)) _ both-halves)
-
-  pub page-counted : i < pagesIn b
-  page-counted = ltb-true i (pagesIn b) (not-false _ (last-rows 0))
-
-  pub page-formed : wellFormed (pageIn b i) ≡ true
-  page-formed = not-false _ (last-rows 1)
-
-  pub page-same : differs (settingIn b) (pageIn b i) ≡ false
-  page-same = last-rows 2
-
-  pub page-inside : q .start + q .len ≤ length b
-  page-inside = let z = ends-is b page-opens i page-counted in omega (arith, page-start, page-len, z .above, z .inside)
-
 module _ (b : List ℕ) (i : ℕ) (r : PageFound) (p : Pages b i r) where
-  pub part-inside : (start size : ℕ) → r ≡ Part start size → start + size ≤ length b
-  part-inside start size e = page-inside b i (record { start = start; len = size }) (sym (p .answer) ∙ ap saysPage e)
+  pub read-inside : (start size : ℕ) → r ≡ Part start size → start + size ≤ length b
+  read-inside start size e = page-inside b i (record { start = start; len = size }) (sym (p .answer) ∙ ap saysPage e)
 
 module _ (book : RefT (List ℕ)) (i : ℕ) (r : PageFound) (p : Pages (book .now) i r) (q : RefT (List ℕ)) where
   pub hands-none : (n : Refusal) → r ≡ Refused n → Cut book 0 0 q → Hands book i q

@@ -9,26 +9,27 @@ use lib.Seq.{drop-append-seam}
 use denote.Ref.{RefT}
 use Rattle.boards.specs.Boards.{Under}
 use Rattle.lists.specs.Below.{concatBelow}
-use Rattle.lists.specs.Lists.{overFront}
-use Rattle.rules.specs.Tables.{Table, FirstRow}
+use Rattle.lists.specs.Lists.{all, overFront}
+use Rattle.rules.specs.Tables.{Table, fault, FirstRow}
 use Rattle.lists.proofs.Insert.{over-take}
 use Rattle.rules.specs.Image.{word, wellFormed}
 use Rattle.rules.specs.Setting.{settingCheck}
-use Rattle.rules.specs.Says.{Says, refuses, gives, seen, beside, lent}
+use Rattle.rules.specs.Says.{Says, refuses, gives, first, seen, beside, lent}
 use Rattle.rules.specs.declared.Answer.{Answer}
 use Rattle.rules.specs.declared.Answer.the-variants.{Done, Refused as RefusedAnswer}
 use Rattle.rules.specs.declared.Setting.{Setting}
 use Rattle.rules.proofs.Answers.{answer-one}
-use Rattle.rules.proofs.Tables.{table-refuses}
+use Rattle.rules.proofs.Tables.{table-refuses, table-fault}
 use Rattle.image.specs.Memory.{wordPlace}
 use Rattle.rules.specs.declared.Refusal.{Refusal}
 use Rattle.book.specs.Settings.{settingIn}
 use Rattle.book.specs.Contents.{front, bookOf, pagesIn, pageIn}
-use Rattle.book.specs.Orders.{pageRows, layoutRows, startRows, contentsOrder, readOrder, rowOrder, askedOrder, writeOrder}
+use Rattle.book.specs.Orders.{pageRows, layoutRows, startRows, contentsOrder, findOrder, readOrder, rowOrder, askedOrder, writeOrder}
 use Rattle.book.specs.Rows.{toldLength, rowStart, rowPage}
 use Rattle.book.specs.Bindable.{Bindable, Whole}
-use Rattle.book.specs.Calls.{Span, writeSays, pageSays, saysPage, partAt}
-use Rattle.book.specs.Promises.{Writes, Pages, Hands}
+use Rattle.book.specs.Calls.{Span, writeSays, findSays, pageSays, thenRead, saysPage, partAt}
+use Rattle.book.specs.Promises.{Writes, Finds, Pages, Hands}
+use Rattle.book.specs.Read.{ImageFault}
 use Rattle.book.specs.Writing.{Wordy}
 use Rattle.book.specs.declared.PageFound.{PageFound}
 use Rattle.book.specs.declared.PageFound.the-variants.{Part, Refused}
@@ -37,13 +38,9 @@ use Rattle.book.proofs.Binding as binding
 use Rattle.book.proofs.Booked.{setting-wordy}
 use Rattle.book.proofs.Bound.{bound-pages, bound-setting, bound-page, bound-rest}
 use Rattle.book.proofs.OneForm as form
-use Rattle.book.proofs.Paging.{accepted, page-start, page-len}
+use Rattle.book.proofs.Finding.{accepted}
+use Rattle.book.proofs.Paging.{page-says, page-words}
 use Rattle.book.proofs.RowLaws.{pages-all, pages-long}
-
--- the words of a page that is found
-page-words : (b : List ℕ) (i : ℕ) (q : Span) → pageSays b i ≡ gives q → take (q .len) (drop (q .start) b) ≡ pageIn b i
-unfolding pageIn
-page-words b i q e = rw (page-start b i q e, page-len b i q e)
 
 drop-over : (s d : List ℕ) → drop (length s) (overFront s d) ≡ drop (length s) d
 unfolding overFront
@@ -100,17 +97,17 @@ rowOf b = drop (front (pagesIn b)) b
 module _ (b : List ℕ) (words : Under 65536 b) (ok : Whole b) where
   -- an accepted book with accepted pages is bound of them
   pub whole-form : bookOf (settingIn b) (pagesIn b) (pageIn b) ≡ b
-  whole-form = form.one-form b words (accepted b (ok .contents))
+  whole-form = form.one-form b words (accepted b (length b) (ok .contents))
 
   whole-binds : Bindable (settingIn b) (pagesIn b) (pageIn b)
-  whole-binds = record { accepted = accepted b (ok .contents) .setting; few = omega (arith, words 16); formed = ok .formed; same = ok .same }
+  whole-binds = record { accepted = accepted b (length b) (ok .contents) .setting; few = omega (arith, words 16); formed = ok .formed; same = ok .same }
 
   -- and writing them gives it
   pub whole-written : (room : ℕ) → length b ≤ room → writeSays (settingIn b) (pagesIn b) (rowOf b) room ≡ gives b
   whole-written room h =
       let z : length (bookOf (settingIn b) (pagesIn b) (pageIn b)) ≤ room = rw whole-form h in
       let q = binding.line-writes (settingIn b) (pagesIn b) (pageIn b) whole-binds room z in
-      rw (form.pages-body b words (accepted b (ok .contents)), whole-form) at q
+      rw (form.pages-body b words (accepted b (length b) (ok .contents)), whole-form) at q
 
 -- two settings or two rows never give one book
 pub one-book : (s t : Setting) (p q : ℕ) (row line : List ℕ) (room other : ℕ) (b : List ℕ) → writeSays s p row room ≡ gives b → writeSays t q line other ≡ gives b
@@ -138,6 +135,31 @@ pub page-alone : (b c : List ℕ) → length b ≡ length c → ((k : ℕ) → k
     → pageSays b i ≡ pageSays c i
 page-alone = separate.page-alone
 
+-- ---- a page is found by the contents alone, and only its own part of the book is then read
+
+module _ (b : List ℕ) (k : ℕ) (h : front (pagesIn b) ≤ k) (i : ℕ) where
+  -- of the first k words of a book, the contents among them, and the book's length `find` says what 40 and 41 of the whole book say, and where the page lies
+  pub find-alone : findSays (take k b) (length b) i ≡ findSays b (length b) i
+  find-alone = separate.front-finds b k h i
+
+  -- so reading is finding, and then 20 and 21 of the part that was found
+  pub find-then-read : pageSays b i ≡ thenRead b (findSays (take k b) (length b) i)
+  find-then-read = page-says b i ∙ ap (thenRead b) (sym find-alone)
+
+  -- of the calls' answers: `find` refuses as reading does
+  pub find-refuses : (x : Refusal) → Finds (take k b) (length b) i (Refused x) → pageSays b i ≡ refuses x
+  find-refuses x f = find-then-read ∙ ap (thenRead b) (sym (f .answer))
+
+  -- and where it gives a part, reading says the number of that part, by the setting in the contents, or that part
+  pub find-reads : (start size : ℕ) → Finds (take k b) (length b) i (Part start size) → (n : ℕ) → ImageFault (settingIn (take k b)) (take size (drop start b)) n
+      → pageSays b i ≡ first n (gives (record { start = start; len = size }))
+  unfolding all
+  find-reads start size f n g =
+      let z : n ≡ fault (pageRows (settingIn b) (take size (drop start b))) = rw (separate.front-setting b k h) at (g .says) in
+      find-then-read
+      ∙ ap (thenRead b) (sym (f .answer))
+      ∙ rw z (table-fault (pageRows (settingIn b) (take size (drop start b))) (gives (record { start = start; len = size })) refl)
+
 -- ---- two answers that meet one promise are equal, and so is what is lent
 
 pub one-write : (s : Setting) (p : ℕ) (row old new other : List ℕ) (r q : Answer) → Writes s p row old new r → Writes s p row old other q → (r ≡ q) × (new ≡ other)
@@ -151,6 +173,9 @@ found-one (Part m n) (Part k l) h =
 found-one (Part m n) (Refused l) h = let z : _≡_ {A = ℕ} 0 1 = cc in absurd (omega arith)
 found-one (Refused k) (Part m n) h = let z : _≡_ {A = ℕ} 0 1 = cc in absurd (omega arith)
 found-one (Refused k) (Refused l) h = ap Refused (cc)
+
+pub one-find : (c : List ℕ) (n i : ℕ) (r q : PageFound) → Finds c n i r → Finds c n i q → r ≡ q
+one-find c n i r q a d = found-one r q (a .answer ∙ sym (d .answer))
 
 pub one-page : (b : List ℕ) (i : ℕ) (r q : PageFound) → Pages b i r → Pages b i q → r ≡ q
 one-page b i r q a c = found-one r q (a .answer ∙ sym (c .answer))
@@ -174,9 +199,14 @@ numbers-pages s row zero = refl
 numbers-pages s row (suc p) =
     numbers-join (concatBelow p (λ i. pageRows s (rowPage row i))) (pageRows s (rowPage row p)) ∙ ap (λ (l : List ℕ). l ++ (20 ∷ 21 ∷ [])) (numbers-pages s row p)
 
+-- '40 ..; then 41 no such page'
+pub find-order : (c : List ℕ) (n i : ℕ) → numbers (findOrder c n i) ≡ replicate 11 40 ++ (41 ∷ [])
+unfolding findOrder contentsOrder layoutRows startRows
+find-order c n i = refl
+
 -- 'reading, 40 ..; then 41 no such page, then 20 and 21 for the page'
 pub read-order : (b : List ℕ) (i : ℕ) → numbers (readOrder b i) ≡ replicate 11 40 ++ (41 ∷ 20 ∷ 21 ∷ [])
-unfolding readOrder contentsOrder layoutRows startRows
+unfolding readOrder findOrder contentsOrder layoutRows startRows
 read-order b i = refl
 
 -- 'writing, the setting's, then 42 above 65,535 pages, then 20 and 21 page by page, then 29'
@@ -191,6 +221,10 @@ write-order s p row room =
     ∙ ap (λ (l : List ℕ). l ++ (20 ∷ 29 ∷ [])) (numbers-pages s row p))
 
 module _ (k : Refusal) where
+  pub find-number : (c : List ℕ) (n i : ℕ) → Finds c n i (Refused k) → FirstRow (findOrder c n i) k
+  unfolding findSays
+  find-number c n i a = table-refuses (findOrder c n i) _ k (sym (a .answer))
+
   pub page-number : (b : List ℕ) (i : ℕ) → Pages b i (Refused k) → FirstRow (readOrder b i) k
   unfolding pageSays
   page-number b i a = table-refuses (readOrder b i) _ k (sym (a .answer))

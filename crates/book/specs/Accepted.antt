@@ -1,4 +1,4 @@
--- Accepted contents as facts: what a function that is handed a checked book may require. Assumes nothing.
+-- Accepted contents as facts: what a function that is handed checked contents may require. c is the front of a book of n words. Assumes nothing.
 use Prim.Native.Nat.{ℕ, _+_, _<_, _≤_}
 use mathlib.Core.Path.{_≡_}
 use mathlib.Core.Bool.{true, false}
@@ -11,16 +11,16 @@ use Rattle.book.specs.Settings.{limitOff, settingIn}
 use Rattle.book.specs.Contents.{front, pagesIn, startIn}
 use Rattle.book.specs.Orders.{contentsOrder}
 
-pub record Accepted (b : List ℕ) : Type 0 where
-  pub passed : noneHold (contentsOrder b) ≡ true
-  pub long : 17 ≤ length b
-  pub one : word b 0 ≡ 1
-  pub yes-no : word b 4 ≤ 1
-  pub lead-on : limitOff b 5 ≡ false
-  pub ticks-on : limitOff b 11 ≡ false
-  pub setting : settingCheck (settingIn b) ≡ 0
-  pub contents-in : front (pagesIn b) ≤ length b
-  pub after-contents : 0 < pagesIn b → startIn b 0 ≡ front (pagesIn b)
-  pub rising : (i : ℕ) → 1 + i < pagesIn b → startIn b i < startIn b (1 + i)
-  pub starts-in : (i : ℕ) → i < pagesIn b → startIn b i < length b
-  pub none-left : pagesIn b ≡ 0 → length b ≤ 17
+pub record Accepted (c : List ℕ) (n : ℕ) : Type 0 where
+  pub passed : noneHold (contentsOrder c n) ≡ true
+  pub long : 17 ≤ length c
+  pub one : word c 0 ≡ 1
+  pub yes-no : word c 4 ≤ 1
+  pub lead-on : limitOff c 5 ≡ false
+  pub ticks-on : limitOff c 11 ≡ false
+  pub setting : settingCheck (settingIn c) ≡ 0
+  pub contents-in : front (pagesIn c) ≤ length c
+  pub after-contents : 0 < pagesIn c → startIn c 0 ≡ front (pagesIn c)
+  pub rising : (i : ℕ) → 1 + i < pagesIn c → startIn c i < startIn c (1 + i)
+  pub starts-in : (i : ℕ) → i < pagesIn c → startIn c i < n
+  pub none-left : pagesIn c ≡ 0 → n ≤ 17

@@ -3,6 +3,7 @@ use Prim.Native.Nat.{ℕ, _<_, _≤_}
 use mathlib.Core.Path.{_≡_}
 use mathlib.Core.Bool.{true, false}
 use mathlib.Core.List.{List}
+use lib.ListN.{length}
 use Rattle.rules.specs.Image.{wellFormed}
 use Rattle.rules.specs.Orders.{differs}
 use Rattle.rules.specs.Setting.{settingCheck}
@@ -21,6 +22,6 @@ pub record Bindable (s : Setting) (p : ℕ) (f : ℕ → List ℕ) : Type 0 wher
 
 -- a book whose contents and pages are all accepted
 pub record Whole (b : List ℕ) : Type 0 where
-  pub contents : noneHold (contentsOrder b) ≡ true
+  pub contents : noneHold (contentsOrder b (length b)) ≡ true
   pub formed : (i : ℕ) → i < pagesIn b → wellFormed (pageIn b i) ≡ true
   pub same : (i : ℕ) → i < pagesIn b → differs (settingIn b) (pageIn b i) ≡ false

@@ -1,12 +1,13 @@
 -- What writing and reading say: by their tables of refusals, or what comes where no row holds. Assumes nothing.
 use Prim.Native.Nat.{ℕ, _-_}
 use mathlib.Core.List.{List, []}
-use lib.ListN.{take, drop}
+use lib.ListN.{length, take, drop}
 use Rattle.rules.specs.Says.{Says, refuses, gives, byTable, beside}
 use Rattle.rules.specs.declared.Setting.{Setting}
 use Rattle.book.specs.Contents.{bookOf, startIn, endIn}
 use Rattle.book.specs.Rows.{rowPage}
-use Rattle.book.specs.Orders.{readOrder, writeOrder}
+use Rattle.book.specs.Settings.{settingIn}
+use Rattle.book.specs.Orders.{pageRows, findOrder, readOrder, writeOrder}
 use Rattle.book.specs.declared.PageFound.{PageFound}
 use Rattle.book.specs.declared.PageFound.the-variants.{Part, Refused}
 
@@ -19,8 +20,20 @@ pub record Span : Type 0 where
   pub start : ℕ
   pub len : ℕ
 
+abbrev pub spanIn : List ℕ → ℕ → ℕ → Span
+spanIn c n i = record { start = startIn c i; len = endIn c n i - startIn c i }
+
+-- by the contents alone
+unfoldable pub findSays : List ℕ → ℕ → ℕ → Says Span
+findSays c n i = byTable (findOrder c n i) (gives (spanIn c n i))
+
 unfoldable pub pageSays : List ℕ → ℕ → Says Span
-pageSays b i = byTable (readOrder b i) (gives (record { start = startIn b i; len = endIn b i - startIn b i }))
+pageSays b i = byTable (readOrder b i) (gives (spanIn b (length b) i))
+
+-- 20 and 21 for the page that was found
+abbrev pub thenRead : List ℕ → Says Span → Says Span
+thenRead b (refuses k) = refuses k
+thenRead b (gives q) = byTable (pageRows (settingIn b) (take (q .len) (drop (q .start) b))) (gives q)
 
 abbrev pub saysPage : PageFound → Says Span
 saysPage (Part start size) = gives (record { start = start; len = size })

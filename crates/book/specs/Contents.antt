@@ -31,17 +31,18 @@ contentsOf s p f = (1 ∷ (settingWords s ++ (p ∷ []))) ++ startsOf p f
 unfoldable pub bookOf : Setting → ℕ → (ℕ → List ℕ) → List ℕ
 bookOf s p f = contentsOf s p f ++ concatBelow p f
 
--- ---- from a book to its pages
+-- ---- from a book to its pages: c is the front of a book of n words, and may be all of it
 
 abbrev pub pagesIn : List ℕ → ℕ
-pagesIn b = word b 16
+pagesIn c = word c 16
 
 abbrev pub startIn : List ℕ → ℕ → ℕ
-startIn b i = pairAt b (17 + 2 * i)
+startIn c i = pairAt c (17 + 2 * i)
 
 -- 'up to the next start or the end'
-abbrev pub endIn : List ℕ → ℕ → ℕ
-endIn b i = startIn b (1 + i) if ltb (1 + i) (pagesIn b) else length b
+abbrev pub endIn : List ℕ → ℕ → ℕ → ℕ
+endIn c n i = startIn c (1 + i) if ltb (1 + i) (pagesIn c) else n
 
+-- page i of a whole book
 unfoldable pub pageIn : List ℕ → ℕ → List ℕ
-pageIn b i = take (endIn b i - startIn b i) (drop (startIn b i) b)
+pageIn b i = take (endIn b (length b) i - startIn b i) (drop (startIn b i) b)

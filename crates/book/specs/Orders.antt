@@ -18,43 +18,47 @@ use Rattle.book.specs.Rows.{rowStart, rowPage}
 abbrev pub pageRows : Setting → List ℕ → Table
 pageRows s w = (by 20, not (wellFormed w)) ∷ (by 21, differs s w) ∷ []
 
--- ---- reading
+-- ---- reading: c is the front of a book of n words, and may be all of it; a whole book b is read by b and its length
 
 -- 'contents .. off this layout (yes/no words above 1 too) or with a refused setting'
 unfoldable pub layoutRows : List ℕ → Table
-layoutRows b =
-    (by 40, not (eqb (word b 0) 1))
-    ∷ (by 40, ltb 1 (word b 4))
-    ∷ (by 40, limitOff b 5)
-    ∷ (by 40, limitOff b 11)
-    ∷ (by 40, not (eqb (settingCheck (settingIn b)) 0))
+layoutRows c =
+    (by 40, not (eqb (word c 0) 1))
+    ∷ (by 40, ltb 1 (word c 4))
+    ∷ (by 40, limitOff c 5)
+    ∷ (by 40, limitOff c 11)
+    ∷ (by 40, not (eqb (settingCheck (settingIn c)) 0))
     ∷ []
 
 -- start i and the next
 abbrev pub rises : List ℕ → ℕ → Bool
-rises b i = ltb (startIn b i) (startIn b (1 + i))
+rises c i = ltb (startIn c i) (startIn c (1 + i))
 
--- no word stands there
-abbrev pub outside : List ℕ → ℕ → Bool
-outside b i = leb (length b) (startIn b i)
+-- no word of the book stands there
+abbrev pub outside : List ℕ → ℕ → ℕ → Bool
+outside c n i = leb n (startIn c i)
 
 -- 'contents cut short' by the number of pages; 'starts not rising from right after the contents, one outside the book, or words left in a book of no pages'
-unfoldable pub startRows : List ℕ → Table
-startRows b =
-    (by 40, ltb (length b) (front (pagesIn b)))
-    ∷ (by 40, ltb 0 (pagesIn b) && not (eqb (startIn b 0) (front (pagesIn b))))
-    ∷ (by 40, not (allBelow (pagesIn b - 1) (rises b)))
-    ∷ (by 40, someBelow (pagesIn b) (outside b))
-    ∷ (by 40, eqb (pagesIn b) 0 && ltb 17 (length b))
+unfoldable pub startRows : List ℕ → ℕ → Table
+startRows c n =
+    (by 40, ltb (length c) (front (pagesIn c)))
+    ∷ (by 40, ltb 0 (pagesIn c) && not (eqb (startIn c 0) (front (pagesIn c))))
+    ∷ (by 40, not (allBelow (pagesIn c - 1) (rises c)))
+    ∷ (by 40, someBelow (pagesIn c) (outside c n))
+    ∷ (by 40, eqb (pagesIn c) 0 && ltb 17 n)
     ∷ []
 
 -- '40 contents cut short ..'
-unfoldable pub contentsOrder : List ℕ → Table
-contentsOrder b = (by 40, ltb (length b) 17) ∷ (layoutRows b ++ startRows b)
+unfoldable pub contentsOrder : List ℕ → ℕ → Table
+contentsOrder c n = (by 40, ltb (length c) 17) ∷ (layoutRows c ++ startRows c n)
+
+-- '40 ..; then 41 no such page'
+unfoldable pub findOrder : List ℕ → ℕ → ℕ → Table
+findOrder c n i = contentsOrder c n ++ ((by 41, not (ltb i (pagesIn c))) ∷ [])
 
 -- 'reading, 40 ..; then 41 no such page, then 20 and 21 for the page'
 unfoldable pub readOrder : List ℕ → ℕ → Table
-readOrder b i = contentsOrder b ++ ((by 41, not (ltb i (pagesIn b))) ∷ pageRows (settingIn b) (pageIn b i))
+readOrder b i = findOrder b (length b) i ++ pageRows (settingIn b) (pageIn b i)
 
 -- ---- writing
 

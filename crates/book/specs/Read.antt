@@ -4,7 +4,7 @@ use mathlib.Core.Bool.{Bool}
 use mathlib.Core.List.{List}
 use mathlib.Core.Path.{_≡_}
 use lib.Dec.{eqb}
-use lib.ListN.{length, take, drop}
+use lib.ListN.{take, drop}
 use denote.Ref.{RefT}
 use Rattle.lists.specs.Below.{allBelow}
 use Rattle.rules.specs.Tables.{fault, noneHold}
@@ -43,11 +43,12 @@ pub record Rising (b : List ℕ) (n i : ℕ) (r : Bool) : Type 0 where
   pub here : i ≤ n
   pub rise : r ≡ allBelow i (rises b)
 
-pub record StartsFit (b : List ℕ) (r : Bool) : Type 0 where
-  pub fits : r ≡ noneHold (startRows b)
+-- c is the front of a book of n words
+pub record StartsFit (c : List ℕ) (n : ℕ) (r : Bool) : Type 0 where
+  pub fits : r ≡ noneHold (startRows c n)
 
-pub record ContentsFit (b : List ℕ) (r : Bool) : Type 0 where
-  pub fits : r ≡ noneHold (contentsOrder b)
+pub record ContentsFit (c : List ℕ) (n : ℕ) (r : Bool) : Type 0 where
+  pub fits : r ≡ noneHold (contentsOrder c n)
 
 -- ---- a page: its number by 20 and 21, and where it ends
 
@@ -57,10 +58,10 @@ pub record Other (s : Setting) (w : List ℕ) (r : Bool) : Type 0 where
 pub record ImageFault (s : Setting) (w : List ℕ) (r : ℕ) : Type 0 where
   pub says : r ≡ fault (pageRows s w)
 
-pub record Ends (b : List ℕ) (i r : ℕ) : Type 0 where
-  pub value : r ≡ endIn b i
-  pub above : startIn b i < r
-  pub inside : r ≤ length b
+pub record Ends (c : List ℕ) (n i r : ℕ) : Type 0 where
+  pub value : r ≡ endIn c n i
+  pub above : startIn c i < r
+  pub inside : r ≤ n
 
 -- the part of a lent book from a start on: its words, and its place
 pub record Cut (book : RefT (List ℕ)) (start size : ℕ) (r : RefT (List ℕ)) : Type 0 where

@@ -7,9 +7,12 @@ mod turning;
 mod words;
 mod writer;
 
+pub use pages::find;
+pub use pages::image_fault;
 pub use pages::page_in;
 pub use pages::page_of;
 use rules::Refusal;
+pub use settings::setting_in;
 use turning::page_after;
 use turning::page_before;
 pub use writer::write;

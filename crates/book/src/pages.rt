@@ -11,10 +11,10 @@ ghost use lib.ListN.{length};
 ghost use Rattle.book.specs.Contents.{pagesIn};
 ghost use Rattle.book.specs.Accepted.{Accepted};
 ghost use Rattle.book.specs.Read.{ImageFault, Ends, Cut};
-ghost use Rattle.book.specs.Promises.{Pages, Hands};
+ghost use Rattle.book.specs.Promises.{Finds, Pages, Hands};
 
 // 20, 21, or 0.
-pub(crate) fn image_fault(setting: Setting, image: &[u16]) -> u8
+pub fn image_fault(setting: Setting, image: &[u16]) -> u8
     ensures { λ r. ⌜ ImageFault setting (now (image .entry)) r ⌝ }
 {
     if !image::well_formed(image) {
@@ -26,53 +26,68 @@ pub(crate) fn image_fault(setting: Setting, image: &[u16]) -> u8
     0
 }
 
+// ---- by the contents alone: `contents` is the front of a book of `words` words
+
 // The next start, or the book's end.
-fn end_at(book: &[u16], i: usize) -> usize
-    requires { ⌜ Accepted (now book) ⌝ }
-    requires { ⌜ i < pagesIn (now book) ⌝ }
-    ensures { λ r. ⌜ Ends (now (book .entry)) i r ⌝ }
+fn end_at(contents: &[u16], words: usize, i: usize) -> usize
+    requires { ⌜ Accepted (now contents) words ⌝ }
+    requires { ⌜ i < pagesIn (now contents) ⌝ }
+    ensures { λ r. ⌜ Ends (now (contents .entry)) words i r ⌝ }
 {
-    if 1 + i < word(book, 16) {
-        return pair(book, 17 + 2 * (1 + i));
+    if 1 + i < word(contents, 16) {
+        return pair(contents, 17 + 2 * (1 + i));
     }
-    book.len()
+    words
 }
 
-fn page_at(book: &[u16], i: usize) -> PageFound
-    requires { ⌜ Accepted (now book) ⌝ }
-    requires { ⌜ i < pagesIn (now book) ⌝ }
-    ensures { λ r. ⌜ Pages (now (book .entry)) i r ⌝ }
+fn find_at(contents: &[u16], words: usize, i: usize) -> PageFound
+    requires { ⌜ Accepted (now contents) words ⌝ }
+    requires { ⌜ i < pagesIn (now contents) ⌝ }
+    ensures { λ r. ⌜ Finds (now (contents .entry)) words i r ⌝ }
 {
-    let start = pair(book, 17 + 2 * i);
-    let end = end_at(book, i);
-    let number = image_fault(setting_in(book), &book[start..end]);
-    if number != 0 {
-        return PageFound::Refused(refusals::by(number));
-    }
+    let start = pair(contents, 17 + 2 * i);
+    let end = end_at(contents, words, i);
     PageFound::Part {
         start,
         len: end - start,
     }
 }
 
-// Where page `page` lies, or 40, 41, 20, 21.
-pub fn page_in(book: &[u16], page: u64) -> PageFound
-    ensures { λ r. ⌜ Pages (now (book .entry)) page r ⌝ }
+// Where page `page` lies, or 40, 41. A book that no buffer holds is paged through by its contents and its length.
+pub fn find(contents: &[u16], words: usize, page: u64) -> PageFound
+    ensures { λ r. ⌜ Finds (now (contents .entry)) words page r ⌝ }
 {
-    if !accepted(book) {
+    if !accepted(contents, words) {
         return PageFound::Refused(refusals::by(40));
     }
-    if word(book, 16) as u64 <= page {
+    if word(contents, 16) as u64 <= page {
         return PageFound::Refused(refusals::by(41));
     }
-    page_at(book, page as usize)
+    find_at(contents, words, page as usize)
 }
+
+// ---- of a whole book
 
 fn cut(book: &[u16], start: usize, len: usize) -> &[u16]
     requires { ⌜ start + len ≤ length (now book) ⌝ }
     ensures { λ r. ⌜ Cut (book .entry) start len r ⌝ }
 {
     &book[start..start + len]
+}
+
+// Where page `page` lies, or 40, 41, 20, 21.
+pub fn page_in(book: &[u16], page: u64) -> PageFound
+    ensures { λ r. ⌜ Pages (now (book .entry)) page r ⌝ }
+{
+    let found = find(book, book.len(), page);
+    let PageFound::Part { start, len } = found else {
+        return found;
+    };
+    let number = image_fault(setting_in(book), cut(book, start, len));
+    if number != 0 {
+        return PageFound::Refused(refusals::by(number));
+    }
+    PageFound::Part { start, len }
 }
 
 // That page, as the caller's own words and no copy; the empty part at the book's front where it is refused.

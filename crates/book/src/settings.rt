@@ -21,27 +21,27 @@ fn limit_of(set: bool, number: u64) -> Limit
     Limit::Unset
 }
 
-fn limit_at(book: &[u16], k: usize) -> Limit
-    requires { ⌜ 4 + k < length (now book) ⌝ }
-    ensures { λ r. ⌜ r ≡ limitAt (now (book .entry)) k ⌝ }
+fn limit_at(contents: &[u16], k: usize) -> Limit
+    requires { ⌜ 4 + k < length (now contents) ⌝ }
+    ensures { λ r. ⌜ r ≡ limitAt (now (contents .entry)) k ⌝ }
 {
-    limit_of(word(book, k) == 1, four(book, 1 + k))
+    limit_of(word(contents, k) == 1, four(contents, 1 + k))
 }
 
 // Words 1 to 15.
-pub(crate) fn setting_in(book: &[u16]) -> Setting
-    requires { ⌜ 17 ≤ length (now book) ⌝ }
-    ensures { λ r. ⌜ r ≡ settingIn (now (book .entry)) ⌝ }
+pub fn setting_in(contents: &[u16]) -> Setting
+    requires { ⌜ 17 ≤ length (now contents) ⌝ }
+    ensures { λ r. ⌜ r ≡ settingIn (now (contents .entry)) ⌝ }
 {
-    let lead = limit_at(book, 5);
-    let ticks = limit_at(book, 11);
+    let lead = limit_at(contents, 5);
+    let ticks = limit_at(contents, 11);
     Setting {
-        num_snakes: word(book, 1) as u64,
-        grid_size: grid::signed(book[2]),
-        initial_length: word(book, 3) as u64,
-        play_to_last: word(book, 4) == 1,
+        num_snakes: word(contents, 1) as u64,
+        grid_size: grid::signed(contents[2]),
+        initial_length: word(contents, 3) as u64,
+        play_to_last: word(contents, 4) == 1,
         win_food_lead: lead,
-        initial_food_count: word(book, 10) as u64,
+        initial_food_count: word(contents, 10) as u64,
         max_ticks: ticks,
     }
 }

@@ -8,10 +8,10 @@ use Rattle.book.proofs.contents.starts_rise.Statement.{statement}
 use Rattle.book.proofs.contents.starts_rise.Tie as tie
 
 abbrev Inv-loop : tie.InvT-loop
-Inv-loop book n all₀ i₀ all i = Rising book n i all
+Inv-loop contents n all₀ i₀ all i = Rising contents n i all
 
 abbrev μ-loop : tie.MeasureT-loop
-μ-loop book n all₀ i₀ all i = n - i
+μ-loop contents n all₀ i₀ all i = n - i
 
 pub starts-rise-spec : {M : Type 1} → statement M
 starts-rise-spec =

@@ -1,6 +1,6 @@
 -- `book::pages::end_at` meets its contract: the next start where there is one, which is above this one, or the book's end. Assumes nothing.
 use borrow.Author.Needs.{needs}
-use Rattle.book.proofs.Paging.{ends-next, ends-last}
+use Rattle.book.proofs.Finding.{ends-next, ends-last}
 use Rattle.book.proofs.pages.end_at.Statement.{statement}
 use Rattle.book.proofs.pages.end_at.Tie as tie
 

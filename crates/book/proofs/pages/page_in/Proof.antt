@@ -1,6 +1,7 @@
--- `book::pages::page_in` meets its contract: 40, then 41, then what the page says. Assumes nothing.
+-- `book::pages::page_in` meets its contract: what the contents find, then the page's 20 and 21. Assumes nothing.
 use borrow.Author.Needs.{needs}
-use Rattle.book.proofs.Paging.{opened, counted, page-there, page-40, page-41}
+use Rattle.book.proofs.Finding.{part-long, part-inside}
+use Rattle.book.proofs.Paging.{page-none, page-refused, page-part}
 use Rattle.book.proofs.pages.page_in.Statement.{statement}
 use Rattle.book.proofs.pages.page_in.Tie as tie
 
@@ -8,11 +9,10 @@ pub page-in-spec : {M : Type 1} → statement M
 page-in-spec =
     tie.close
     (tie.spec
-    (λ c κs. search needs)
-    (λ c κs. search needs)
-    (λ c. search page-40)
-    (λ c κs. search (counted, opened))
-    (λ c κs. search needs)
-    (λ c. search (page-41, opened))
-    (λ c κs. search (needs, opened, page-there))
-    (λ c. search needs))
+    (λ c κs. search needs) (λ c. search needs) (λ c. search needs)
+    (λ c. search page-none)
+    (λ c κs. search part-long)
+    (λ c κs. search part-inside)
+    (λ c κs. search needs) (λ c κs. search needs)
+    (λ c. search page-refused)
+    (λ c. search page-part))
