@@ -25,7 +25,7 @@ pub struct Passed {
     pub tally: Tally,
 }
 
-// What came, up to the end of a line; a fault passes over the rest.
+// What came, up to the end of a line.
 fn take_some(
     p: Pass,
     part: &[u8],
@@ -48,14 +48,6 @@ fn take_some(
     let t = p.tally;
     let tally = see(t, progress, image, lengths, bytes);
     let at = progress.at;
-    if !tally.on {
-        return Pass {
-            progress,
-            tally,
-            at: part.len(),
-            more: false,
-        };
-    }
     Pass {
         progress,
         tally,
@@ -64,7 +56,7 @@ fn take_some(
     }
 }
 
-// All that came.
+// All that came, up to the first fault.
 fn take_part(
     first: Pass,
     part: &[u8],
@@ -83,6 +75,9 @@ fn take_part(
 {
     let mut p = first;
     while p.at < part.len() {
+        if !p.tally.on {
+            return p;
+        }
         p = take_some(p, part, line, image, next, list, out, lengths, bytes);
     }
     p

@@ -15,6 +15,13 @@ Inv-loop line₀ image₀ next₀ list₀ out₀ lengths₀ bytes₀ p₀ turns�
 abbrev μ-loop : tie.MeasureT-loop
 μ-loop line₀ image₀ next₀ list₀ out₀ lengths₀ bytes₀ p₀ turns₀ line image next list out lengths bytes p turns = turns
 
+loop-again : tie.Need-loop-again Inv-loop μ-loop
+loop-again c =
+    let taken : tie.After-read-some Inv-loop μ-loop = search in
+    let at : tie.At-loop Inv-loop μ-loop = search in
+    let e = taken .read-some .ensures in
+    (e .0, e .1, search needs, search needs, search needs, search needs, search needs, search needs)
+
 pub walk-spec : {M : Type 1} → statement M
 walk-spec =
     tie.close
@@ -23,7 +30,8 @@ walk-spec =
     μ-loop
     (λ c. search needs)
     (λ c κs. search needs)
-    (λ c. search needs) (λ c. search needs) (λ c. search needs)
+    (λ c. search needs) (λ c. search needs)
+    loop-again
     (λ c κs. search needs)
     (λ c. search needs) (λ c. search needs) (λ c. search needs) (λ c. search needs)
     (λ c. search needs) (λ c. search needs) (λ c. search needs))
