@@ -93,7 +93,7 @@ fn limit_words(limit: Limit) -> [u16; 5]
 }
 
 // The word 1, the setting's words, the number of pages.
-pub(crate) fn write_front(setting: Setting, p: usize, out: &mut [u16])
+pub fn write_front(setting: Setting, p: usize, out: &mut [u16])
     requires { ⌜ Wordy setting ⌝ }
     requires { ⌜ (p < 65536) × (17 ≤ length (now out)) ⌝ }
     ensures { λ _. ⌜ Fronted setting p (now (out .entry)) (now (out .exit)) ⌝ }

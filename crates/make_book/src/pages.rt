@@ -2,6 +2,7 @@
 use crate::Fault;
 use crate::Tally;
 use crate::words::put_words;
+use crate::words::wide;
 use stream::Progress;
 ghost use mathlib.Core.Path.{_≡_};
 ghost use Prim.Native.Nat.{_≤_};
@@ -39,10 +40,6 @@ fn count_page(t: Tally, words: usize, lengths: &mut [u16; 65535]) -> Tally
     }
     lengths[k] = (words % 65536) as u16;
     go_on(t, k + 1)
-}
-
-fn wide(word: u16) -> usize {
-    word as usize
 }
 
 // The contents stand written: a page of another length would belie them.

@@ -1,10 +1,9 @@
 // One pass over standard input, from its front to its end or to the first fault.
 use crate::Fault;
 use crate::Tally;
-use crate::messages::tell;
+use crate::messages::tell_line;
 use crate::pages::see;
 use crate::pages::stop;
-use libc::SEEK_SET;
 use libc::STDIN_FILENO;
 use rules::Setting;
 use stream::Progress;
@@ -198,7 +197,7 @@ pub(crate) fn go_over(writes: bool, lengths: &mut [u16; 65535], bytes: &mut [u8]
     );
     let r = last.progress;
     let t = last.tally;
-    tell(t, &out, r.text);
+    tell_line(t, &out, r.text);
     let desk = r.desk;
     let game = desk.game;
     let setting = game.setting;

@@ -3,6 +3,12 @@ use libc::STDOUT_FILENO;
 ghost use Prim.Native.Nat.{_+_, _*_, _≤_};
 ghost use lib.ListN.{length};
 
+pub(crate) fn wide(word: u16) -> usize
+    ensures { λ r. ⌜ r ≤ 65535 ⌝ }
+{
+    word as usize
+}
+
 fn low(word: u16) -> u8 {
     (word % 256) as u8
 }
