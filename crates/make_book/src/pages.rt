@@ -81,9 +81,6 @@ pub(crate) fn see(
     requires { ⌜ t .pages ≤ 65535 ⌝ }
     ensures { λ q. ⌜ q .pages ≤ 65535 ⌝ }
 {
-    if !t.on {
-        return t;
-    }
     if r.text == 0 {
         return t;
     }

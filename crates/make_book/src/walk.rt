@@ -120,7 +120,7 @@ fn read_some(
     take_part(came, &part[..n], line, image, next, list, out, lengths, bytes)
 }
 
-// The last line, where no newline ended it.
+// The last line, where no newline ended it; nothing after a fault.
 fn finish(
     p: Pass,
     line: &[u8],
@@ -135,6 +135,9 @@ fn finish(
     requires { ⌜ p .tally .pages ≤ 65535 ⌝ }
     ensures { λ q. ⌜ q .tally .pages ≤ 65535 ⌝ }
 {
+    if !p.tally.on {
+        return p;
+    }
     let r = p.progress;
     let progress = stream::take_last(r, line, image, next, list, out);
     let t = p.tally;
