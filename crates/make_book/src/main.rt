@@ -40,12 +40,7 @@ fn rewind() -> bool {
 }
 
 // The contents, then the pages in a second pass.
-fn write_book(
-    setting: Setting,
-    pages: usize,
-    lengths: &mut [u16; 65535],
-    bytes: &mut [u8],
-) -> Fault
+fn write_book(setting: Setting, pages: usize, lengths: &mut [u16; 65535], bytes: &mut [u8]) -> Fault
     requires { ⌜ pages ≤ 65535 ⌝ }
 {
     if !rewind() {

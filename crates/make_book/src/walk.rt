@@ -117,7 +117,17 @@ fn read_some(
         at: 0,
         more: 0 < n,
     };
-    take_part(came, &part[..n], line, image, next, list, out, lengths, bytes)
+    take_part(
+        came,
+        &part[..n],
+        line,
+        image,
+        next,
+        list,
+        out,
+        lengths,
+        bytes,
+    )
 }
 
 // The last line, where no newline ended it; nothing after a fault.
@@ -196,7 +206,14 @@ pub(crate) fn go_over(writes: bool, lengths: &mut [u16; 65535], bytes: &mut [u8]
         more: true,
     };
     let last = walk(
-        first, &mut line, &mut image, &mut next, &mut list, &mut out, lengths, bytes,
+        first,
+        &mut line,
+        &mut image,
+        &mut next,
+        &mut list,
+        &mut out,
+        lengths,
+        bytes,
     );
     let r = last.progress;
     let t = last.tally;
