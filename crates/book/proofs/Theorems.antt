@@ -27,7 +27,7 @@ use Rattle.book.specs.Contents.{front, bookOf, pagesIn, pageIn}
 use Rattle.book.specs.Orders.{pageRows, layoutRows, startRows, contentsOrder, findOrder, readOrder, rowOrder, askedOrder, writeOrder}
 use Rattle.book.specs.Rows.{toldLength, rowStart, rowPage}
 use Rattle.book.specs.Bindable.{Bindable, Whole}
-use Rattle.book.specs.Calls.{Span, writeSays, findSays, pageSays, thenRead, saysPage, partAt}
+use Rattle.book.specs.Calls.{writeSays, findSays, pageSays, thenRead, saysPage, partAt}
 use Rattle.book.specs.Promises.{Writes, Finds, Pages, Hands}
 use Rattle.book.specs.Read.{ImageFault}
 use Rattle.book.specs.Writing.{Wordy}

@@ -1,17 +1,15 @@
 -- A setting's words and the setting that they tell. Assumes nothing.
 use Prim.Native.Nat.{ℕ, _+_}
 use mathlib.Core.Path.{_≡_}
-use mathlib.Core.Bool.{Bool, true, not, _||_}
+use mathlib.Core.Bool.{Bool, true}
 use mathlib.Core.List.{List}
 use lib.Dec.{eqb}
 use lib.IntN.{ℤ, pos}
-use Rattle.rules.specs.Grid.{sameZ}
 use Rattle.rules.specs.Image.{word}
-use Rattle.rules.specs.declared.Setting.{Setting}
 use Rattle.rules.specs.declared.Limit.{Limit}
 use Rattle.rules.specs.declared.Limit.the-variants.{Is}
 use Rattle.book.specs.Settings.{fourAt, limitOf, limitAt, settingIn}
-use Rattle.book.specs.Read.{Word, Other}
+use Rattle.book.specs.Read.{Word}
 
 -- ---- what the reading functions find
 
@@ -27,8 +25,3 @@ module _ (b : List ℕ) (n size last food : ℕ) (g : ℤ) (lead ticks : Limit) 
       → record { «num_snakes» = n; «grid_size» = g; «initial_length» = size; «play_to_last» = eqb last 1; «win_food_lead» = lead; «initial_food_count» = food; «max_ticks» = ticks } ≡ settingIn b
   unfolding settingIn
   setting-read w₁ w₂ w₃ w₄ w₅ w₁₀ w₁₁ = rw (w₁ .value, w₂, w₃ .value, w₄ .value, w₅, w₁₀ .value, w₁₁)
-
--- ---- 21, by the numbers that were read
-
-pub other-is : (s : Setting) (w : List ℕ) (z g : ℤ) (t : Bool) → z ≡ pos (word w 1) → g ≡ s .«grid_size» → t ≡ sameZ z g → Other s w (not (eqb (word w 0) (s .«num_snakes»)) || not t)
-other-is s w z g t p q r = record { is = rw (r, p, q) }

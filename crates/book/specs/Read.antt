@@ -9,7 +9,6 @@ use denote.Ref.{RefT}
 use Rattle.lists.specs.Below.{allBelow}
 use Rattle.rules.specs.Tables.{fault, noneHold}
 use Rattle.rules.specs.Image.{word}
-use Rattle.rules.specs.Orders.{differs}
 use Rattle.rules.specs.Setting.{settingCheck}
 use Rattle.book.specs.Settings.{pairAt, limitOff, settingIn}
 use Rattle.rules.specs.declared.Setting.{Setting}
@@ -51,9 +50,6 @@ pub record ContentsFit (c : List ℕ) (n : ℕ) (r : Bool) : Type 0 where
   pub fits : r ≡ noneHold (contentsOrder c n)
 
 -- ---- a page: its number by 20 and 21, and where it ends
-
-pub record Other (s : Setting) (w : List ℕ) (r : Bool) : Type 0 where
-  pub is : r ≡ differs s w
 
 pub record ImageFault (s : Setting) (w : List ℕ) (r : ℕ) : Type 0 where
   pub says : r ≡ fault (pageRows s w)

@@ -1,7 +1,6 @@
 // A page of a book: 40, 41, then 20 and 21 for that page alone. Other pages are not looked at.
 use crate::PageFound;
 use crate::contents::accepted;
-use crate::settings::is_other;
 use crate::settings::setting_in;
 use crate::words::pair;
 use crate::words::word;
@@ -20,7 +19,7 @@ pub fn image_fault(setting: Setting, image: &[u16]) -> u8
     if !image::well_formed(image) {
         return 20;
     }
-    if is_other(setting, image) {
+    if setting::differs(setting, image) {
         return 21;
     }
     0

@@ -1,4 +1,4 @@
-// A setting's words in a book's contents, both ways, and whether an image is of a setting. No other file names a setting's fields.
+// A setting's words in a book's contents, both ways. No other file names a setting's fields.
 use crate::words::four;
 use crate::words::word;
 use rules::Limit;
@@ -6,11 +6,9 @@ use rules::Setting;
 ghost use mathlib.Core.Path.{_≡_};
 ghost use Prim.Native.Nat.{_+_, _<_, _≤_};
 ghost use lib.ListN.{length};
-ghost use Rattle.rules.specs.Facts.{Sound};
 ghost use Rattle.rules.specs.Setting.{isSet};
 ghost use Rattle.book.specs.Settings.{amount, limitOf, limitAt, settingIn};
 ghost use Rattle.book.specs.Writing.{Five, Wordy, Fronted};
-ghost use Rattle.book.specs.Read.{Other};
 
 fn limit_of(set: bool, number: u64) -> Limit
     ensures { λ r. ⌜ r ≡ limitOf set number ⌝ }
@@ -44,15 +42,6 @@ pub fn setting_in(contents: &[u16]) -> Setting
         initial_food_count: word(contents, 10) as u64,
         max_ticks: ticks,
     }
-}
-
-// 21: n or g differs from the setting.
-pub(crate) fn is_other(setting: Setting, image: &[u16]) -> bool
-    requires { ⌜ Sound (now image) ⌝ }
-    ensures { λ r. ⌜ Other setting (now (image .entry)) r ⌝ }
-{
-    (image[0] as u64 != setting.num_snakes)
-        | !grid::equal(grid::signed(image[1]), setting.grid_size)
 }
 
 // ---- words written
