@@ -7,8 +7,9 @@ use lib.IntN.{pos}
 use Rattle.lists.specs.Below.{concatBelow}
 use Rattle.rules.specs.declared.Setting.{Setting}
 use Rattle.rules.specs.declared.Limit.the-variants.{Unset, Is}
-use Rattle.book.specs.Settings.{pairWords, limitWords}
-use Rattle.book.specs.Contents.{startsOf, contentsOf, bookOf}
+use Rattle.contents.specs.Settings.{pairWords, limitWords}
+use Rattle.contents.specs.Contents.{startsOf, contentsOf}
+use Rattle.book.specs.Book.{bookOf}
 
 -- 'low one first': 65,538 is 2 and one time 65,536
 pub low-first : pairWords 65538 ≡ 2 ∷ 1 ∷ []

@@ -22,23 +22,28 @@ use Rattle.rules.proofs.Answers.{answer-one}
 use Rattle.rules.proofs.Tables.{table-refuses, table-fault}
 use Rattle.image.specs.Memory.{wordPlace}
 use Rattle.rules.specs.declared.Refusal.{Refusal}
-use Rattle.book.specs.Settings.{settingIn}
-use Rattle.book.specs.Contents.{front, bookOf, pagesIn, pageIn}
-use Rattle.book.specs.Orders.{pageRows, layoutRows, startRows, contentsOrder, findOrder, readOrder, rowOrder, askedOrder, writeOrder}
+use Rattle.contents.specs.Settings.{settingIn}
+use Rattle.contents.specs.Contents.{front, pagesIn}
+use Rattle.book.specs.Book.{bookOf, pageIn}
+use Rattle.contents.specs.Orders.{layoutRows, startRows, contentsOrder, findOrder}
+use Rattle.book.specs.Orders.{pageRows, readOrder, rowOrder, askedOrder, writeOrder}
 use Rattle.book.specs.Rows.{toldLength, rowStart, rowPage}
 use Rattle.book.specs.Bindable.{Bindable, Whole}
-use Rattle.book.specs.Calls.{writeSays, findSays, pageSays, thenRead, saysPage, partAt}
-use Rattle.book.specs.Promises.{Writes, Finds, Pages, Hands}
+use Rattle.contents.specs.Calls.{findSays, saysPage}
+use Rattle.book.specs.Calls.{writeSays, pageSays, thenRead, partAt}
+use Rattle.contents.specs.Promises.{Finds}
+use Rattle.book.specs.Promises.{Writes, Pages, Hands}
 use Rattle.book.specs.Read.{ImageFault}
-use Rattle.book.specs.Writing.{Wordy}
-use Rattle.book.specs.declared.PageFound.{PageFound}
-use Rattle.book.specs.declared.PageFound.the-variants.{Part, Refused}
+use Rattle.contents.specs.Written.{Wordy}
+use Rattle.contents.specs.declared.PageFound.{PageFound}
+use Rattle.contents.specs.declared.PageFound.the-variants.{Part, Refused}
 use Rattle.book.proofs.Separate as separate
 use Rattle.book.proofs.Binding as binding
-use Rattle.book.proofs.Booked.{setting-wordy}
+use Rattle.contents.proofs.Laying.{setting-wordy}
+use Rattle.contents.proofs.Alone as alone
 use Rattle.book.proofs.Bound.{bound-pages, bound-setting, bound-page, bound-rest}
 use Rattle.book.proofs.OneForm as form
-use Rattle.book.proofs.Finding.{accepted}
+use Rattle.contents.proofs.Finding.{accepted}
 use Rattle.book.proofs.Paging.{page-says, page-words}
 use Rattle.book.proofs.RowLaws.{pages-all, pages-long}
 
@@ -140,7 +145,7 @@ page-alone = separate.page-alone
 module _ (b : List ℕ) (k : ℕ) (h : front (pagesIn b) ≤ k) (i : ℕ) where
   -- of the first k words of a book, the contents among them, and the book's length `find` says what 40 and 41 of the whole book say, and where the page lies
   pub find-alone : findSays (take k b) (length b) i ≡ findSays b (length b) i
-  find-alone = separate.front-finds b k h i
+  find-alone = alone.front-finds b k h i
 
   -- so reading is finding, and then 20 and 21 of the part that was found
   pub find-then-read : pageSays b i ≡ thenRead b (findSays (take k b) (length b) i)
@@ -155,7 +160,7 @@ module _ (b : List ℕ) (k : ℕ) (h : front (pagesIn b) ≤ k) (i : ℕ) where
       → pageSays b i ≡ first n (gives (record { start = start; len = size }))
   unfolding all
   find-reads start size f n g =
-      let z : n ≡ fault (pageRows (settingIn b) (take size (drop start b))) = rw (separate.front-setting b k h) at (g .says) in
+      let z : n ≡ fault (pageRows (settingIn b) (take size (drop start b))) = rw (alone.front-setting b k h) at (g .says) in
       find-then-read
       ∙ ap (thenRead b) (sym (f .answer))
       ∙ rw z (table-fault (pageRows (settingIn b) (take size (drop start b))) (gives (record { start = start; len = size })) refl)

@@ -1,13 +1,14 @@
 // The writer: one pass of checks over the row, then 29, then one copy.
 use crate::rows::row_fault;
 use crate::rows::told;
-use crate::settings::write_front;
+use contents::write_front;
 use rules::Answer;
 use rules::Setting;
 use rules::Verdict;
 ghost use Prim.Native.Nat.{_+_, _*_, _<_, _≤_};
 ghost use lib.ListN.{length};
-ghost use Rattle.book.specs.Writing.{SettingNumber, Asked, Wordy, RowFits, PairWritten, StartsTo, ContentsWritten};
+ghost use Rattle.book.specs.Writing.{SettingNumber, Asked, RowFits, PairWritten, StartsTo, ContentsWritten};
+ghost use Rattle.contents.specs.Written.{Wordy};
 ghost use Rattle.book.specs.Promises.{Writes};
 
 // ---- the refusals but 29, or 0

@@ -1,0 +1,6 @@
+pub mod Told
+pub mod Fitting
+pub mod Finding
+pub mod Laying
+pub mod Clear
+pub mod Alone

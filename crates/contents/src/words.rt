@@ -1,0 +1,27 @@
+// A book's numbers: one word, two or four of them, low one first.
+ghost use mathlib.Core.Path.{_≡_};
+ghost use Prim.Native.Nat.{_+_, _<_};
+ghost use lib.ListN.{length};
+ghost use Rattle.contents.specs.Settings.{fourAt};
+ghost use Rattle.contents.specs.Read.{Word, Pair};
+
+pub fn word(book: &[u16], k: usize) -> usize
+    requires { ⌜ k < length (now book) ⌝ }
+    ensures { λ r. ⌜ Word (now (book .entry)) k r ⌝ }
+{
+    book[k] as usize
+}
+
+pub(crate) fn pair(book: &[u16], k: usize) -> usize
+    requires { ⌜ 1 + k < length (now book) ⌝ }
+    ensures { λ r. ⌜ Pair (now (book .entry)) k r ⌝ }
+{
+    word(book, k) + 65536 * word(book, 1 + k)
+}
+
+pub(crate) fn four(book: &[u16], k: usize) -> u64
+    requires { ⌜ 3 + k < length (now book) ⌝ }
+    ensures { λ r. ⌜ r ≡ fourAt (now (book .entry)) k ⌝ }
+{
+    pair(book, k) as u64 + 4294967296 * (pair(book, 2 + k) as u64)
+}
