@@ -8,4 +8,5 @@ pub mod Binding
 pub mod OneForm
 pub mod Separate
 pub mod Theorems
+pub mod Answers
 pub mod Sample

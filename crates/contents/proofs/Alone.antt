@@ -16,12 +16,12 @@ use Rattle.rules.specs.Image.{word}
 use Rattle.rules.specs.Says.{Says, gives, byTable}
 use Rattle.rules.specs.Setting.{settingCheck}
 use Rattle.rules.specs.declared.Setting.{Setting}
-use Rattle.rules.proofs.Tables.{table-both}
 use Rattle.rules.specs.declared.Refusal.{Refusal}
 use Rattle.contents.specs.Settings.{limitAt, limitOff, settingIn}
 use Rattle.contents.specs.Contents.{front, pagesIn, startIn, endIn}
-use Rattle.contents.specs.Orders.{layoutRows, startRows, contentsOrder, rises, outside, findOrder}
+use Rattle.contents.specs.Orders.{layoutRows, startRows, contentsOrder, rises, outside}
 use Rattle.contents.specs.Calls.{Span, spanIn, findSays}
+use Rattle.contents.proofs.Finding.{find-parts}
 
 row-cons : {k : Refusal} {t u : Bool} {x y : Table} → t ≡ u → x ≡ y → (k, t) ∷ x ≡ (k, u) ∷ y
 row-cons {k} e q = ap₂ (λ (t : Bool) (x : Table). (k, t) ∷ x) e q
@@ -95,11 +95,7 @@ module _ (b c : List ℕ) (n : ℕ) (short : ltb (length b) 17 ≡ ltb (length c
     last-same r q e = rw (← count) (elim (ordered i p) [ less l t ↦ rw (e l) | more l t ↦ rw t ])
 
     pub find-same : findSays b n i ≡ findSays c n i
-    unfolding findSays findOrder
-    find-same =
-        table-both (contentsOrder b n) _ (gives (spanIn b n i))
-        ∙ ap₂ (λ (t : Table) (r : Says Span). byTable t r) contents-same (last-same _ _ span-same)
-        ∙ sym (table-both (contentsOrder c n) _ (gives (spanIn c n i)))
+    find-same = find-parts b n i ∙ ap₂ (λ (t : Table) (r : Says Span). byTable t r) contents-same (last-same _ _ span-same) ∙ sym (find-parts c n i)
 
 -- the first k words of a book, the contents among them
 module _ (b : List ℕ) (k : ℕ) (h : front (pagesIn b) ≤ k) where

@@ -4,7 +4,7 @@ use native.Mathlib.Omega.{arith}
 use mathlib.Core.Path.{_≡_, refl, sym, ap, _∙_}
 use mathlib.Core.Bool.{Bool, true, false, not, _&&_, true≢false, false≢true}
 use Rattle.lists.specs.Choice.{_if_else_}
-use mathlib.Core.List.{List, [], _∷_, _++_}
+use mathlib.Core.List.{List, [], _∷_}
 use lib.Dec.{ltb, eqb}
 use lib.ListN.{length, getD}
 use borrow.Author.Tests.{eqb-true, eq-eqb, lt-ltb, le-ltb, ltb-true, ltb-false, leb-false, not-true, not-false}
@@ -96,24 +96,28 @@ module _ (c : List ℕ) (n : ℕ) (a : Accepted c n) (i : ℕ) (h : i < pagesIn 
 -- ---- what is said
 
 -- a table of one number refuses by it
-by-one : {A : Type 0} (k : ℕ) (t u : Table) (r : Says A) → all (λ (e : Refusal × Bool). eqb (e .0 .number) k) t ≡ true → noneHold t ≡ false → byTable (t ++ u) r ≡ refuses (by k)
+by-one : {A : Type 0} (k : ℕ) (t : Table) (r : Says A) → all (λ (e : Refusal × Bool). eqb (e .0 .number) k) t ≡ true → noneHold t ≡ false → byTable t r ≡ refuses (by k)
 unfolding byTable all
-by-one k [] u r n h = absurd (true≢false h)
-by-one k (e ∷ es) u r n h = go (e .0) (e .1) (eqb-true (e .0 .number) k (and-left _ _ n)) (λ q. by-one k es u r (and-right (eqb (e .0 .number) k) _ n) q) h
+by-one k [] r n h = absurd (true≢false h)
+by-one k (e ∷ es) r n h = go (e .0) (e .1) (eqb-true (e .0 .number) k (and-left _ _ n)) (λ q. by-one k es r (and-right (eqb (e .0 .number) k) _ n) q) h
   where
-    go : (m : Refusal) (t : Bool) → m .number ≡ k → (noneHold es ≡ false → byTable (es ++ u) r ≡ refuses (by k)) → (not t && noneHold es) ≡ false → (refuses m if t else byTable (es ++ u) r) ≡ refuses (by k)
+    go : (m : Refusal) (t : Bool) → m .number ≡ k → (noneHold es ≡ false → byTable es r ≡ refuses (by k)) → (not t && noneHold es) ≡ false → (refuses m if t else byTable es r) ≡ refuses (by k)
     go m true z f q = ap (λ (n : ℕ). refuses (by n)) z
     go m false z f q = f q
 
 module _ (c : List ℕ) (n i : ℕ) where
+  -- 40, then 41
+  pub find-parts : findSays c n i ≡ byTable (contentsOrder c n) (byTable ((by 41, not (ltb i (pagesIn c))) ∷ []) (gives (spanIn c n i)))
+  unfolding findSays findOrder
+  find-parts = table-both (contentsOrder c n) _ (gives (spanIn c n i))
+
   pub find-40 : (t : Bool) → ContentsFit c n t → not t ≡ true → (k : Refusal) → k ≡ by 40 → Finds c n i (Refused k)
-  unfolding findSays findOrder contentsOrder layoutRows startRows all
-  find-40 t q h k e = record { answer = ap refuses e ∙ sym (by-one 40 (contentsOrder c n) _ _ refl (sym (q .fits) ∙ not-true t h)) }
+  unfolding contentsOrder layoutRows startRows all
+  find-40 t q h k e = record { answer = ap refuses e ∙ sym (find-parts ∙ by-one 40 (contentsOrder c n) _ refl (sym (q .fits) ∙ not-true t h)) }
 
   module _ (a : Accepted c n) where
     past-40 : findSays c n i ≡ byTable ((by 41, not (ltb i (pagesIn c))) ∷ []) (gives (spanIn c n i))
-    unfolding findSays findOrder
-    past-40 = table-both (contentsOrder c n) _ (gives (spanIn c n i)) ∙ table-gives (contentsOrder c n) _ (a .passed)
+    past-40 = find-parts ∙ table-gives (contentsOrder c n) _ (a .passed)
 
     pub find-41 : (p : ℕ) → Word c 16 p → p ≤ i → (k : Refusal) → k ≡ by 41 → Finds c n i (Refused k)
     unfolding byTable

@@ -4,3 +4,4 @@ pub mod Finding
 pub mod Laying
 pub mod Clear
 pub mod Alone
+pub mod Answers
