@@ -38,7 +38,7 @@ fn refusal(setting: Setting, pages: u64, row: &[u16]) -> u8
 
 // ---- the words
 
-fn write_pair(out: &mut [u16], k: usize, n: usize)
+pub fn write_pair(out: &mut [u16], k: usize, n: usize)
     requires { ⌜ (k + 2 ≤ length (now out)) × (n < 4294967296) ⌝ }
     ensures { λ _. ⌜ PairWritten k n (now (out .entry)) (now (out .exit)) ⌝ }
 {

@@ -8,6 +8,7 @@ pub use places::find;
 use rules::Refusal;
 pub use settings::setting_in;
 pub use settings::write_front;
+pub use words::pair;
 pub use words::word;
 
 // Where a page lies in its book, in words.

@@ -12,7 +12,7 @@ pub fn word(book: &[u16], k: usize) -> usize
     book[k] as usize
 }
 
-pub(crate) fn pair(book: &[u16], k: usize) -> usize
+pub fn pair(book: &[u16], k: usize) -> usize
     requires { ⌜ 1 + k < length (now book) ⌝ }
     ensures { λ r. ⌜ Pair (now (book .entry)) k r ⌝ }
 {
