@@ -72,6 +72,8 @@ pub use Rattle.book.proofs.Theorems.{written-setting, written-pages, written-ro
 -- Request 1: a book has one form only; two settings, page counts or rows never share a book
 pub use Rattle.book.specs.Bindable.{Whole}
 pub use Rattle.book.proofs.Theorems.{whole-form, whole-written, read-whole, one-book}
+-- Request 1: a small book, word by word, and a setting whose fields have a number each
+pub use Rattle.book.proofs.Sample.{low-first, lowest-first, all-zero, in-order, sample-contents, sample-book}
 -- Request 1: at a place of a row at most one part is an image; an accepted setting's numbers fit their words
 pub use Rattle.book.proofs.Binding.{one-image}
 pub use Rattle.contents.proofs.Laying.{setting-wordy}
