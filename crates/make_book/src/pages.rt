@@ -69,7 +69,7 @@ fn refused(t: Tally) -> Tally
     stop(t, Fault::RefusedLine)
 }
 
-// What the stream's last step brought: a page where it printed a state.
+// What the stream's last step brought: a page where it has a state to print.
 pub(crate) fn see(
     t: Tally,
     r: Progress,

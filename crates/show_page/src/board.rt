@@ -1,5 +1,6 @@
 // The board, a character a cell and a line a row. Where a cell holds several, the living's heads stand over their bodies, these over corpses, these over
 // food; of two snakes the one with the lower number is seen.
+use crate::pages::food_of;
 use layout::alive_at;
 use libc::STDOUT_FILENO;
 use lists::word_at;
@@ -74,14 +75,6 @@ fn mark_layer(board: &mut [u8], image: &[u16], layer: Layer) {
     }
 }
 
-// The food is an image's last words.
-fn mark_food(board: &mut [u8], image: &[u16]) {
-    let k = word_at(image, 4) as usize;
-    if k <= image.len() {
-        mark_all(board, &image[image.len() - k..], b'*');
-    }
-}
-
 fn put_row(board: &[u8], at: usize, g: usize) -> bool
     requires { ⌜ at + g ≤ length (now board) ⌝ }
 {
@@ -106,7 +99,7 @@ fn put_rows(board: &[u8], g: usize) -> bool
 
 pub(crate) fn put_board(image: &[u16]) -> bool {
     let mut board = [b'.'; 1024];
-    mark_food(&mut board, image);
+    mark_all(&mut board, food_of(image), b'*');
     mark_layer(&mut board, image, Layer::Corpses);
     mark_layer(&mut board, image, Layer::Bodies);
     mark_layer(&mut board, image, Layer::Heads);

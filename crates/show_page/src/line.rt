@@ -1,20 +1,20 @@
 // The line that the replay prints for a page's state. A book holds no events: they are those of the move that leads from the page before to this one.
+use crate::entry::put_entry;
 use crate::moves::moves_to;
 use crate::pages::load;
 use events::no_events;
-use layout::heading_at;
 use libc::STDOUT_FILENO;
 use lists::word_at;
-use printing::put;
 use referee::Desk;
+use rules::Answer;
 use rules::Setting;
 use standing::Match;
-ghost use Prim.Native.Nat.{_+_, _*_, _≤_};
+ghost use Prim.Native.Nat.{_≤_};
 ghost use lib.ListN.{length};
 
-// Whether a move, a draw or the start made the page, and whether the line could be written.
-pub struct State {
-    pub told: bool,
+// Whether it is known what leads to the page, and whether the line could be written.
+pub struct Shown {
+    pub known: bool,
     pub heard: bool,
 }
 
@@ -33,52 +33,15 @@ fn put_still(letter: u8, image: &[u16]) -> bool {
     print(&out, k)
 }
 
-fn put_known(letter: u8, image: &[u16]) -> State {
-    State {
-        told: true,
-        heard: put_still(letter, image),
-    }
-}
-
-// `s`: the page before does not lead here.
-fn put_unknown(image: &[u16]) -> State {
-    State {
-        told: false,
+// `s`, a state: the page is not the start, and the page before does not lead here.
+fn put_unknown(image: &[u16]) -> Shown {
+    Shown {
+        known: false,
         heard: put_still(b's', image),
     }
 }
 
-// ---- a move
-
-// The action that turns a heading into another; 3, which is none, for the way back.
-fn action_of(old: u64, new: u64) -> u8 {
-    if new == old {
-        return b'0';
-    }
-    if new % 4 == (old % 4 + 3) % 4 {
-        return b'1';
-    }
-    if new % 4 == (old % 4 + 1) % 4 {
-        return b'2';
-    }
-    b'3'
-}
-
-// The line of the match, by the headings before and after the move of n snakes.
-fn put_actions(line: &mut [u8], past: &[u16], image: &[u16], n: usize) -> usize
-    requires { ⌜ (n ≤ 8) × (17 ≤ length (now line)) ⌝ }
-    ensures { λ r. ⌜ r ≤ 17 ⌝ }
-{
-    let mut at = put(line, 0, b'm');
-    let mut i = 0;
-    while i < n {
-        let k = heading_at(i);
-        let j = put(line, at, b' ');
-        at = put(line, j, action_of(word_at(past, k), word_at(image, k)));
-        i += 1;
-    }
-    at
-}
+// ---- what leads to the page: the start, or a line of the match after the page before
 
 fn are_same(a: &[u16], b: &[u16]) -> bool {
     if a.len() != b.len() {
@@ -93,16 +56,33 @@ fn are_same(a: &[u16], b: &[u16]) -> bool {
     same
 }
 
-// The page before, `len` words at the front of `past`, after that line: its image takes its place.
-fn put_move(setting: Setting, moves: u64, past: &mut [u16], len: usize, image: &[u16]) -> State
+fn put_start(setting: Setting, image: &[u16]) -> Shown {
+    let mut start = [0u16; 9253];
+    let answer = arena::initial_state(setting, &mut start);
+    let Answer::Done(words) = answer else {
+        return put_unknown(image);
+    };
+    if 9253 < words {
+        return put_unknown(image);
+    }
+    if !are_same(&start[0..words], image) {
+        return put_unknown(image);
+    }
+    Shown {
+        known: true,
+        heard: put_still(b'i', image),
+    }
+}
+
+// A move is shown as the replay shows it, with its events.
+fn put_turn(setting: Setting, moves: u64, past: &mut [u16], len: usize, image: &[u16]) -> Shown
     requires { ⌜ (len ≤ length (now past)) × (9253 ≤ length (now past)) ⌝ }
 {
     let mut line = [0u8; 32];
     let mut next = [0u16; 9253];
     let mut list = [0u16; 1024];
     let mut out = [0u8; 512];
-    let n = lists::smaller(word_at(image, 0) as usize, 8);
-    let k = put_actions(&mut line, past, image, n);
+    let k = put_entry(&mut line, &past[0..len], image);
     let game = Match {
         setting,
         moves,
@@ -122,27 +102,31 @@ fn put_move(setting: Setting, moves: u64, past: &mut [u16], len: usize, image: &
     if !are_same(&past[0..made], image) {
         return put_unknown(image);
     }
-    State {
-        told: true,
+    Shown {
+        known: true,
         heard: print(&out, t.text),
     }
 }
 
-// After the page before, which stands in `past`.
-fn put_after(contents: &[u16], page: u64, past: &mut [u16], len: usize, image: &[u16]) -> State
-    requires { ⌜ (len ≤ length (now past)) × (9253 ≤ length (now past)) ⌝ }
-{
-    if word_at(past, 2) != 0 {
-        return put_known(b'd', image);
-    }
-    if contents.len() < 17 {
+// After the page before.
+fn put_next(
+    contents: &[u16],
+    words: usize,
+    page: u64,
+    setting: Setting,
+    image: &[u16],
+    bytes: &mut [u8],
+) -> Shown {
+    let mut past = [0u16; 9253];
+    let before = load(contents, words, page, &mut past, bytes);
+    if !before.read || before.number != 0 {
         return put_unknown(image);
     }
-    put_move(
-        contents::setting_in(contents),
+    put_turn(
+        setting,
         moves_to(contents, page),
-        past,
-        len,
+        &mut past,
+        before.len,
         image,
     )
 }
@@ -153,14 +137,13 @@ pub(crate) fn put_state(
     page: u64,
     image: &[u16],
     bytes: &mut [u8],
-) -> State {
-    if page == 0 {
-        return put_known(b'i', image);
-    }
-    let mut past = [0u16; 9253];
-    let before = load(contents, words, page - 1, &mut past, bytes);
-    if !before.read || before.number != 0 {
+) -> Shown {
+    if contents.len() < 17 {
         return put_unknown(image);
     }
-    put_after(contents, page - 1, &mut past, before.len, image)
+    let setting = contents::setting_in(contents);
+    if page == 0 {
+        return put_start(setting, image);
+    }
+    put_next(contents, words, page - 1, setting, image, bytes)
 }

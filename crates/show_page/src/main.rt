@@ -1,6 +1,7 @@
 // A page of a match book, as a person reads it. The first argument is the page's number, standard input the book, a file. What is wrong is said on
 // standard error, in one line.
 mod board;
+mod entry;
 mod file;
 mod line;
 mod messages;
@@ -12,7 +13,7 @@ use file::Size;
 use file::file_size;
 use file::read_words;
 use line::put_state;
-use messages::put_place;
+use messages::put_foot;
 use messages::tell;
 use messages::tell_refused;
 use pages::load;
@@ -46,8 +47,8 @@ fn asked() -> Num {
 fn put_page(contents: &[u16], words: usize, page: u64, image: &[u16], bytes: &mut [u8]) -> Fault {
     let state = put_state(contents, words, page, image, bytes);
     let board = put_board(image);
-    let place = put_place(contents, page, state);
-    if state.heard & board & place {
+    let foot = put_foot(contents, page, state);
+    if state.heard & board & foot {
         return Fault::NoFault;
     }
     Fault::NotWritten
@@ -55,16 +56,16 @@ fn put_page(contents: &[u16], words: usize, page: u64, image: &[u16], bytes: &mu
 
 fn show_in(contents: &[u16], words: usize, page: u64, bytes: &mut [u8]) -> Fault {
     let mut image = [0u16; 9253];
-    let page_read = load(contents, words, page, &mut image, bytes);
-    if !page_read.read {
+    let loaded = load(contents, words, page, &mut image, bytes);
+    if !loaded.read {
         return Fault::NotRead;
     }
-    let number = page_read.number;
+    let number = loaded.number;
     if number != 0 {
         tell_refused(number, page, contents);
         return Fault::Refused;
     }
-    let len = page_read.len;
+    let len = loaded.len;
     put_page(contents, words, page, &image[0..len], bytes)
 }
 

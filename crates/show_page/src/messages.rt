@@ -1,6 +1,6 @@
 // The words below the board, and what is wrong, in one line on standard error. A refusal's line begins with `r` and its number.
 use crate::Fault;
-use crate::line::State;
+use crate::line::Shown;
 use crate::moves::moves_to;
 use libc::STDERR_FILENO;
 use libc::STDOUT_FILENO;
@@ -16,30 +16,40 @@ fn last_of(pages: u64) -> u64 {
 
 // ---- on standard output
 
-fn put(text: &[u8]) -> bool {
+fn write(text: &[u8]) -> bool {
     io::write_all(STDOUT_FILENO, text)
 }
 
 fn put_moves(moves: u64) -> bool {
     if moves == 0 {
-        return put(b", before the first move\n");
+        return write(b", before the first move\n");
     }
-    put(b", after move ") & io::print_decimal(STDOUT_FILENO, moves) & put(b"\n")
+    write(b", after move ") & io::print_decimal(STDOUT_FILENO, moves) & write(b"\n")
 }
 
 fn put_number(page: u64, pages: u64) -> bool {
-    put(b"page ")
+    write(b"page ")
         & io::print_decimal(STDOUT_FILENO, page)
-        & put(b" of 0 to ")
+        & write(b" of 0 to ")
         & io::print_decimal(STDOUT_FILENO, last_of(pages))
 }
 
-pub(crate) fn put_place(contents: &[u16], page: u64, state: State) -> bool {
+fn put_place(contents: &[u16], page: u64, state: Shown) -> bool {
     let number = put_number(page, word_at(contents, 16));
-    if state.told {
+    if state.known {
         return number & put_moves(moves_to(contents, page));
     }
-    number & put(b", no move or draw from the page before\n")
+    number & write(b", which no line of a match leads to\n")
+}
+
+fn put_legend() -> bool {
+    write(b"A to H: heads, a to h: bodies of the living; 0 to 7: corpses; *: food; .: free\n")
+}
+
+// Below the board.
+pub(crate) fn put_foot(contents: &[u16], page: u64, state: Shown) -> bool {
+    let place = put_place(contents, page, state);
+    place & put_legend()
 }
 
 // ---- on standard error
@@ -57,7 +67,13 @@ fn say_pages(pages: u64) {
         say(b"r 41: the book has no page\n");
         return;
     }
-    say(b"r 41: the book has the pages 0 to ");
+    if pages == 1 {
+        say(b"r 41: the book has page 0 alone\n");
+        return;
+    }
+    say(b"r 41: the book has ");
+    say_number(pages);
+    say(b" pages, 0 to ");
     say_number(last_of(pages));
     say(b"\n");
 }

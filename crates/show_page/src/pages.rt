@@ -1,6 +1,7 @@
 // A page of the book, found by its contents and read from the file.
 use crate::file::read_words;
 use contents::PageFound;
+use lists::word_at;
 ghost use mathlib.Core.Path.{_≡_};
 ghost use Prim.Native.Nat.{_≤_};
 ghost use lib.ListN.{length};
@@ -70,4 +71,13 @@ pub(crate) fn load(
         number: 0,
         len,
     }
+}
+
+// The food is an image's last words.
+pub(crate) fn food_of(image: &[u16]) -> &[u16] {
+    let k = word_at(image, 4) as usize;
+    if image.len() < k {
+        return &image[0..0];
+    }
+    &image[image.len() - k..]
 }
