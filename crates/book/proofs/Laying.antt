@@ -1,8 +1,8 @@
 -- How the starts are written, one after the other. Assumes nothing.
-use Prim.Native.Nat.{ℕ, _+_, _*_, _-_, _/_, _%_, _<_, _≤_}
+use Prim.Native.Nat.{ℕ, _+_, _*_, _-_, _<_, _≤_}
 use native.Mathlib.Omega.{arith}
 use mathlib.Core.Path.{_≡_, refl, sym, ap, _∙_}
-use mathlib.Core.List.{List, [], _∷_}
+use mathlib.Core.List.{List}
 use lib.ListN.{length, take, drop}
 use Rattle.lists.specs.Below.{concatBelow}
 use Rattle.lists.specs.Lists.{writeAt}
@@ -12,7 +12,8 @@ use Rattle.lists.proofs.Writes.{length-write, turn-start, turn-next}
 use Rattle.contents.specs.Settings.{pairWords}
 use Rattle.contents.specs.Contents.{startOf}
 use Rattle.book.specs.Rows.{toldLength, rowStart, rowPage}
-use Rattle.book.specs.Writing.{Told, RowFits, PairWritten, StartsTo}
+use Rattle.book.specs.Writing.{Told, RowFits, StartsTo}
+use Rattle.contents.specs.Written.{PairWritten}
 use Rattle.book.proofs.RowLaws.{start-next, pages-long}
 
 -- ---- the starts
@@ -49,6 +50,3 @@ module _ (p : ℕ) (row old : List ℕ) (f : RowFits p row) (room : 17 + 2 * p �
       let e : i ≡ p = omega (arith, q .here) in
       let z : at ≡ length row = q .start ∙ ap (rowStart row) e ∙ f .all in
       rw (e, z) at q
-
-pub pair-is : (k n : ℕ) (old new : List ℕ) → new ≡ writeAt old k (n % 65536 ∷ n / 65536 ∷ []) → PairWritten k n old new
-pair-is k n old new e = record { words = e }

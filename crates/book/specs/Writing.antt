@@ -56,9 +56,6 @@ pub record RowFits (p : ℕ) (row : List ℕ) : Type 0 where
   pub all : rowStart row p ≡ length row
   pub some : length row ≤ 9253 * p
 
-pub record PairWritten (k n : ℕ) (old new : List ℕ) : Type 0 where
-  pub words : new ≡ writeAt old k (pairWords n)
-
 -- the first i starts are written, and the next image stands at `at` in the row
 pub record StartsTo (p : ℕ) (row old : List ℕ) (i at : ℕ) (new : List ℕ) : Type 0 where
   pub here : i ≤ p

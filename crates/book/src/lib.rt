@@ -13,7 +13,6 @@ pub use pages::page_of;
 use turning::page_after;
 use turning::page_before;
 pub use writer::write;
-pub use writer::write_pair;
 ghost use mathlib.Core.Path.{_≡_};
 ghost use Rattle.book.specs.Promises.{Pages, Hands};
 ghost use Rattle.book.specs.Turning.{pageAfter, pageBefore};

@@ -1,6 +1,5 @@
 -- The tests of a book's contents, row by row of the table of 40. Assumes nothing.
 use Prim.Native.Nat.{ℕ, zero, suc, _+_, _*_, _-_, _<_, _≤_}
-use native.Mathlib.Nat.{suc-ne-zero}
 use native.Mathlib.Omega.{arith}
 use mathlib.Core.Path.{_≡_, refl, sym, ap, _∙_}
 use mathlib.Core.Bool.{Bool, true, false, not, _&&_, _||_}
@@ -15,14 +14,12 @@ use Rattle.lists.proofs.Tests.{ordered, less, more}
 use Rattle.lists.proofs.Below.{all-none, all-next, all-at, some-found, some-false}
 use Rattle.lists.proofs.Lists.{all-append}
 use Rattle.rules.specs.Image.{word}
-use Rattle.rules.specs.Setting.{settingCheck}
-use Rattle.rules.specs.Says.{Says, saysVerdict, first, gives, refuses}
 use Rattle.rules.specs.Promises.{Validates}
 use Rattle.rules.specs.declared.Setting.{Setting}
 use Rattle.rules.specs.declared.Verdict.{Verdict}
 use Rattle.rules.specs.declared.Verdict.the-variants.{Accepted, Refused}
-use Rattle.rules.proofs.Tables.{setting-says}
 use Rattle.rules.specs.declared.Refusal.{Refusal}
+use Rattle.contents.proofs.Verdicts.{accepted-check, refused-not}
 use Rattle.contents.specs.Settings.{fourAt, limitOff, settingIn}
 use Rattle.contents.specs.Contents.{front, pagesIn, startIn}
 use Rattle.contents.specs.Orders.{layoutRows, rises, outside, startRows, contentsOrder}
@@ -52,26 +49,12 @@ twice-not false = refl
 pub limit-off-is : (b : List ℕ) (k flag n : ℕ) → Word b k flag → n ≡ fourAt b (1 + k) → OffLimit b k (ltb 1 flag || (eqb flag 0 && not (eqb n 0)))
 limit-off-is b k flag n w e = record { off = rw (w .value, e) }
 
-abbrev accept : Says (Unit {0})
-accept = gives tt
-
-taken-zero : (k : ℕ) → accept ≡ first k accept → true ≡ eqb k 0
-taken-zero zero r = refl
-taken-zero (suc k) r = let z : _≡_ {A = ℕ} 0 1 = cc in absurd (omega arith)
-
-refused-some : (n : Refusal) (k : ℕ) → refuses n ≡ first k accept → false ≡ eqb k 0
-refused-some n zero r = let z : _≡_ {A = ℕ} 0 1 = cc in absurd (omega arith)
-refused-some n (suc k) r = sym (ne-eqb (suc k) 0 (suc-ne-zero k))
-
 module _ (b : List ℕ) (s : Setting) (v : Verdict) (e : s ≡ settingIn b) (q : Validates s v) where
-  check-says : saysVerdict v ≡ first (settingCheck (settingIn b)) accept
-  check-says = rw e at (q .answer ∙ setting-says s)
-
   pub setting-taken : v ≡ Accepted → SettingFits b true
-  setting-taken h = record { fits = taken-zero (settingCheck (settingIn b)) (sym (ap saysVerdict h) ∙ check-says) }
+  setting-taken h = record { fits = sym (eq-eqb _ 0 (rw e at (accepted-check s v q h))) }
 
   pub setting-refused : (n : Refusal) → v ≡ Refused n → SettingFits b false
-  setting-refused n h = record { fits = refused-some n (settingCheck (settingIn b)) (sym (ap saysVerdict h) ∙ check-says) }
+  setting-refused n h = record { fits = sym (ne-eqb _ 0 (rw e at (refused-not s v q n h))) }
 
 module _ (b : List ℕ) where
   pub layout-first : (n : ℕ) → Word b 0 n → (n ≡ 1 → ⊥) → LayoutFits b false

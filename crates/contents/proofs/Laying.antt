@@ -1,4 +1,4 @@
--- How the first 17 words of the contents are written, and that an accepted setting's numbers fit them. Assumes nothing.
+-- How the words of the contents are written, and that an accepted setting's numbers fit theirs. Assumes nothing.
 use Prim.Native.Nat.{ℕ, _/_, _%_, _<_, _≤_}
 use native.Mathlib.Omega.{arith}
 use mathlib.Core.Path.{_≡_, _∙_}
@@ -10,13 +10,19 @@ use Rattle.lists.specs.Choice.{bit}
 use Rattle.lists.specs.Lists.{writeAt}
 use Rattle.rules.specs.Setting.{isSet, areaOf, sideOf, settingCheck}
 use Rattle.rules.specs.SettingFacts.{Accepts}
+use Rattle.rules.specs.Promises.{Validates}
 use Rattle.rules.specs.declared.Limit.{Limit}
 use Rattle.rules.specs.declared.Setting.{Setting}
+use Rattle.rules.specs.declared.Verdict.{Verdict}
+use Rattle.rules.specs.declared.Verdict.the-variants.{Accepted}
 use Rattle.rules.proofs.Facts.{square-le}
 use Rattle.rules.proofs.SettingFacts.{accepts}
 use Rattle.grid.specs.Near.{Plain}
+use Rattle.contents.proofs.Verdicts.{accepted-check}
 use Rattle.contents.specs.Settings.{amount}
-use Rattle.contents.specs.Written.{Five, Wordy, Fronted}
+use Rattle.contents.specs.Written.{Five, Wordy, Fronted, PairWritten}
+
+-- ---- the first 17 words
 
 pub five-is : (l : Limit) (t : Bool) (set k : ℕ) → t ≡ isSet l → set ≡ bit t → k ≡ amount l
     → Five l (set ∷ k % 4294967296 % 65536 ∷ k % 4294967296 / 65536 ∷ k / 4294967296 % 65536 ∷ k / 4294967296 / 65536 ∷ [])
@@ -48,6 +54,11 @@ module _ (s : Setting) (w : Wordy s) (lead ticks : List ℕ) (five : Five (s .«
       ∷ []) → Fronted s p old new
   front-is z y e = record { words = rw (z ∙ w .side, y, five .words, five′ .words) at e }
 
+-- ---- two words
+
+pub pair-is : (k n : ℕ) (old new : List ℕ) → new ≡ writeAt old k (n % 65536 ∷ n / 65536 ∷ []) → PairWritten k n old new
+pair-is k n old new e = record { words = e }
+
 -- ---- an accepted setting's numbers fit their words
 
 module _ (s : Setting) (e : settingCheck s ≡ 0) where
@@ -71,3 +82,6 @@ module _ (s : Setting) (e : settingCheck s ≡ 0) where
     long = omega (arith, facts .size-max, area-small);
     fed = omega (arith, facts .food-free, area-small);
   }
+
+pub accepted-wordy : (s : Setting) (v : Verdict) → Validates s v → v ≡ Accepted → Wordy s
+accepted-wordy s v q h = setting-wordy s (accepted-check s v q h)

@@ -1,4 +1,5 @@
 pub mod Told
+pub mod Verdicts
 pub mod Fitting
 pub mod Finding
 pub mod Laying

@@ -1,4 +1,4 @@
--- What the functions that write a setting's words ensure and require. Assumes nothing.
+-- What the functions that write a setting's words, and a number's, ensure and require. Assumes nothing.
 use Prim.Native.Nat.{ℕ, _<_}
 use mathlib.Core.Path.{_≡_}
 use mathlib.Core.List.{List, [], _∷_, _++_}
@@ -8,7 +8,7 @@ use Rattle.rules.specs.Setting.{sideOf}
 use Rattle.rules.specs.declared.Limit.{Limit}
 use Rattle.rules.specs.declared.Setting.{Setting}
 use Rattle.grid.specs.Near.{Plain}
-use Rattle.contents.specs.Settings.{limitWords, settingWords}
+use Rattle.contents.specs.Settings.{pairWords, limitWords, settingWords}
 
 -- a limit's five words
 pub record Five (l : Limit) (r : List ℕ) : Type 0 where
@@ -25,3 +25,7 @@ pub record Wordy (s : Setting) : Type 0 where
 -- the first 17 words of the contents
 pub record Fronted (s : Setting) (p : ℕ) (old new : List ℕ) : Type 0 where
   pub words : new ≡ writeAt old 0 (1 ∷ (settingWords s ++ (p ∷ [])))
+
+-- a number in two words, low one first
+pub record PairWritten (k n : ℕ) (old new : List ℕ) : Type 0 where
+  pub words : new ≡ writeAt old k (pairWords n)

@@ -10,6 +10,7 @@ pub use settings::setting_in;
 pub use settings::write_front;
 pub use words::pair;
 pub use words::word;
+pub use words::write_pair;
 
 // Where a page lies in its book, in words.
 pub enum PageFound {

@@ -13,7 +13,7 @@ fn write_starts(lengths: &[u16; 65535], p: usize, contents: &mut [u16])
     let mut at = 17 + 2 * p;
     let mut i = 0;
     while i < p {
-        book::write_pair(contents, 17 + 2 * i, at);
+        contents::write_pair(contents, 17 + 2 * i, at);
         at += wide(lengths[i]);
         i += 1;
     }

@@ -1,7 +1,7 @@
 -- `make_book::table::put_contents` meets its contract: what the check accepts fits its words (`accepted-wordy`), and the array holds the longest contents.
 -- Assumes nothing.
 use borrow.Author.Needs.{needs}
-use Rattle.make_book.proofs.Settled.{accepted-wordy}
+use Rattle.contents.proofs.Laying.{accepted-wordy}
 use Rattle.make_book.proofs.table.put_contents.Statement.{statement}
 use Rattle.make_book.proofs.table.put_contents.Tie as tie
 
