@@ -22,17 +22,18 @@ use Rattle.rules.specs.declared.Setting.{Setting}
 use Rattle.rules.proofs.Facts.{sound}
 use Rattle.rules.proofs.Tables.{table-given}
 use Rattle.rules.specs.declared.Refusal.{Refusal}
-use Rattle.book.specs.Settings.{pairWords, settingWords}
-use Rattle.book.specs.Contents.{front, startOf, startsOf, contentsOf, bookOf, pagesIn, startIn}
+use Rattle.contents.specs.Settings.{pairWords, settingWords}
+use Rattle.contents.specs.Contents.{front, startOf, startsOf, contentsOf, pagesIn, startIn}
+use Rattle.book.specs.Book.{bookOf}
 use Rattle.book.specs.Orders.{pageRows, rowOrder, askedOrder, writeOrder}
 use Rattle.book.specs.Rows.{toldLength, rowStart, rowPage}
-use Rattle.book.specs.Accepted.{Accepted}
+use Rattle.contents.specs.Accepted.{Accepted}
 use Rattle.book.specs.Bindable.{Bindable}
 use Rattle.book.specs.Calls.{pageSays, writeSays}
 use Rattle.book.specs.Writing.{Asked, RowFits}
-use Rattle.book.proofs.Finding.{accepted}
+use Rattle.contents.proofs.Finding.{accepted}
 use Rattle.book.proofs.Paging.{past-41}
-use Rattle.book.proofs.Clear.{clear}
+use Rattle.contents.proofs.Clear.{clear}
 use Rattle.book.proofs.Bound.{bound-pages, bound-one, bound-last, bound-lead, bound-ticks, bound-setting, bound-start, start-step, bound-long, bound-end, bound-page}
 use Rattle.book.proofs.Booked.{asked-parts, asked-accepted, asked-few, asked-none, asked-fits, write-says}
 use Rattle.book.proofs.RowLaws.{told-by, blocks-then, rows, rows-numbered, row-formed, row-same}

@@ -1,11 +1,10 @@
 -- What writing says by the tests made so far, and the words that it writes. Assumes nothing.
-use Prim.Native.Nat.{ℕ, zero, suc, _+_, _*_, _-_, _<_, _≤_}
+use Prim.Native.Nat.{ℕ, _+_, _*_, _-_, _<_, _≤_}
 use native.Mathlib.Omega.{arith}
 use mathlib.Core.Path.{_≡_, refl, sym, ap, _∙_}
 use mathlib.Core.Bool.{Bool, true, false}
 use mathlib.Core.List.{List, [], _∷_, _++_}
 use lib.Dec.{ltb}
-use lib.IntN.{ℤ, pos, natAbs}
 use lib.ListN.{length, length-append}
 use borrow.Author.Tests.{lt-ltb, le-ltb}
 use Rattle.lists.specs.Choice.{_if_else_, firstOf}
@@ -14,52 +13,38 @@ use Rattle.lists.specs.Lists.{all, writeAt, overFront}
 use Rattle.rules.specs.Tables.{Table, fault, by}
 use Rattle.lists.proofs.Concat.{blocks-long}
 use Rattle.lists.proofs.Lists.{all-append}
-use Rattle.rules.proofs.Tables.{numbered, fault-both, setting-says, table-then, first-refuses}
+use Rattle.rules.proofs.Tables.{numbered, fault-both, table-then, first-refuses}
 use Rattle.lists.proofs.Tests.{ordered, less, more, first-some, first-none, first-then, both}
 use Rattle.lists.proofs.Writes.{write-more, write-front}
-use Rattle.rules.specs.Says.{Says, refuses, gives, first, byTable, says, saysVerdict}
-use Rattle.rules.specs.Setting.{areaOf, sideOf, settingOrder, settingCheck}
-use Rattle.rules.specs.SettingFacts.{Accepts}
+use Rattle.rules.specs.Says.{refuses, gives, first, byTable, says}
+use Rattle.rules.specs.Setting.{settingOrder, settingCheck}
 use Rattle.rules.specs.Promises.{Validates}
 use Rattle.rules.specs.declared.Answer.the-variants.{Done, Refused as RefusedAnswer}
 use Rattle.rules.specs.declared.Setting.{Setting}
 use Rattle.rules.specs.declared.Verdict.{Verdict}
 use Rattle.rules.specs.declared.Verdict.the-variants.{Accepted, Refused}
-use Rattle.rules.proofs.Facts.{square-le}
-use Rattle.rules.proofs.SettingFacts.{accepts}
-use Rattle.grid.specs.Near.{Plain}
 use Rattle.rules.specs.declared.Refusal.{Refusal}
-use Rattle.book.specs.Settings.{pairWords, settingWords}
-use Rattle.book.specs.Contents.{front, startOf, startsOf, contentsOf, bookOf}
+use Rattle.contents.specs.Settings.{pairWords, settingWords}
+use Rattle.contents.specs.Contents.{front, startOf, startsOf, contentsOf}
+use Rattle.book.specs.Book.{bookOf}
 use Rattle.book.specs.Orders.{rowOrder, askedOrder, writeOrder}
 use Rattle.book.specs.Rows.{rowPage}
-use Rattle.book.specs.Writing.{RowFault, SettingNumber, Asked, Wordy, Fronted, RowFits, StartsTo, ContentsWritten}
+use Rattle.contents.specs.Written.{Wordy, Fronted}
+use Rattle.book.specs.Writing.{RowFault, SettingNumber, Asked, RowFits, StartsTo, ContentsWritten}
 use Rattle.book.specs.Calls.{writeSays}
 use Rattle.book.specs.Promises.{Writes}
+use Rattle.contents.proofs.Verdicts.{accepted-check, refused-check}
+use Rattle.contents.proofs.Laying.{setting-wordy}
 use Rattle.book.proofs.RowLaws.{blocks-numbered, rows, rows-numbered, row-fits, pages-all}
 
 -- ---- the setting's number
 
-abbrev accept : Says (Unit {0})
-accept = gives tt
-
-taken-zero : (k : ℕ) → accept ≡ first k accept → 0 ≡ k
-taken-zero zero r = refl
-taken-zero (suc k) r = let z : _≡_ {A = ℕ} 0 1 = cc in absurd (omega arith)
-
-refused-by : (n : Refusal) (k : ℕ) → refuses n ≡ first k accept → n .number ≡ k
-refused-by n zero r = let z : _≡_ {A = ℕ} 0 1 = cc in absurd (omega arith)
-refused-by n (suc k) r = let e : n ≡ by (suc k) = cc in ap (λ (x : Refusal). x .number) e
-
 module _ (s : Setting) (v : Verdict) (q : Validates s v) where
-  check-says : saysVerdict v ≡ first (settingCheck s) accept
-  check-says = q .answer ∙ setting-says s
-
   pub number-taken : v ≡ Accepted → SettingNumber s 0
-  number-taken h = record { says = taken-zero (settingCheck s) (sym (ap saysVerdict h) ∙ check-says) }
+  number-taken h = record { says = sym (accepted-check s v q h) }
 
   pub number-refused : (n : Refusal) → v ≡ Refused n → SettingNumber s (n .number)
-  number-refused n h = record { says = refused-by n (settingCheck s) (sym (ap saysVerdict h) ∙ check-says) }
+  number-refused n h = record { says = refused-check s v q n h }
 
 -- ---- every number but 29
 
@@ -110,30 +95,6 @@ module _ (s : Setting) (p : ℕ) (row : List ℕ) where
 
     pub asked-fits : RowFits p row
     asked-fits = row-fits s p row asked-none asked-few
-
--- ---- an accepted setting's numbers fit their words
-
-module _ (s : Setting) (e : settingCheck s ≡ 0) where
-  facts : Accepts s
-  facts = accepts s e
-
-  area-small : areaOf s ≤ 1024
-  area-small = square-le (sideOf (s .«grid_size»)) (facts .side-max)
-
-  plain-by : (g : ℤ) (n : ℕ) → g ≡ pos n → n < 65536 → Plain g
-  plain-by g n q h = rw q (record { positive = tt; small = h })
-
-  side-by : (g : ℤ) (n : ℕ) → g ≡ pos n → natAbs g ≡ sideOf g
-  side-by g n q = rw q
-
-  pub setting-wordy : Wordy s
-  setting-wordy = record {
-    few = omega (arith, facts .snakes-max);
-    plain = plain-by (s .«grid_size») (sideOf (s .«grid_size»)) (facts .grid-is) (omega (arith, facts .side-max));
-    side = side-by (s .«grid_size») (sideOf (s .«grid_size»)) (facts .grid-is);
-    long = omega (arith, facts .size-max, area-small);
-    fed = omega (arith, facts .food-free, area-small);
-  }
 
 module _ (s : Setting) (p : ℕ) (row : List ℕ) (n : ℕ) (a : Asked s p row n) (z : n ≡ 0) where
   pub zero-wordy : Wordy s

@@ -17,8 +17,9 @@ use Rattle.rules.specs.declared.Limit.the-variants.{Unset, Is}
 use Rattle.rules.specs.declared.Setting.{Setting}
 use Rattle.rules.proofs.Image.{bit-back}
 use Rattle.rules.proofs.SettingFacts.{accepts}
-use Rattle.book.specs.Settings.{pairWords, fourWords, fourAt, limitWords, limitAt, limitOff, settingWords, settingIn}
-use Rattle.book.specs.Contents.{front, startOf, startsOf, contentsOf, bookOf, pagesIn, startIn, endIn, pageIn}
+use Rattle.contents.specs.Settings.{pairWords, fourWords, fourAt, limitWords, limitAt, limitOff, settingWords, settingIn}
+use Rattle.contents.specs.Contents.{front, startOf, startsOf, contentsOf, pagesIn, startIn, endIn}
+use Rattle.book.specs.Book.{bookOf, pageIn}
 use Rattle.book.proofs.Booked.{contents-long, book-long}
 
 plus-zero : (n : ℕ) → n ≡ n + 0

@@ -1,57 +1,20 @@
--- How a book's words are written: the contents' first 17, the starts, the whole. Assumes nothing.
-use Prim.Native.Nat.{ℕ, _+_, _*_, _-_, _/_, _%_, _<_, _≤_}
+-- How the starts are written, one after the other. Assumes nothing.
+use Prim.Native.Nat.{ℕ, _+_, _*_, _-_, _<_, _≤_}
 use native.Mathlib.Omega.{arith}
 use mathlib.Core.Path.{_≡_, refl, sym, ap, _∙_}
-use mathlib.Core.Bool.{Bool}
-use mathlib.Core.List.{List, [], _∷_}
-use lib.IntN.{natAbs}
-use lib.ListN.{length, getD, take, drop}
-use Rattle.lists.specs.Choice.{bit}
+use mathlib.Core.List.{List}
+use lib.ListN.{length, take, drop}
 use Rattle.lists.specs.Below.{concatBelow}
 use Rattle.lists.specs.Lists.{writeAt}
 use Rattle.lists.proofs.Concat.{blocks-long}
 use Rattle.lists.proofs.Lists.{rest-is}
 use Rattle.lists.proofs.Writes.{length-write, turn-start, turn-next}
-use Rattle.rules.specs.Setting.{isSet}
-use Rattle.rules.specs.declared.Limit.{Limit}
-use Rattle.rules.specs.declared.Setting.{Setting}
-use Rattle.book.specs.Settings.{pairWords, amount}
-use Rattle.book.specs.Contents.{startOf}
+use Rattle.contents.specs.Settings.{pairWords}
+use Rattle.contents.specs.Contents.{startOf}
 use Rattle.book.specs.Rows.{toldLength, rowStart, rowPage}
-use Rattle.book.specs.Writing.{Told, Five, Wordy, Fronted, RowFits, PairWritten, StartsTo}
+use Rattle.book.specs.Writing.{Told, RowFits, StartsTo}
+use Rattle.contents.specs.Written.{PairWritten}
 use Rattle.book.proofs.RowLaws.{start-next, pages-long}
-
--- ---- the first 17 words
-
-pub five-is : (l : Limit) (t : Bool) (set k : ℕ) → t ≡ isSet l → set ≡ bit t → k ≡ amount l
-    → Five l (set ∷ k % 4294967296 % 65536 ∷ k % 4294967296 / 65536 ∷ k / 4294967296 % 65536 ∷ k / 4294967296 / 65536 ∷ [])
-five-is l t set k p q r = record { words = rw (q, p, r) }
-
-module _ (s : Setting) (w : Wordy s) (lead ticks : List ℕ) (five : Five (s .«win_food_lead») lead) (five′ : Five (s .«max_ticks») ticks) (p g f : ℕ) (old new : List ℕ) where
-  pub front-is : g ≡ natAbs (s .«grid_size») → f ≡ bit (s .«play_to_last»)
-      → new
-      ≡ writeAt
-      old
-      0
-      (1
-      ∷ s .«num_snakes»
-      ∷ g
-      ∷ s .«initial_length»
-      ∷ f
-      ∷ getD lead 0 0
-      ∷ getD lead 1 0
-      ∷ getD lead 2 0
-      ∷ getD lead 3 0
-      ∷ getD lead 4 0
-      ∷ s .«initial_food_count»
-      ∷ getD ticks 0 0
-      ∷ getD ticks 1 0
-      ∷ getD ticks 2 0
-      ∷ getD ticks 3 0
-      ∷ getD ticks 4 0
-      ∷ p
-      ∷ []) → Fronted s p old new
-  front-is z y e = record { words = rw (z ∙ w .side, y, five .words, five′ .words) at e }
 
 -- ---- the starts
 
@@ -87,6 +50,3 @@ module _ (p : ℕ) (row old : List ℕ) (f : RowFits p row) (room : 17 + 2 * p �
       let e : i ≡ p = omega (arith, q .here) in
       let z : at ≡ length row = q .start ∙ ap (rowStart row) e ∙ f .all in
       rw (e, z) at q
-
-pub pair-is : (k n : ℕ) (old new : List ℕ) → new ≡ writeAt old k (n % 65536 ∷ n / 65536 ∷ []) → PairWritten k n old new
-pair-is k n old new e = record { words = e }

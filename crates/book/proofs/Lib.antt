@@ -1,15 +1,12 @@
-pub mod Told
-pub mod Fitting
-pub mod Finding
 pub mod Paging
 pub mod RowLaws
 pub mod Laying
 pub mod Booked
 pub mod Turns
-pub mod Clear
 pub mod Bound
 pub mod Binding
 pub mod OneForm
 pub mod Separate
 pub mod Theorems
+pub mod Answers
 pub mod Sample

@@ -14,10 +14,11 @@ use Rattle.lists.specs.Below.{eachBelow, concatBelow}
 use Rattle.lists.proofs.Below.{each-back, each-ext, concat-ext}
 use Rattle.lists.proofs.Tests.{compared, same, other, or-false-left, or-false-right}
 use Rattle.rules.specs.Image.{word}
-use Rattle.book.specs.Settings.{pairWords, fourWords, fourAt, limitWords, limitOf, limitAt, limitOff, settingWords, settingIn}
-use Rattle.book.specs.Contents.{front, startOf, startsOf, contentsOf, bookOf, pagesIn, startIn, endIn, pageIn}
-use Rattle.book.specs.Accepted.{Accepted}
-use Rattle.book.proofs.Finding.{ends-is}
+use Rattle.contents.specs.Settings.{pairWords, fourWords, fourAt, limitWords, limitOf, limitAt, limitOff, settingWords, settingIn}
+use Rattle.contents.specs.Contents.{front, startOf, startsOf, contentsOf, pagesIn, startIn, endIn}
+use Rattle.book.specs.Book.{bookOf, pageIn}
+use Rattle.contents.specs.Accepted.{Accepted}
+use Rattle.contents.proofs.Finding.{ends-is}
 
 -- ---- words of 16 bits and the numbers that they tell
 

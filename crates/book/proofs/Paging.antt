@@ -17,16 +17,20 @@ use Rattle.rules.specs.Promises.{Checks}
 use Rattle.rules.specs.Says.{Says, refuses, gives, first, byTable}
 use Rattle.rules.specs.declared.Setting.{Setting}
 use Rattle.rules.specs.declared.Refusal.{Refusal}
-use Rattle.book.specs.Settings.{settingIn}
-use Rattle.book.specs.Contents.{pagesIn, pageIn}
-use Rattle.book.specs.Orders.{pageRows, findOrder, readOrder}
-use Rattle.book.specs.Accepted.{Accepted}
-use Rattle.book.specs.Read.{Other, ImageFault, Cut}
-use Rattle.book.specs.Calls.{Span, spanIn, findSays, pageSays, thenRead, saysPage}
-use Rattle.book.specs.Promises.{Finds, Pages, Hands}
-use Rattle.book.specs.declared.PageFound.{PageFound}
-use Rattle.book.specs.declared.PageFound.the-variants.{Part, Refused}
-use Rattle.book.proofs.Finding.{found, find-is, find-opens, find-counted, find-inside, part-given}
+use Rattle.contents.specs.Settings.{settingIn}
+use Rattle.contents.specs.Contents.{pagesIn}
+use Rattle.book.specs.Book.{pageIn}
+use Rattle.contents.specs.Orders.{findOrder}
+use Rattle.book.specs.Orders.{pageRows, readOrder}
+use Rattle.contents.specs.Accepted.{Accepted}
+use Rattle.book.specs.Read.{ImageFault, Cut}
+use Rattle.contents.specs.Calls.{Span, spanIn, findSays, saysPage}
+use Rattle.book.specs.Calls.{pageSays, thenRead}
+use Rattle.contents.specs.Promises.{Finds}
+use Rattle.book.specs.Promises.{Pages, Hands}
+use Rattle.contents.specs.declared.PageFound.{PageFound}
+use Rattle.contents.specs.declared.PageFound.the-variants.{Part, Refused}
+use Rattle.contents.proofs.Finding.{found, find-is, find-opens, find-counted, find-inside, part-given}
 
 -- ---- 20 and 21 of an image
 
@@ -35,14 +39,14 @@ module _ (s : Setting) (w : List ℕ) (t : Bool) (q : Checks w t) where
   unfolding fault
   fault-20 h = record { says = rw (← (q .answer), not-true t h) }
 
-  module _ (h : not t ≡ false) (u : Bool) (o : Other s w u) where
+  module _ (h : not t ≡ false) (u : Bool) (d : u ≡ differs s w) where
     pub fault-21 : u ≡ true → ImageFault s w 21
     unfolding fault
-    fault-21 e = let d : differs s w ≡ true = sym (o .is) ∙ e in record { says = rw (← (q .answer), not-false t h, d) }
+    fault-21 e = record { says = rw (← (q .answer), not-false t h, sym d ∙ e) }
 
     pub fault-none : u ≡ false → ImageFault s w 0
     unfolding fault
-    fault-none e = let d : differs s w ≡ false = sym (o .is) ∙ e in record { says = rw (← (q .answer), not-false t h, d) }
+    fault-none e = record { says = rw (← (q .answer), not-false t h, sym d ∙ e) }
 
 -- ---- a page is found, and then read
 

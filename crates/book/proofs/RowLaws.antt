@@ -25,7 +25,8 @@ use Rattle.rules.specs.declared.Setting.{Setting}
 use Rattle.rules.proofs.Facts.{sound}
 use Rattle.rules.specs.declared.Refusal.{Refusal}
 use Rattle.book.specs.Orders.{pageRows, rowOrder}
-use Rattle.book.specs.Read.{Word, ImageFault}
+use Rattle.contents.specs.Read.{Word}
+use Rattle.book.specs.Read.{ImageFault}
 use Rattle.book.specs.Rows.{toldLength, rowStart, rowPage}
 use Rattle.book.specs.Writing.{Summed, Told, Next, RowFault, Passed, RowFits}
 use Rattle.book.specs.declared.rows.NextPage.{NextPage}

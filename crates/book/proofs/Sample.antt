@@ -1,14 +1,15 @@
 -- A small book, word by word: what the definitions say, by computation. Assumes nothing.
 use Prim.Native.Nat.{ℕ, zero, suc}
 use mathlib.Core.Path.{_≡_, refl}
-use mathlib.Core.Bool.{true}
+use mathlib.Core.Bool.{true, false}
 use mathlib.Core.List.{List, [], _∷_, _++_}
 use lib.IntN.{pos}
 use Rattle.lists.specs.Below.{concatBelow}
 use Rattle.rules.specs.declared.Setting.{Setting}
 use Rattle.rules.specs.declared.Limit.the-variants.{Unset, Is}
-use Rattle.book.specs.Settings.{pairWords, limitWords}
-use Rattle.book.specs.Contents.{startsOf, contentsOf, bookOf}
+use Rattle.contents.specs.Settings.{pairWords, limitWords, settingWords}
+use Rattle.contents.specs.Contents.{startsOf, contentsOf}
+use Rattle.book.specs.Book.{bookOf}
 
 -- 'low one first': 65,538 is 2 and one time 65,536
 pub low-first : pairWords 65538 ≡ 2 ∷ 1 ∷ []
@@ -20,6 +21,11 @@ lowest-first = refl
 
 pub all-zero : limitWords Unset ≡ 0 ∷ 0 ∷ 0 ∷ 0 ∷ 0 ∷ []
 all-zero = refl
+
+-- 'the setting in the order of replay's first line': snakes, grid, length, play_to_last, lead, food, max_ticks, each with a number of its own
+pub in-order : settingWords (record { «num_snakes» = 2; «grid_size» = pos 9; «initial_length» = 3; «play_to_last» = false; «win_food_lead» = Is 5; «initial_food_count» = 4; «max_ticks» = Is 70000 })
+    ≡ 2 ∷ 9 ∷ 3 ∷ 0 ∷ 1 ∷ 5 ∷ 0 ∷ 0 ∷ 0 ∷ 4 ∷ 1 ∷ 4464 ∷ 1 ∷ 0 ∷ 0 ∷ []
+in-order = refl
 
 -- two snakes on a grid of 3, max_ticks 70,000
 abbrev sample : Setting

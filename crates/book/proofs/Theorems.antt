@@ -1,50 +1,43 @@
 -- The book's theorems (02, wish 1). A call is spoken of by its promise, which its code is proved to meet. Assumes nothing.
-use Prim.Native.Nat.{ℕ, zero, suc, _+_, _-_, _<_, _≤_}
+use Prim.Native.Nat.{ℕ, _+_, _-_, _<_, _≤_}
 use native.Mathlib.Omega.{arith}
 use mathlib.Core.Path.{_≡_, refl, sym, ap, _∙_}
-use mathlib.Core.Bool.{Bool, true}
-use mathlib.Core.List.{List, [], _∷_, _++_, map, append-assoc}
-use lib.ListN.{length, take, drop, replicate}
-use lib.Seq.{drop-append-seam}
+use mathlib.Core.Bool.{true}
+use mathlib.Core.List.{List}
+use lib.ListN.{length, take, drop}
 use denote.Ref.{RefT}
 use Rattle.boards.specs.Boards.{Under}
 use Rattle.lists.specs.Below.{concatBelow}
-use Rattle.lists.specs.Lists.{all, overFront}
-use Rattle.rules.specs.Tables.{Table, fault, FirstRow}
+use Rattle.lists.specs.Lists.{all}
+use Rattle.rules.specs.Tables.{fault, noneHold}
 use Rattle.lists.proofs.Insert.{over-take}
-use Rattle.rules.specs.Image.{word, wellFormed}
-use Rattle.rules.specs.Setting.{settingCheck}
-use Rattle.rules.specs.Says.{Says, refuses, gives, first, seen, beside, lent}
-use Rattle.rules.specs.declared.Answer.{Answer}
-use Rattle.rules.specs.declared.Answer.the-variants.{Done, Refused as RefusedAnswer}
+use Rattle.rules.specs.Says.{Says, refuses, gives, first, seen, lent}
+use Rattle.rules.specs.declared.Answer.the-variants.{Done}
 use Rattle.rules.specs.declared.Setting.{Setting}
-use Rattle.rules.proofs.Answers.{answer-one}
-use Rattle.rules.proofs.Tables.{table-refuses, table-fault}
+use Rattle.rules.proofs.Tables.{table-fault}
 use Rattle.image.specs.Memory.{wordPlace}
 use Rattle.rules.specs.declared.Refusal.{Refusal}
-use Rattle.book.specs.Settings.{settingIn}
-use Rattle.book.specs.Contents.{front, bookOf, pagesIn, pageIn}
-use Rattle.book.specs.Orders.{pageRows, layoutRows, startRows, contentsOrder, findOrder, readOrder, rowOrder, askedOrder, writeOrder}
-use Rattle.book.specs.Rows.{toldLength, rowStart, rowPage}
+use Rattle.contents.specs.Settings.{settingIn}
+use Rattle.contents.specs.Contents.{front, pagesIn}
+use Rattle.book.specs.Book.{bookOf, pageIn}
+use Rattle.contents.specs.Orders.{contentsOrder}
+use Rattle.book.specs.Orders.{pageRows}
+use Rattle.book.specs.Rows.{rowStart, rowPage}
 use Rattle.book.specs.Bindable.{Bindable, Whole}
-use Rattle.book.specs.Calls.{Span, writeSays, findSays, pageSays, thenRead, saysPage, partAt}
-use Rattle.book.specs.Promises.{Writes, Finds, Pages, Hands}
+use Rattle.contents.specs.Calls.{Span, findSays}
+use Rattle.book.specs.Calls.{writeSays, pageSays, thenRead, partAt}
+use Rattle.contents.specs.Promises.{Finds}
+use Rattle.book.specs.Promises.{Writes, Hands}
 use Rattle.book.specs.Read.{ImageFault}
-use Rattle.book.specs.Writing.{Wordy}
-use Rattle.book.specs.declared.PageFound.{PageFound}
-use Rattle.book.specs.declared.PageFound.the-variants.{Part, Refused}
+use Rattle.contents.specs.declared.PageFound.the-variants.{Part, Refused}
 use Rattle.book.proofs.Separate as separate
 use Rattle.book.proofs.Binding as binding
-use Rattle.book.proofs.Booked.{setting-wordy}
+use Rattle.contents.proofs.Alone as alone
 use Rattle.book.proofs.Bound.{bound-pages, bound-setting, bound-page, bound-rest}
 use Rattle.book.proofs.OneForm as form
-use Rattle.book.proofs.Finding.{accepted}
-use Rattle.book.proofs.Paging.{page-says, page-words}
+use Rattle.contents.proofs.Finding.{accepted}
+use Rattle.book.proofs.Paging.{page-says, page-words, page-formed, page-same}
 use Rattle.book.proofs.RowLaws.{pages-all, pages-long}
-
-drop-over : (s d : List ℕ) → drop (length s) (overFront s d) ≡ drop (length s) d
-unfolding overFront
-drop-over s d = drop-append-seam s (drop (length s) d)
 
 -- ---- 'Reading what was written gives the same pages'
 
@@ -109,6 +102,14 @@ module _ (b : List ℕ) (words : Under 65536 b) (ok : Whole b) where
       let q = binding.line-writes (settingIn b) (pagesIn b) (pageIn b) whole-binds room z in
       rw (form.pages-body b words (accepted b (length b) (ok .contents)), whole-form) at q
 
+-- of the calls' answers: a book is whole where no row of 40 holds and each of its pages is read
+pub read-whole : (b : List ℕ) → noneHold (contentsOrder b (length b)) ≡ true → ((i : ℕ) → i < pagesIn b → (q : Span) × (pageSays b i ≡ gives q)) → Whole b
+read-whole b h all = record {
+  contents = h;
+  formed = λ i l. page-formed b i (all i l .0) (all i l .1);
+  same = λ i l. page-same b i (all i l .0) (all i l .1);
+}
+
 -- two settings or two rows never give one book
 pub one-book : (s t : Setting) (p q : ℕ) (row line : List ℕ) (room other : ℕ) (b : List ℕ) → writeSays s p row room ≡ gives b → writeSays t q line other ≡ gives b
     → (s ≡ t) × (p ≡ q) × (row ≡ line)
@@ -119,28 +120,12 @@ one-book s t p q row line room other b e f =
       sym (written-row s p row room b e) ∙ ap (λ (k : ℕ). drop (front k) b) n ∙ written-row t q line other b f,
     )
 
--- a part of a row that is well-formed is the image there: 'its contents tell its length, so at most one is'
-pub one-image : (w : List ℕ) (k : ℕ) → k ≤ length w → wellFormed (take k w) ≡ true → k ≡ toldLength w
-one-image = binding.one-image
-
--- ---- an accepted setting's numbers fit their words
-
-pub setting-fits : (s : Setting) → settingCheck s ≡ 0 → Wordy s
-setting-fits = setting-wordy
-
--- ---- a damaged page elsewhere changes nothing of the page that is read
-
--- b and c are as long, and have the same contents and the same page i
-pub page-alone : (b c : List ℕ) → length b ≡ length c → ((k : ℕ) → k < front (pagesIn b) → word b k ≡ word c k) → (i : ℕ) → pageIn b i ≡ pageIn c i
-    → pageSays b i ≡ pageSays c i
-page-alone = separate.page-alone
-
 -- ---- a page is found by the contents alone, and only its own part of the book is then read
 
 module _ (b : List ℕ) (k : ℕ) (h : front (pagesIn b) ≤ k) (i : ℕ) where
   -- of the first k words of a book, the contents among them, and the book's length `find` says what 40 and 41 of the whole book say, and where the page lies
   pub find-alone : findSays (take k b) (length b) i ≡ findSays b (length b) i
-  find-alone = separate.front-finds b k h i
+  find-alone = alone.front-finds b k h i
 
   -- so reading is finding, and then 20 and 21 of the part that was found
   pub find-then-read : pageSays b i ≡ thenRead b (findSays (take k b) (length b) i)
@@ -155,102 +140,7 @@ module _ (b : List ℕ) (k : ℕ) (h : front (pagesIn b) ≤ k) (i : ℕ) where
       → pageSays b i ≡ first n (gives (record { start = start; len = size }))
   unfolding all
   find-reads start size f n g =
-      let z : n ≡ fault (pageRows (settingIn b) (take size (drop start b))) = rw (separate.front-setting b k h) at (g .says) in
+      let z : n ≡ fault (pageRows (settingIn b) (take size (drop start b))) = rw (alone.front-setting b k h) at (g .says) in
       find-then-read
       ∙ ap (thenRead b) (sym (f .answer))
       ∙ rw z (table-fault (pageRows (settingIn b) (take size (drop start b))) (gives (record { start = start; len = size })) refl)
-
--- ---- two answers that meet one promise are equal, and so is what is lent
-
-pub one-write : (s : Setting) (p : ℕ) (row old new other : List ℕ) (r q : Answer) → Writes s p row old new r → Writes s p row old other q → (r ≡ q) × (new ≡ other)
-one-write s p row old new other r q a b = (answer-one r q (a .answer ∙ sym (b .answer)), a .words ∙ sym (b .words))
-
-found-one : (r q : PageFound) → saysPage r ≡ saysPage q → r ≡ q
-found-one (Part m n) (Part k l) h =
-    let x : m ≡ k = ap (beside (λ z. z .start) 0) h in
-    let y : n ≡ l = ap (beside (λ z. z .len) 0) h in
-    rw (x, y)
-found-one (Part m n) (Refused l) h = let z : _≡_ {A = ℕ} 0 1 = cc in absurd (omega arith)
-found-one (Refused k) (Part m n) h = let z : _≡_ {A = ℕ} 0 1 = cc in absurd (omega arith)
-found-one (Refused k) (Refused l) h = ap Refused (cc)
-
-pub one-find : (c : List ℕ) (n i : ℕ) (r q : PageFound) → Finds c n i r → Finds c n i q → r ≡ q
-one-find c n i r q a d = found-one r q (a .answer ∙ sym (d .answer))
-
-pub one-page : (b : List ℕ) (i : ℕ) (r q : PageFound) → Pages b i r → Pages b i q → r ≡ q
-one-page b i r q a c = found-one r q (a .answer ∙ sym (c .answer))
-
--- two parts that reading hands back have equal words at one address
-pub one-part : (book r q : RefT (List ℕ)) (i : ℕ) → Hands book i r → Hands book i q → (r .now ≡ q .now) × (r .ptr ≡ q .ptr)
-one-part book r q i a b = (a .words ∙ sym (b .words), a .place ∙ sym (b .place))
-
--- ---- an answer, or exactly the table's number in the table's order; a refusal leaves every lent word
-
-abbrev numbers : Table → List ℕ
-numbers t = map (λ (e : Refusal × Bool). e .0 .number) t
-
-numbers-join : (t u : Table) → numbers (t ++ u) ≡ numbers t ++ numbers u
-numbers-join [] u = refl
-numbers-join (e ∷ es) u = ap (λ (l : List ℕ). e .0 .number ∷ l) (numbers-join es u)
-
-numbers-pages : (s : Setting) (row : List ℕ) (p : ℕ) → numbers (concatBelow p (λ i. pageRows s (rowPage row i))) ≡ concatBelow p (λ i. 20 ∷ 21 ∷ [])
-unfolding concatBelow
-numbers-pages s row zero = refl
-numbers-pages s row (suc p) =
-    numbers-join (concatBelow p (λ i. pageRows s (rowPage row i))) (pageRows s (rowPage row p)) ∙ ap (λ (l : List ℕ). l ++ (20 ∷ 21 ∷ [])) (numbers-pages s row p)
-
--- '40 ..; then 41 no such page'
-pub find-order : (c : List ℕ) (n i : ℕ) → numbers (findOrder c n i) ≡ replicate 11 40 ++ (41 ∷ [])
-unfolding findOrder contentsOrder layoutRows startRows
-find-order c n i = refl
-
--- 'reading, 40 ..; then 41 no such page, then 20 and 21 for the page'
-pub read-order : (b : List ℕ) (i : ℕ) → numbers (readOrder b i) ≡ replicate 11 40 ++ (41 ∷ 20 ∷ 21 ∷ [])
-unfolding readOrder findOrder contentsOrder layoutRows startRows
-read-order b i = refl
-
--- 'writing, the setting's, then 42 above 65,535 pages, then 20 and 21 page by page, then 29'
-pub write-order : (s : Setting) (p : ℕ) (row : List ℕ) (room : ℕ)
-    → numbers (writeOrder s p row room) ≡ (1 ∷ 2 ∷ 3 ∷ 4 ∷ 5 ∷ 6 ∷ 7 ∷ 8 ∷ 9 ∷ 10 ∷ 11 ∷ 12 ∷ 42 ∷ []) ++ (concatBelow p (λ i. 20 ∷ 21 ∷ []) ++ (20 ∷ 29 ∷ []))
-unfolding writeOrder askedOrder rowOrder
-write-order s p row room =
-    ap
-    (λ (l : List ℕ). (1 ∷ 2 ∷ 3 ∷ 4 ∷ 5 ∷ 6 ∷ 7 ∷ 8 ∷ 9 ∷ 10 ∷ 11 ∷ 12 ∷ 42 ∷ []) ++ l)
-    (ap numbers (append-assoc (concatBelow p (λ i. pageRows s (rowPage row i))) _ _)
-    ∙ numbers-join (concatBelow p (λ i. pageRows s (rowPage row i))) _
-    ∙ ap (λ (l : List ℕ). l ++ (20 ∷ 29 ∷ [])) (numbers-pages s row p))
-
-module _ (k : Refusal) where
-  pub find-number : (c : List ℕ) (n i : ℕ) → Finds c n i (Refused k) → FirstRow (findOrder c n i) k
-  unfolding findSays
-  find-number c n i a = table-refuses (findOrder c n i) _ k (sym (a .answer))
-
-  pub page-number : (b : List ℕ) (i : ℕ) → Pages b i (Refused k) → FirstRow (readOrder b i) k
-  unfolding pageSays
-  page-number b i a = table-refuses (readOrder b i) _ k (sym (a .answer))
-
-  pub write-number : (s : Setting) (p : ℕ) (row old new : List ℕ) → Writes s p row old new (RefusedAnswer k) → FirstRow (writeOrder s p row (length old)) k
-  unfolding writeSays
-  write-number s p row old new a = table-refuses (writeOrder s p row (length old)) _ k (seen-refuses _ (sym (a .answer)))
-    where
-      seen-refuses : (x : Says (List ℕ)) → seen (λ b. length b) x ≡ refuses k → x ≡ refuses k
-      seen-refuses (refuses n) h = let z : n ≡ k = cc in ap refuses z
-      seen-refuses (gives b) h = let z : _≡_ {A = ℕ} 0 1 = cc in absurd (omega arith)
-
-  pub write-untouched : (s : Setting) (p : ℕ) (row old new : List ℕ) → Writes s p row old new (RefusedAnswer k) → new ≡ old
-  write-untouched s p row old new a = kept (writeSays s p row (length old)) (a .answer) (a .words)
-    where
-      kept : (x : Says (List ℕ)) → refuses k ≡ seen (λ b. length b) x → new ≡ lent (λ b. b) old x → new ≡ old
-      kept (refuses n) h q = q
-      kept (gives b) h q = let z : _≡_ {A = ℕ} 0 1 = cc in absurd (omega arith)
-
--- the words after those that it wrote keep their values
-pub write-after : (s : Setting) (p : ℕ) (row old new : List ℕ) (n : ℕ) → Writes s p row old new (Done n) → drop n new ≡ drop n old
-write-after s p row old new n a = kept (writeSays s p row (length old)) (a .answer) (a .words)
-  where
-    after : (b : List ℕ) → n ≡ length b → new ≡ overFront b old → drop n new ≡ drop n old
-    after b e q = rw (q, e) (drop-over b old)
-
-    kept : (x : Says (List ℕ)) → gives n ≡ seen (λ b. length b) x → new ≡ lent (λ b. b) old x → drop n new ≡ drop n old
-    kept (refuses k) h q = let z : _≡_ {A = ℕ} 0 1 = cc in absurd (omega arith)
-    kept (gives b) h q = after b (cc) q

@@ -9,9 +9,10 @@ use Rattle.rules.specs.Orders.{differs}
 use Rattle.rules.specs.Setting.{settingCheck}
 use Rattle.rules.specs.Tables.{noneHold}
 use Rattle.rules.specs.declared.Setting.{Setting}
-use Rattle.book.specs.Settings.{settingIn}
-use Rattle.book.specs.Contents.{pagesIn, pageIn}
-use Rattle.book.specs.Orders.{contentsOrder}
+use Rattle.contents.specs.Settings.{settingIn}
+use Rattle.contents.specs.Contents.{pagesIn}
+use Rattle.contents.specs.Orders.{contentsOrder}
+use Rattle.book.specs.Book.{pageIn}
 
 -- f i is page i of p
 pub record Bindable (s : Setting) (p : ℕ) (f : ℕ → List ℕ) : Type 0 where

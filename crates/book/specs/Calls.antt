@@ -1,32 +1,20 @@
 -- What writing and reading say: by their tables of refusals, or what comes where no row holds. Assumes nothing.
-use Prim.Native.Nat.{ℕ, _-_}
+use Prim.Native.Nat.{ℕ}
 use mathlib.Core.List.{List, []}
 use lib.ListN.{length, take, drop}
 use Rattle.rules.specs.Says.{Says, refuses, gives, byTable, beside}
 use Rattle.rules.specs.declared.Setting.{Setting}
-use Rattle.book.specs.Contents.{bookOf, startIn, endIn}
+use Rattle.contents.specs.Settings.{settingIn}
+use Rattle.contents.specs.Calls.{Span, spanIn}
+use Rattle.book.specs.Book.{bookOf}
 use Rattle.book.specs.Rows.{rowPage}
-use Rattle.book.specs.Settings.{settingIn}
-use Rattle.book.specs.Orders.{pageRows, findOrder, readOrder, writeOrder}
-use Rattle.book.specs.declared.PageFound.{PageFound}
-use Rattle.book.specs.declared.PageFound.the-variants.{Part, Refused}
+use Rattle.book.specs.Orders.{pageRows, readOrder, writeOrder}
 
 -- the book's words
 unfoldable pub writeSays : Setting → ℕ → List ℕ → ℕ → Says (List ℕ)
 writeSays s p row room = byTable (writeOrder s p row room) (gives (bookOf s p (rowPage row)))
 
 -- where a page lies in the book
-pub record Span : Type 0 where
-  pub start : ℕ
-  pub len : ℕ
-
-abbrev pub spanIn : List ℕ → ℕ → ℕ → Span
-spanIn c n i = record { start = startIn c i; len = endIn c n i - startIn c i }
-
--- by the contents alone
-unfoldable pub findSays : List ℕ → ℕ → ℕ → Says Span
-findSays c n i = byTable (findOrder c n i) (gives (spanIn c n i))
-
 unfoldable pub pageSays : List ℕ → ℕ → Says Span
 pageSays b i = byTable (readOrder b i) (gives (spanIn b (length b) i))
 
@@ -34,10 +22,6 @@ pageSays b i = byTable (readOrder b i) (gives (spanIn b (length b) i))
 abbrev pub thenRead : List ℕ → Says Span → Says Span
 thenRead b (refuses k) = refuses k
 thenRead b (gives q) = byTable (pageRows (settingIn b) (take (q .len) (drop (q .start) b))) (gives q)
-
-abbrev pub saysPage : PageFound → Says Span
-saysPage (Part start size) = gives (record { start = start; len = size })
-saysPage (Refused k) = refuses k
 
 -- the part of the book that reading hands back: the page, or the empty part at the book's front
 abbrev pub partAt : List ℕ → Says Span → List ℕ

@@ -1,9 +1,7 @@
-pub mod Settings
-pub mod Contents
+pub mod Book
 pub mod Rows
 pub mod Orders
 pub mod Read
-pub mod Accepted
 pub mod Writing
 pub mod Bindable
 pub mod Calls

@@ -9,16 +9,15 @@ use Rattle.rules.specs.Says.{seen, lent, says}
 use Rattle.rules.specs.declared.Setting.{Setting}
 use Rattle.rules.specs.declared.Answer.{Answer}
 use Rattle.image.specs.Memory.{wordPlace}
-use Rattle.book.specs.Calls.{writeSays, findSays, pageSays, saysPage, partAt, startAt}
-use Rattle.book.specs.declared.PageFound.{PageFound}
+use Rattle.contents.specs.Calls.{saysPage}
+use Rattle.contents.specs.declared.PageFound.{PageFound}
+use Rattle.book.specs.Calls.{writeSays, pageSays, partAt, startAt}
+-- finding a page by the contents alone is promised there, and handed on: who calls the book cites it here
+pub use Rattle.contents.specs.Promises.{Finds}
 
 pub record Writes (s : Setting) (p : ℕ) (row old new : List ℕ) (r : Answer) : Type 0 where
   pub answer : says r ≡ seen (λ b. length b) (writeSays s p row (length old))
   pub words : new ≡ lent (λ b. b) old (writeSays s p row (length old))
-
--- c is the front of a book of n words
-pub record Finds (c : List ℕ) (n i : ℕ) (r : PageFound) : Type 0 where
-  pub answer : saysPage r ≡ findSays c n i
 
 pub record Pages (b : List ℕ) (i : ℕ) (r : PageFound) : Type 0 where
   pub answer : saysPage r ≡ pageSays b i

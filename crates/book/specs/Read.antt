@@ -1,67 +1,17 @@
--- What the functions that read a book's words ensure. Assumes nothing.
-use Prim.Native.Nat.{ℕ, _<_, _≤_}
-use mathlib.Core.Bool.{Bool}
+-- What the functions that read a page ensure. Assumes nothing.
+use Prim.Native.Nat.{ℕ}
 use mathlib.Core.List.{List}
 use mathlib.Core.Path.{_≡_}
-use lib.Dec.{eqb}
 use lib.ListN.{take, drop}
 use denote.Ref.{RefT}
-use Rattle.lists.specs.Below.{allBelow}
-use Rattle.rules.specs.Tables.{fault, noneHold}
-use Rattle.rules.specs.Image.{word}
-use Rattle.rules.specs.Orders.{differs}
-use Rattle.rules.specs.Setting.{settingCheck}
-use Rattle.book.specs.Settings.{pairAt, limitOff, settingIn}
+use Rattle.rules.specs.Tables.{fault}
 use Rattle.rules.specs.declared.Setting.{Setting}
 use Rattle.image.specs.Memory.{wordPlace}
-use Rattle.book.specs.Contents.{startIn, endIn}
-use Rattle.book.specs.Orders.{pageRows, layoutRows, rises, startRows, contentsOrder}
+use Rattle.book.specs.Orders.{pageRows}
 
--- ---- numbers, and how large they can be
-
-pub record Word (b : List ℕ) (k r : ℕ) : Type 0 where
-  pub value : r ≡ word b k
-  pub small : r < 65536
-
-pub record Pair (b : List ℕ) (k r : ℕ) : Type 0 where
-  pub value : r ≡ pairAt b k
-  pub small : r < 4294967296
-
--- ---- tests
-
-pub record OffLimit (b : List ℕ) (k : ℕ) (r : Bool) : Type 0 where
-  pub off : r ≡ limitOff b k
-
-pub record SettingFits (b : List ℕ) (r : Bool) : Type 0 where
-  pub fits : r ≡ eqb (settingCheck (settingIn b)) 0
-
-pub record LayoutFits (b : List ℕ) (r : Bool) : Type 0 where
-  pub fits : r ≡ noneHold (layoutRows b)
-
--- of the first n starts, the first i are below their next
-pub record Rising (b : List ℕ) (n i : ℕ) (r : Bool) : Type 0 where
-  pub here : i ≤ n
-  pub rise : r ≡ allBelow i (rises b)
-
--- c is the front of a book of n words
-pub record StartsFit (c : List ℕ) (n : ℕ) (r : Bool) : Type 0 where
-  pub fits : r ≡ noneHold (startRows c n)
-
-pub record ContentsFit (c : List ℕ) (n : ℕ) (r : Bool) : Type 0 where
-  pub fits : r ≡ noneHold (contentsOrder c n)
-
--- ---- a page: its number by 20 and 21, and where it ends
-
-pub record Other (s : Setting) (w : List ℕ) (r : Bool) : Type 0 where
-  pub is : r ≡ differs s w
-
+-- its number by 20 and 21, or 0
 pub record ImageFault (s : Setting) (w : List ℕ) (r : ℕ) : Type 0 where
   pub says : r ≡ fault (pageRows s w)
-
-pub record Ends (c : List ℕ) (n i r : ℕ) : Type 0 where
-  pub value : r ≡ endIn c n i
-  pub above : startIn c i < r
-  pub inside : r ≤ n
 
 -- the part of a lent book from a start on: its words, and its place
 pub record Cut (book : RefT (List ℕ)) (start size : ℕ) (r : RefT (List ℕ)) : Type 0 where

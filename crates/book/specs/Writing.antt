@@ -1,19 +1,16 @@
 -- What the functions of the writer ensure and require. Assumes nothing.
-use Prim.Native.Nat.{ℕ, _+_, _*_, _≤_, _<_}
+use Prim.Native.Nat.{ℕ, _*_, _≤_, _<_}
 use mathlib.Core.Path.{_≡_}
-use mathlib.Core.List.{List, [], _∷_, _++_}
-use lib.IntN.{natAbs}
+use mathlib.Core.List.{List}
 use lib.ListN.{length, take}
 use Rattle.lists.specs.Below.{sumBelow, concatBelow}
 use Rattle.lists.specs.Lists.{writeAt}
 use Rattle.rules.specs.Tables.{fault}
 use Rattle.rules.specs.Image.{lengthAt}
-use Rattle.rules.specs.Setting.{sideOf, settingCheck}
-use Rattle.rules.specs.declared.Limit.{Limit}
+use Rattle.rules.specs.Setting.{settingCheck}
 use Rattle.rules.specs.declared.Setting.{Setting}
-use Rattle.grid.specs.Near.{Plain}
-use Rattle.book.specs.Settings.{pairWords, limitWords, settingWords}
-use Rattle.book.specs.Contents.{startOf, contentsOf}
+use Rattle.contents.specs.Settings.{pairWords}
+use Rattle.contents.specs.Contents.{startOf, contentsOf}
 use Rattle.book.specs.Orders.{pageRows, rowOrder, askedOrder}
 use Rattle.book.specs.Rows.{toldLength, rowStart, rowPage}
 use Rattle.book.specs.declared.rows.NextPage.{NextPage}
@@ -45,22 +42,6 @@ pub record Passed (s : Setting) (row : List ℕ) (p i at : ℕ) : Type 0 where
   pub inside : at ≤ length row
   pub none : (j : ℕ) → j < i → fault (pageRows s (rowPage row j)) ≡ 0
 
--- a limit's five words
-pub record Five (l : Limit) (r : List ℕ) : Type 0 where
-  pub words : r ≡ limitWords l
-
--- a setting whose numbers a word each holds
-pub record Wordy (s : Setting) : Type 0 where
-  pub few : s .«num_snakes» < 65536
-  pub plain : Plain (s .«grid_size»)
-  pub side : natAbs (s .«grid_size») ≡ sideOf (s .«grid_size»)
-  pub long : s .«initial_length» < 65536
-  pub fed : s .«initial_food_count» < 65536
-
--- the first 17 words of the contents
-pub record Fronted (s : Setting) (p : ℕ) (old new : List ℕ) : Type 0 where
-  pub words : new ≡ writeAt old 0 (1 ∷ (settingWords s ++ (p ∷ [])))
-
 pub record SettingNumber (s : Setting) (r : ℕ) : Type 0 where
   pub says : r ≡ settingCheck s
 
@@ -74,9 +55,6 @@ pub record RowFits (p : ℕ) (row : List ℕ) : Type 0 where
   pub small : (i : ℕ) → i ≤ p → rowStart row i ≤ 9253 * i
   pub all : rowStart row p ≡ length row
   pub some : length row ≤ 9253 * p
-
-pub record PairWritten (k n : ℕ) (old new : List ℕ) : Type 0 where
-  pub words : new ≡ writeAt old k (pairWords n)
 
 -- the first i starts are written, and the next image stands at `at` in the row
 pub record StartsTo (p : ℕ) (row old : List ℕ) (i at : ℕ) (new : List ℕ) : Type 0 where

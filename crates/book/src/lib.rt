@@ -1,33 +1,21 @@
 // A match book: a table of contents and the state images one after another, written from a row of images and paged through.
-mod contents;
 mod pages;
 mod rows;
-mod settings;
 mod turning;
-mod words;
 mod writer;
 
-pub use pages::find;
+pub use contents::PageFound;
+pub use contents::find;
+pub use contents::setting_in;
 pub use pages::image_fault;
 pub use pages::page_in;
 pub use pages::page_of;
-use rules::Refusal;
-pub use settings::setting_in;
-pub use settings::write_front;
 use turning::page_after;
 use turning::page_before;
-pub use words::pair;
 pub use writer::write;
-pub use writer::write_pair;
 ghost use mathlib.Core.Path.{_≡_};
 ghost use Rattle.book.specs.Promises.{Pages, Hands};
 ghost use Rattle.book.specs.Turning.{pageAfter, pageBefore};
-
-// Where a page lies in its book, in words.
-pub enum PageFound {
-    Part { start: usize, len: usize },
-    Refused(Refusal),
-}
 
 // ---- the reader: it holds the lent book and the page it is at. Opening and turning need no check, since what is read says all.
 

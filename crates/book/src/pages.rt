@@ -1,17 +1,10 @@
-// A page of a book: 40, 41, then 20 and 21 for that page alone. Other pages are not looked at.
-use crate::PageFound;
-use crate::contents::accepted;
-use crate::settings::is_other;
-use crate::settings::setting_in;
-use crate::words::pair;
-use crate::words::word;
+// A page of a whole book: what its contents find, then 20 and 21 for that page alone. Other pages are not looked at.
+use contents::PageFound;
 use rules::Setting;
-ghost use Prim.Native.Nat.{_+_, _<_, _≤_};
+ghost use Prim.Native.Nat.{_+_, _≤_};
 ghost use lib.ListN.{length};
-ghost use Rattle.book.specs.Contents.{pagesIn};
-ghost use Rattle.book.specs.Accepted.{Accepted};
-ghost use Rattle.book.specs.Read.{ImageFault, Ends, Cut};
-ghost use Rattle.book.specs.Promises.{Finds, Pages, Hands};
+ghost use Rattle.book.specs.Read.{ImageFault, Cut};
+ghost use Rattle.book.specs.Promises.{Pages, Hands};
 
 // 20, 21, or 0.
 pub fn image_fault(setting: Setting, image: &[u16]) -> u8
@@ -20,53 +13,11 @@ pub fn image_fault(setting: Setting, image: &[u16]) -> u8
     if !image::well_formed(image) {
         return 20;
     }
-    if is_other(setting, image) {
+    if setting::differs(setting, image) {
         return 21;
     }
     0
 }
-
-// ---- by the contents alone: `contents` is the front of a book of `words` words
-
-// The next start, or the book's end.
-fn end_at(contents: &[u16], words: usize, i: usize) -> usize
-    requires { ⌜ Accepted (now contents) words ⌝ }
-    requires { ⌜ i < pagesIn (now contents) ⌝ }
-    ensures { λ r. ⌜ Ends (now (contents .entry)) words i r ⌝ }
-{
-    if 1 + i < word(contents, 16) {
-        return pair(contents, 17 + 2 * (1 + i));
-    }
-    words
-}
-
-fn find_at(contents: &[u16], words: usize, i: usize) -> PageFound
-    requires { ⌜ Accepted (now contents) words ⌝ }
-    requires { ⌜ i < pagesIn (now contents) ⌝ }
-    ensures { λ r. ⌜ Finds (now (contents .entry)) words i r ⌝ }
-{
-    let start = pair(contents, 17 + 2 * i);
-    let end = end_at(contents, words, i);
-    PageFound::Part {
-        start,
-        len: end - start,
-    }
-}
-
-// Where page `page` lies, or 40, 41. A book that no buffer holds is paged through by its contents and its length.
-pub fn find(contents: &[u16], words: usize, page: u64) -> PageFound
-    ensures { λ r. ⌜ Finds (now (contents .entry)) words page r ⌝ }
-{
-    if !accepted(contents, words) {
-        return PageFound::Refused(refusals::by(40));
-    }
-    if word(contents, 16) as u64 <= page {
-        return PageFound::Refused(refusals::by(41));
-    }
-    find_at(contents, words, page as usize)
-}
-
-// ---- of a whole book
 
 fn cut(book: &[u16], start: usize, len: usize) -> &[u16]
     requires { ⌜ start + len ≤ length (now book) ⌝ }
@@ -79,11 +30,11 @@ fn cut(book: &[u16], start: usize, len: usize) -> &[u16]
 pub fn page_in(book: &[u16], page: u64) -> PageFound
     ensures { λ r. ⌜ Pages (now (book .entry)) page r ⌝ }
 {
-    let found = find(book, book.len(), page);
+    let found = contents::find(book, book.len(), page);
     let PageFound::Part { start, len } = found else {
         return found;
     };
-    let number = image_fault(setting_in(book), cut(book, start, len));
+    let number = image_fault(contents::setting_in(book), cut(book, start, len));
     if number != 0 {
         return PageFound::Refused(refusals::by(number));
     }

@@ -1,6 +1,6 @@
 // The writer's row: images one after the other, each checked where the one before it ends.
 use crate::pages::image_fault;
-use crate::words::word;
+use contents::word;
 use rules::Setting;
 ghost use Prim.Native.Nat.{_+_, _*_, _<_, _≤_};
 ghost use lib.ListN.{length, drop};

@@ -1,13 +1,15 @@
 // The writer: one pass of checks over the row, then 29, then one copy.
 use crate::rows::row_fault;
 use crate::rows::told;
-use crate::settings::write_front;
+use contents::write_front;
+use contents::write_pair;
 use rules::Answer;
 use rules::Setting;
 use rules::Verdict;
 ghost use Prim.Native.Nat.{_+_, _*_, _<_, _≤_};
 ghost use lib.ListN.{length};
-ghost use Rattle.book.specs.Writing.{SettingNumber, Asked, Wordy, RowFits, PairWritten, StartsTo, ContentsWritten};
+ghost use Rattle.book.specs.Writing.{SettingNumber, Asked, RowFits, StartsTo, ContentsWritten};
+ghost use Rattle.contents.specs.Written.{Wordy};
 ghost use Rattle.book.specs.Promises.{Writes};
 
 // ---- the refusals but 29, or 0
@@ -36,14 +38,6 @@ fn refusal(setting: Setting, pages: u64, row: &[u16]) -> u8
 }
 
 // ---- the words
-
-pub fn write_pair(out: &mut [u16], k: usize, n: usize)
-    requires { ⌜ (k + 2 ≤ length (now out)) × (n < 4294967296) ⌝ }
-    ensures { λ _. ⌜ PairWritten k n (now (out .entry)) (now (out .exit)) ⌝ }
-{
-    let words = [(n % 65536) as u16, (n / 65536) as u16];
-    lists::write_at(out, k, &words);
-}
 
 // A start is counted from the book's first word: past the contents, and the images before it. Each image's length is read again from its own
 // contents, since nothing is written before all have passed.

@@ -1,16 +1,16 @@
 // The book of a match. Standard input, a file, is gone over twice: first its lines are taken as the replay takes them and each page's words are counted,
 // then the pages are written behind their contents. What is wrong is said on standard error, in one line.
-mod contents;
 mod messages;
 mod pages;
+mod table;
 mod walk;
 mod words;
 
-use contents::put_contents;
 use libc::SEEK_SET;
 use libc::STDIN_FILENO;
 use messages::tell;
 use rules::Setting;
+use table::put_contents;
 use walk::go_over;
 ghost use Prim.Native.Nat.{_≤_};
 

@@ -141,7 +141,7 @@ pub(crate) fn put_state(
     if contents.len() < 17 {
         return put_unknown(image);
     }
-    let setting = book::setting_in(contents);
+    let setting = contents::setting_in(contents);
     if page == 0 {
         return put_start(setting, image);
     }

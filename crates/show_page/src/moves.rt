@@ -11,7 +11,7 @@ fn is_due(contents: &[u16], page: u64) -> bool {
     if contents.len() < 19 + 2 * i {
         return false;
     }
-    word_in(book::pair(contents, 17 + 2 * i) + 2) != 0
+    word_in(contents::pair(contents, 17 + 2 * i) + 2) != 0
 }
 
 fn count_on(k: u64, due: bool) -> u64

@@ -1,6 +1,6 @@
 // A page of the book, found by its contents and read from the file.
 use crate::file::read_words;
-use book::PageFound;
+use contents::PageFound;
 use lists::word_at;
 ghost use mathlib.Core.Path.{_≡_};
 ghost use Prim.Native.Nat.{_≤_};
@@ -35,7 +35,7 @@ fn fault_of(contents: &[u16], image: &[u16]) -> u8 {
     if contents.len() < 17 {
         return 40;
     }
-    book::image_fault(book::setting_in(contents), image)
+    book::image_fault(contents::setting_in(contents), image)
 }
 
 // The page's image, at the front of a lent buffer that holds any: a longer part is no image.
@@ -48,7 +48,7 @@ pub(crate) fn load(
 ) -> Loaded
     ensures { λ q. ⌜ q .len ≤ length (now (image .exit)) ⌝ }
 {
-    let found = book::find(contents, words, page);
+    let found = contents::find(contents, words, page);
     let PageFound::Part { start, len } = found else {
         return refused(number_of(found));
     };

@@ -45,11 +45,11 @@ use denote.Exit.{yes}
 use denote.Triple.Clauses.{ensured, lasts}
 use Rattle.book.specs.Promises.{Pages}
 use Rattle.book.specs.declared.Reader.{Reader}
-use Rattle.book.specs.declared.PageFound.{PageFound}
+use Rattle.contents.specs.declared.PageFound.{PageFound}
 use Rattle.book.proofs.Reader as T
 use Rattle.book.proofs.Reader.Laws as T′
-use Rattle.book.proofs.PageFound as S
-use Rattle.book.proofs.PageFound.Laws as S′
+use Rattle.contents.proofs.PageFound as S
+use Rattle.contents.proofs.PageFound.Laws as S′
 use Rattle.book.proofs.pages.page_in as page-in
 use Rattle.book.proofs.pages.page_in.Symbol as page-in-def
 use Rattle.book.proofs.pages.page_in.Symbol.{name as #book·page-in}

@@ -1,6 +1,6 @@
 -- `book::pages::page_in` meets its contract: what the contents find, then the page's 20 and 21. Assumes nothing.
 use borrow.Author.Needs.{needs}
-use Rattle.book.proofs.Finding.{part-long, part-inside}
+use Rattle.contents.proofs.Finding.{part-long, part-inside}
 use Rattle.book.proofs.Paging.{page-none, page-refused, page-part}
 use Rattle.book.proofs.pages.page_in.Statement.{statement}
 use Rattle.book.proofs.pages.page_in.Tie as tie
