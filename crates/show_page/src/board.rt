@@ -1,6 +1,6 @@
 // The board, a character a cell and a line a row. Where a cell holds several, the living's heads stand over their bodies, these over corpses, these over
 // food; of two snakes the one with the lower number is seen.
-use crate::pages::food_of;
+use crate::pages::food_in;
 use layout::alive_at;
 use libc::STDOUT_FILENO;
 use lists::word_at;
@@ -99,7 +99,7 @@ fn put_rows(board: &[u8], g: usize) -> bool
 
 pub(crate) fn put_board(image: &[u16]) -> bool {
     let mut board = [b'.'; 1024];
-    mark_all(&mut board, food_of(image), b'*');
+    mark_all(&mut board, food_in(image), b'*');
     mark_layer(&mut board, image, Layer::Corpses);
     mark_layer(&mut board, image, Layer::Bodies);
     mark_layer(&mut board, image, Layer::Heads);

@@ -1,6 +1,6 @@
 // The line of the match that leads from one image to the next, if one does: the draw of the food that is new where food is due, else the move by the
 // headings. Whether it does is found by replaying it.
-use crate::pages::food_of;
+use crate::pages::food_in;
 use layout::heading_at;
 use lists::word_at;
 use printing::put;
@@ -43,7 +43,7 @@ fn put_draw(line: &mut [u8], past: &[u16], image: &[u16]) -> usize
     ensures { λ r. ⌜ r ≤ 32 ⌝ }
 {
     let mut list = [0u16; 1024];
-    let k = new_food(food_of(past), food_of(image), &mut list);
+    let k = new_food(food_in(past), food_in(image), &mut list);
     let rank = arena::rank(past, &list[0..k]);
     let Number::Value(index) = rank else {
         return 0;

@@ -1,7 +1,6 @@
 // A page of the book, found by its contents and read from the file.
 use crate::file::read_words;
 use contents::PageFound;
-use lists::word_at;
 ghost use mathlib.Core.Path.{_≡_};
 ghost use Prim.Native.Nat.{_≤_};
 ghost use lib.ListN.{length};
@@ -73,11 +72,10 @@ pub(crate) fn load(
     }
 }
 
-// The food is an image's last words.
-pub(crate) fn food_of(image: &[u16]) -> &[u16] {
-    let k = word_at(image, 4) as usize;
-    if image.len() < k {
+// The food of an image; empty where it is none.
+pub(crate) fn food_in(image: &[u16]) -> &[u16] {
+    if !image::well_formed(image) {
         return &image[0..0];
     }
-    &image[image.len() - k..]
+    image::food_of(image)
 }
