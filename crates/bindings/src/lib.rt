@@ -1,5 +1,5 @@
-// The calls for C and Rust programs: every public call of `arena`, and the writer and the page of `book`, as an exported function over numbers, slices of numbers
-// and flat records. `clients/c/lundaspro.h` declares the same records and functions. No call has a `requires`.
+// The calls for C and Rust programs: every public call of `arena`, and a book's writer and page, as an exported function over numbers,
+// slices of numbers and flat records. `clients/c/lundaspro.h` declares the same records and functions. No call has a `requires`.
 mod answers;
 mod books;
 mod chances;
