@@ -13,10 +13,12 @@ use Rattle.rules.specs.Tables.{by, fault}
 use Rattle.rules.specs.Says.{Says, refuses, gives, first, says, seen}
 use Rattle.rules.specs.declared.Setting.{Setting}
 use Rattle.rules.specs.declared.Answer.{Answer}
-use Rattle.book.specs.Contents.{bookOf}
+use Rattle.contents.specs.Orders.{layoutRows, startRows, contentsOrder, findOrder}
+use Rattle.contents.specs.Calls.{Span}
+use Rattle.book.specs.Book.{bookOf}
 use Rattle.book.specs.Rows.{rowPage}
-use Rattle.book.specs.Orders.{layoutRows, startRows, contentsOrder, readOrder, askedOrder}
-use Rattle.book.specs.Calls.{Span, writeSays, pageSays, partAt}
+use Rattle.book.specs.Orders.{readOrder, askedOrder}
+use Rattle.book.specs.Calls.{writeSays, pageSays, partAt}
 use Rattle.book.specs.Promises.{Writes}
 use Rattle.book.proofs.Booked.{write-says}
 use Rattle.bindings.specs.declared.FlatWritten.{FlatWritten}
@@ -46,7 +48,7 @@ write-named s p row room =
     rw (write-says s p row room) (first-named (fault (askedOrder s p row)) _ (room-named (ltb room (length (bookOf s p (rowPage row)))) (bookOf s p (rowPage row))))
 
 pub page-named : (b : List ℕ) (i : ℕ) → named (pageSays b i) ≡ true
-unfolding pageSays readOrder contentsOrder layoutRows startRows all
+unfolding pageSays readOrder findOrder contentsOrder layoutRows startRows all
 page-named b i = table-named (readOrder b i) _ refl
 
 -- ---- the flat form, read again, is what was said

@@ -8,7 +8,8 @@ use Rattle.lists.specs.Choice.{_if_else_}
 use Rattle.rules.specs.Tables.{by}
 use Rattle.rules.specs.Says.{Says, refuses, gives, seen, lent}
 use Rattle.rules.specs.declared.Setting.{Setting}
-use Rattle.book.specs.Calls.{Span, writeSays}
+use Rattle.contents.specs.Calls.{Span}
+use Rattle.book.specs.Calls.{writeSays}
 use Rattle.bindings.specs.declared.FlatWritten.{FlatWritten}
 use Rattle.bindings.specs.declared.FlatPage.{FlatPage}
 use Rattle.bindings.specs.Flat.{flatWritten}

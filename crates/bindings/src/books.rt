@@ -4,9 +4,10 @@ use crate::FlatSetting;
 use crate::FlatWritten;
 use crate::answers::written;
 use crate::readings::setting_in;
-use book::PageFound;
+use contents::PageFound;
 ghost use mathlib.Core.Path.{_≡_};
-ghost use Rattle.book.specs.Calls.{pageSays, saysPage};
+ghost use Rattle.contents.specs.Calls.{saysPage};
+ghost use Rattle.book.specs.Calls.{pageSays};
 ghost use Rattle.bindings.specs.Flat.{settingIn};
 ghost use Rattle.bindings.specs.FlatBooks.{flatPage, FlatWrites};
 
