@@ -13,10 +13,12 @@
 //! ```
 //!
 //! Everything here owns its memory; module [`lend`] has the same calls over the caller's slices.
+mod book;
 pub mod lend;
 mod raw;
 mod refusal;
 
+pub use book::{book_words, Book, Pages};
 pub use refusal::Refusal;
 
 /// An image has at most this many words.
@@ -26,7 +28,7 @@ pub const LIST_WORDS: usize = 20;
 /// An observation has at most this many numbers.
 pub const PLANE_NUMBERS: usize = 5120;
 
-/// A match's setting, by the names of the Rust's `Snake`. No call reads `max_ticks`.
+/// A match's setting, by the names of the Rust's `Snake`. Only [`Setting::write_book`] reads `max_ticks`.
 #[derive(Clone, Copy, Debug, Default, PartialEq, Eq)]
 pub struct Setting {
     pub num_snakes: u64,

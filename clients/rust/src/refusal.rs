@@ -44,6 +44,12 @@ impl Refusal {
             29 => "an output buffer shorter than its answer",
             30 => "list to rank: wrong length, a cell not free, or repeated",
             31 => "a reward weight not finite",
+            40 => {
+                "contents cut short, off their layout or with a refused setting, starts not rising from right after the contents, \
+                 one outside the book, or words left in a book of no pages"
+            }
+            41 => "no such page",
+            42 => "above 65,535 pages",
             _ => "no number that a call gives",
         }
     }

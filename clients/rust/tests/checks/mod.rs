@@ -17,6 +17,9 @@ pub const ALL: &[(&str, fn())] = &[
     ("turns", turns),
     ("events_as_numbers", events_as_numbers),
     ("spaces", spaces),
+    ("books", books),
+    ("refused_books", refused_books),
+    ("lent_books", lent_books),
     ("sentences", sentences),
 ];
 
@@ -515,6 +518,120 @@ fn spaces() {
     assert_eq!(number(observation_space(0)), 5);
     assert_eq!(number(observation_space(33)), 5);
     assert_eq!(action_space(), Ok(Space::Discrete(3)));
+}
+
+// A match's setting and the images of its states.
+fn played() -> (Setting, Vec<Image>) {
+    let set = Setting {
+        max_ticks: Some(u64::MAX - 1),
+        ..setting(2, 3, 1, 1)
+    };
+    let start = set.initial_state().unwrap();
+    let drawn = start.draw(2).unwrap().next;
+    let moved = drawn.step(&set, &[0, 0]).unwrap().next;
+    (set, vec![start, drawn, moved])
+}
+
+fn books() {
+    let (set, images) = played();
+    let book = set.write_book(&images).unwrap();
+    let all: usize = images.iter().map(|image| image.words().len()).sum();
+    assert_eq!((book.len(), book.words().len()), (3, book_words(3, all)));
+    // max_ticks: a flag and four words, lowest first; three pages, the first right after the contents
+    assert_eq!(
+        book.words()[11..19],
+        [1, 65534, 65535, 65535, 65535, 3, 23, 0]
+    );
+    for (i, image) in images.iter().enumerate() {
+        assert_eq!(book.page(i as u64), Ok(image.words()));
+    }
+    let there: Vec<&[u16]> = book.pages().map(Result::unwrap).collect();
+    let words: Vec<&[u16]> = images.iter().map(Image::words).collect();
+    assert_eq!(there, words);
+    let mut pages = book.pages();
+    assert_eq!((pages.len(), pages.next_back()), (3, Some(Ok(words[2]))));
+    assert_eq!((pages.nth(1), pages.next()), (Some(Ok(words[1])), None));
+    let opened = Book::open(book.words().to_vec()).unwrap();
+    assert_eq!((opened.page(2), opened == book), (Ok(words[2]), true));
+    let mut steps = 0;
+    for page in &opened {
+        steps += usize::from(lend::step(&set, page.unwrap(), &[0, 0], &mut [0; 30]).is_ok());
+    }
+    assert_eq!(steps, 2);
+    let none = set.write_book(&[]).unwrap();
+    assert_eq!((none.is_empty(), none.words().len()), (true, 17));
+    assert_eq!((none.pages().count(), number(none.page(0))), (0, 41));
+}
+
+fn refused_books() {
+    let (set, images) = played();
+    let other = image(4, 0, 0, &[alive(0, &[2]), alive(0, &[3])], &[]);
+    let bad = Image::unchecked(vec![2, 3, 0]);
+    let with = |more: &[&Image]| -> Vec<Image> {
+        images.iter().chain(more.iter().copied()).cloned().collect()
+    };
+    assert_eq!(number(setting(2, 3, 0, 1).write_book(&with(&[&bad]))), 2);
+    assert_eq!(number(set.write_book(&vec![bad.clone(); 65536])), 42);
+    assert_eq!(number(set.write_book(&with(&[&other, &bad]))), 21);
+    assert_eq!(number(set.write_book(&with(&[&bad, &other]))), 20);
+    // two parts that only together are an image
+    let (front, back) = images[0].words().split_at(7);
+    let parts = [front, back].map(|words| Image::unchecked(words.to_vec()));
+    assert_eq!(number(set.write_book(&parts)), 20);
+    let book = set.write_book(&images).unwrap();
+    assert_eq!(number(book.page(3)), 41);
+    assert_eq!(number(book.page(u64::MAX)), 41);
+    // every word of the contents at its limit, and every length that cuts them or the last page's start
+    for i in 0..23 {
+        let mut words = book.words().to_vec();
+        words[i] = 65535;
+        // a set limit's own words may be any
+        assert_eq!(Book::open(words).is_ok(), (12..16).contains(&i), "word {i}");
+    }
+    let last = book.words().len() - images[2].words().len();
+    for cut in 0..book.words().len() {
+        let opened = Book::open(book.words()[..cut].to_vec());
+        assert_eq!(opened.as_ref().is_ok(), last < cut, "cut at {cut}");
+        assert_eq!(
+            opened.map_or(40, |book| number(book.page(2))),
+            if last < cut { 20 } else { 40 }
+        );
+    }
+    // a damaged page is refused alone
+    let mut words = book.words().to_vec();
+    words[last - 1] = 9;
+    let pages: Vec<u8> = Book::open(words)
+        .unwrap()
+        .pages()
+        .map(|page| page.map_or_else(Refusal::number, |_| 0))
+        .collect();
+    assert_eq!(pages, [0, 20, 0]);
+    let mut words = book.words().to_vec();
+    words[2] = 4;
+    assert_eq!(number(Book::open(words).unwrap().page(0)), 21);
+}
+
+// 29 one word short of the book; nothing is written, and words past it stay. A page is the lent book's own words.
+fn lent_books() {
+    let (set, images) = played();
+    let row: Vec<u16> = images.iter().flat_map(Image::words).copied().collect();
+    let need = book_words(3, row.len());
+    let mut out = vec![9; need + 2];
+    assert_eq!(
+        number(lend::write_book(&set, 3, &row, &mut out[..need - 1])),
+        29
+    );
+    assert!(out.iter().all(|&word| word == 9));
+    assert_eq!(lend::write_book(&set, 3, &row, &mut out), Ok(need));
+    assert_eq!(out[need..], [9; 2]);
+    assert_eq!(&out[..need], set.write_book(&images).unwrap().words());
+    let page = lend::page(&out[..need], 1).unwrap();
+    let start = 23 + images[0].words().len();
+    assert_eq!(page.as_ptr(), out[start..].as_ptr());
+    assert_eq!(page, images[1].words());
+    assert_eq!(number(lend::write_book(&set, 2, &row, &mut out)), 20);
+    assert_eq!(number(lend::write_book(&set, 4, &row, &mut out)), 20);
+    assert_eq!(number(lend::page(&[], 0)), 40);
 }
 
 fn sentences() {
