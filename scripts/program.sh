@@ -1,6 +1,6 @@
 # shellcheck shell=sh disable=SC2154
-# The port's programs, for play and probe: proved and built where they are missing or a source has changed, run as the kit runs them.
-# It is sourced, with `root` (the repository) and `self` (the command that messages name).
+# The port's programs, for the commands beside it (play, probe): proved and built where they are missing or a source has changed, run as the
+# kit runs them. It is sourced, with `root` (the repository) and `self` (the command that messages name); a command calls `build NAME`, then `run NAME`.
 
 tell() { printf '%s: %s\n' "$self" "$*" >&2; }
 die() { tell "$*"; exit 2; }
@@ -13,53 +13,16 @@ find_kit() {
 }
 
 # Becomes the program. Programs are made for x86-64: the kit's loader runs them, elsewhere under its emulator.
-run() { # NAME
-    set -- "$tools/lib/ld-linux-x86-64.so.2" --library-path "$tools/lib" "$root/target/bin/$1"
+run() { # NAME [WORD..]
+    bin=$root/target/bin/$1
+    shift
+    set -- "$tools/lib/ld-linux-x86-64.so.2" --library-path "$tools/lib" "$bin" "$@"
     [ ! -x "$tools/bin/qemu-x86_64" ] || set -- "$tools/bin/qemu-x86_64" "$@"
     exec "$@"
 }
 
-# What programs are proved from: the kit, crates.txt and all files of the crates.
-sources() { (cd "$root" && rt version && find crates.txt crates -type f -exec sha256sum {} + | LC_ALL=C sort) | sha256sum; }
-
-# The last proof was of these sources and left this program. `rt check` would say so too, in a second; this is quicker, and writes nothing.
-is_built() { # NAME
-    program=$root/target/bin/$1 built=$root/target/$1.built
-    now=$(sources)
-    [ -x "$program" ] && [ -r "$built" ] && [ "$(cat "$built")" = "$now $(sha256sum <"$program")" ]
-}
-
-# No match is replayed by rules of yesterday: the program is proved and built again where its sources have changed. One at a time, as two
-# proofs in one folder would write over each other.
-build() { # NAME
-    find_kit
-    ! is_built "$1" || return 0
-    mkdir -p "$root/target" && [ -w "$root/target" ] || die "cannot write in $root/target"
-    exec 9>"$root/target/building"
-    if command -v flock >/dev/null 2>&1; then
-        flock -n 9 || { tell "waiting for another command that builds here"; flock 9; }
-    fi
-    is_built "$1" || prove "$1"
-    exec 9>&-
-}
-
-prove() { # NAME
-    log=$root/target/$1.log
-    # rt looks at the sources alone: without its stamp it makes the program again
-    [ -x "$program" ] || rm -f "$root/target/stamp/$1"
-    tell "proving and building $1; from nothing this takes some minutes"
-    # shellcheck disable=SC2046
-    {
-        status=0
-        (cd "$root" && rt check "$1") 2>&1 || status=$?
-        echo "status $status"
-    } | watch "$log" $(plan "$1") || die "$1 is not proved ($(grep '^rt: ' "$log" | tail -n 1)); what the prover said is in $log"
-    [ -x "$program" ] || die "$1 was proved and not built; what the prover said is in $log"
-    printf '%s\n' "$now $(sha256sum <"$program")" >"$built"
-}
-
-# NAME and what it stands on, in the order in which `rt check` proves them.
-plan() { # NAME
+# NAME and the crates that it stands on, in the order in which `rt check` proves them.
+needed_by() { # NAME
     awk -v name="$1" '
         function visit(n,    k, part, i, high) {
             if (n in level) return
@@ -81,30 +44,90 @@ plan() { # NAME
         }' "$root/crates.txt"
 }
 
-# Writes what rt says to LOG and shows how far it is: a line that renews itself on a terminal, a line for each crate elsewhere.
-watch() { # LOG CRATE.., and rt's lines on standard input, its status last
-    log=$1 status=2
-    shift
-    of=$#
+# The sum of what NAME is proved from: the kit, crates.txt and the files of the crates that it needs.
+sum_of_sources() { # NAME
+    (
+        cd "$root" && rt version && sha256sum <crates.txt
+        for crate in $(needed_by "$1"); do find "crates/$crate" -type f -exec sha256sum {} +; done | LC_ALL=C sort
+    ) | sha256sum
+}
+sum_of_program() { sha256sum <"$program"; }
+
+# The last proof was of these sources and left this very program. `rt check` would tell as much of the sources; this is quicker, and writes nothing.
+is_built() { # NAME
+    program=$root/target/bin/$1 record=$root/target/$1.built
+    now=$(sum_of_sources "$1")
+    [ -x "$program" ] && [ -r "$record" ] && [ "$(cat "$record")" = "$now $(sum_of_program)" ]
+}
+
+# No match is replayed by rules of yesterday: the program is proved and built again where its sources have changed. One command at a time, as two
+# proofs in one folder would write over each other.
+build() { # NAME
+    find_kit
+    ! is_built "$1" || return 0
+    mkdir -p "$root/target" 2>/dev/null || true
+    [ -w "$root/target" ] || die "cannot write in $root/target"
+    {
+        if command -v flock >/dev/null 2>&1; then
+            flock -n 9 || { tell "waiting for another command that builds here"; flock 9; }
+        fi
+        is_built "$1" || prove "$1"
+    } 9>"$root/target/building"
+}
+
+prove() { # NAME
+    log=$root/target/$1.log
+    # rt looks at the sources alone. Without its stamp it makes a program again: one that is gone, or is not what these sources gave
+    case $(cat "$record" 2>/dev/null) in "$now "*) rm -f "$root/target/stamp/$1" ;; esac
+    [ -x "$program" ] || rm -f "$root/target/stamp/$1"
     : >"$log"
-    show_next "$@"
-    while IFS= read -r line; do
-        case $line in "status "*) status=${line#status } ;; esac
-        printf '%s\n' "$line" >>"$log"
-        case $line in "rt: "*) said=${line#rt: } left=$# ;; *) continue ;; esac
-        for crate; do
-            shift
-            [ "$crate" = "${said%% *}" ] || set -- "$@" "$crate"
-        done
-        [ $# -eq "$left" ] || show_next "$@"
-    done
+    # shellcheck disable=SC2046
+    show_progress "$1" "$log" $(needed_by "$1") 9>&- &
+    shower=$! status=0
+    trap 'kill "$shower" 2>/dev/null; exit 130' HUP INT TERM
+    (cd "$root" && rt check "$1") >"$log" 2>&1 || status=$?
+    trap - HUP INT TERM
+    kill "$shower" 2>/dev/null || true
+    wait "$shower" 2>/dev/null || true
     ! renews || printf '\r\033[K' >&2
-    return "$status"
+    [ "$status" -eq 0 ] || die "$1 is not proved ($(grep '^rt: ' "$log" | tail -n 1)); what the prover said is in $log"
+    [ -x "$program" ] || die "$1 was proved and not built; what the prover said is in $log"
+    printf '%s\n' "$now $(sum_of_program)" >"$record"
+}
+
+# Every second, how far the proof is: on a terminal in a line that renews itself, elsewhere in a line for each crate. It waits a second more at
+# first: what was proved before is passed over meanwhile, and is not shown.
+show_progress() { # NAME LOG CRATE..
+    name=$1 log=$2 shown='' seconds=1
+    shift 2
+    sleep 1 >/dev/null 2>&1
+    while sleep 1 >/dev/null 2>&1 && kill -0 $$ 2>/dev/null; do
+        seconds=$((seconds + 1))
+        at=$(being_proved "$log" "$@")
+        [ -n "$at" ] || continue
+        [ -n "$shown" ] || tell "$name is proved and built before it runs; from nothing this takes some minutes"
+        if renews; then
+            printf '\r\033[K%s: proving %s (%d s)' "$self" "$at" "$seconds" >&2
+        elif [ "$at" != "$shown" ]; then
+            tell "proving $at"
+        fi
+        shown=$at
+    done
 }
 renews() { [ -t 2 ] && [ "${TERM:-dumb}" != dumb ]; }
-show_next() { # the crates that are not yet proved
-    [ $# -gt 0 ] || return 0
-    if renews; then printf '\r\033[K' >&2; fi
-    printf '%s: proving %d of %d: %s' "$self" $((of - $# + 1)) "$of" "$1" >&2
-    renews || echo >&2
+
+# `5 of 17: image`, the first crate of which rt has not yet said how it went.
+being_proved() { # LOG CRATE..
+    log=$1
+    shift
+    awk -v crates="$*" '
+        $1 == "rt:" { told[$2] = 1 }
+        END {
+            n = split(crates, crate, " ")
+            for (i = 1; i <= n; i++) if (crate[i] in told) done++
+            for (i = 1; i <= n; i++) if (!(crate[i] in told)) {
+                print done + 1 " of " n ": " crate[i]
+                exit
+            }
+        }' "$log"
 }

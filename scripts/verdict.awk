@@ -74,23 +74,24 @@ function refused(no,    more) {
     return 3
 }
 
+# tests/sentences holds these to the clients'
 function sentence(no,    s) {
     s[1] = "snakes not 2..8"
     s[2] = "initial length 0"
     s[3] = "food lead 0"
     s[4] = "food lead set, snakes not 2"
     s[5] = "grid above 32"
-    s[6] = "food above the grid's cells"
+    s[6] = "food above g*g (0 when g < 0)"
     s[7] = "food above 10,000"
     s[8] = "g*g(g*g-1).. of min(snakes, food) factors above 2^53"
     s[9] = "some body cannot be traced to its length"
-    s[10] = "a snake's cell outside the grid"
-    s[11] = "a snake's cell already taken"
+    s[10] = "first bad cell: outside"
+    s[11] = "first bad cell: already taken"
     s[12] = "food above the free cells"
-    s[22] = "food is due at a move"
-    s[23] = "no food is due at a draw"
+    s[22] = "food is due at a step"
+    s[23] = "none is due at a draw"
     s[25] = "a living snake's action above 2"
-    s[27] = "index not below the count"
+    s[27] = "outcome not below the count"
     s[32] = "unreadable line"
     s[33] = "match over"
     return no in s ? s[no] : "README.md lists it"
@@ -124,7 +125,7 @@ function settings(no,    of, n, k, f, i, names, said) {
     return said
 }
 
-function fields(names) { return split("snakes grid length play_to_last lead food max_ticks", names, " ") }
+function fields(names) { return split("num_snakes grid_size initial_length play_to_last win_food_lead initial_food_count max_ticks", names, " ") }
 
 # ---- the bytes of the refused line: b[1] to b[len], without the newline; `had` where there is such a line
 
@@ -200,9 +201,9 @@ function number(c, name, kind, most, limit,    e) {
 function decimal(c, name, kind) { return number(c, name, kind, "18446744073709551615", "not below 2^64") }
 
 function grid(c) {
-    if (byte(c) != 45) return number(c, "grid", "a number", "2147483647", "not below 2^31")
-    if (byte(c + 1) == 48) fail(c, "grid's minus sign stands before a nonzero number alone")
-    return number(c + 1, "grid", "a number", "2147483648", "below -2^31")
+    if (byte(c) != 45) return number(c, "grid_size", "a number", "2147483647", "not below 2^31")
+    if (byte(c + 1) == 48) fail(c, "grid_size's minus sign stands before a nonzero number alone")
+    return number(c + 1, "grid_size", "a number", "2147483648", "below -2^31")
 }
 
 function flag(c,    e) {
