@@ -172,7 +172,7 @@ function unexpected(c, expected) {
 }
 
 function found(c) {
-    if (c > len) return "the end of the line"
+    if (c > len) return "the end of the line" (byte(len) == 32 ? ", after a space" : "")
     if (byte(c) == 32) return "a space"
     if (byte(c) == 9) return "a tab"
     if (byte(c) == 13) return "a carriage return"

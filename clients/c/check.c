@@ -110,12 +110,23 @@ static void every_other_call(void) {
     CHECK(none.refusal == 5 && !none.discrete && none.count == 0);
 }
 
+/* A sentence for each number that a call gives, and for no other. */
+static void sentences(void) {
+    const char *none = lundaspro_sentence(0);
+    for (int i = 1; i < 256; i++) {
+        bool named = (i >= 1 && i <= 12) || (i >= 20 && i <= 31);
+        CHECK((strcmp(lundaspro_sentence((uint8_t)i), none) != 0) == named);
+    }
+    CHECK(strcmp(lundaspro_sentence(lundaspro_count(image, 13).refusal), "image not well-formed") == 0);
+}
+
 int main(void) {
     short_events();
     other_bits();
     nan_weights();
     bodies();
     every_other_call();
+    sentences();
     printf("%d checks passed\n", checks);
     return 0;
 }

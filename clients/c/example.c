@@ -1,5 +1,5 @@
-/* A small match: a setting, its start, draws and moves, each line as the replay program prints it, then what one agent sees.
- * Every answer is taken apart the same way: refusal first. */
+/* A small match: a setting, its start, draws and moves, each line as the replay program prints it, with the board below it; then what one
+ * agent sees. Every answer is taken apart the same way: refusal first. */
 #include <stdio.h>
 
 #include "lundaspro.h"
@@ -10,7 +10,7 @@ static float planes[LUNDASPRO_PLANE_NUMBERS];
 static size_t words;
 
 static int refused(uint8_t number) {
-    printf("r %d\n", number);
+    printf("r %d: %s\n", number, lundaspro_sentence(number));
     return 1;
 }
 
@@ -29,6 +29,35 @@ static void put_event(uint16_t event) {
         if (event & bits[i]) putchar("kwlxy"[i]);
 }
 
+static char board[32 * 32];
+
+static void put(size_t start, size_t count, int letter) {
+    for (size_t i = 0; i < count; i++) board[image[start + i]] = (char)letter;
+}
+
+static bool alive(unsigned snake) { return image[8 + 4 * snake] == 1; }
+
+/* The board, a row a line: A to H the heads of snakes 0 to 7, a to h the rest of their bodies, x a dead snake, * food. Where several share a
+ * cell, what is shown first is put last: heads, then bodies, then the dead, the lower number first. */
+static void show_board(void) {
+    unsigned snakes = image[0], side = image[1];
+    for (unsigned i = 0; i < side * side; i++) board[i] = '.';
+    put(words - image[4], image[4], '*');
+    for (unsigned i = snakes; i-- > 0;) {
+        lundaspro_part body = lundaspro_body(image, words, i);
+        if (!alive(i)) put(body.start, body.len, 'x');
+    }
+    for (unsigned i = snakes; i-- > 0;) {
+        lundaspro_part body = lundaspro_body(image, words, i);
+        if (alive(i)) put(body.start, body.len, 'a' + (int)i);
+    }
+    for (unsigned i = snakes; i-- > 0;) {
+        lundaspro_part body = lundaspro_body(image, words, i);
+        if (alive(i)) put(body.start, 1, 'A' + (int)i);
+    }
+    for (unsigned i = 0; i < side * side; i++) printf("%c%c", board[i], i % side == side - 1 ? '\n' : ' ');
+}
+
 /* Words 0 to 4 are snakes, side, food due, birth, food count; then four words for each snake. */
 static void show(char letter, bool terminal) {
     printf("%c %d %d %d", letter, terminal, image[2], image[4]);
@@ -41,6 +70,7 @@ static void show(char letter, bool terminal) {
         put_event(events[i]);
     }
     putchar('\n');
+    show_board();
 }
 
 static int draw(uint64_t index) {
