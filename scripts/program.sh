@@ -13,7 +13,8 @@ find_kit() {
 }
 
 # Becomes the program. Programs are made for x86-64: the kit's loader runs them, elsewhere under its emulator.
-run() { # NAME [WORD..]
+run() { # NAME [ARGUMENT..]
+    [ -n "${tools:-}" ] || find_kit
     bin=$root/target/bin/$1
     shift
     set -- "$tools/lib/ld-linux-x86-64.so.2" --library-path "$tools/lib" "$bin" "$@"
@@ -76,24 +77,29 @@ build() { # NAME
 }
 
 prove() { # NAME
-    log=$root/target/$1.log
+    log=$root/target/$1.log status=0
     # rt looks at the sources alone. Without its stamp it makes a program again: one that is gone, or is not what these sources gave
     case $(cat "$record" 2>/dev/null) in "$now "*) rm -f "$root/target/stamp/$1" ;; esac
     [ -x "$program" ] || rm -f "$root/target/stamp/$1"
-    : >"$log"
-    # shellcheck disable=SC2046
-    show_progress "$1" "$log" $(needed_by "$1") 9>&- &
-    shower=$! status=0
-    trap 'kill "$shower" 2>/dev/null; exit 130' HUP INT TERM
-    (cd "$root" && rt check "$1") >"$log" 2>&1 || status=$?
-    trap - HUP INT TERM
-    kill "$shower" 2>/dev/null || true
-    wait "$shower" 2>/dev/null || true
-    ! renews || printf '\r\033[K' >&2
+    check_shown "$1" "$log" || status=$?
     [ "$status" -eq 0 ] || die "$1 is not proved ($(grep '^rt: ' "$log" | tail -n 1)); what the prover said is in $log"
     [ -x "$program" ] || die "$1 was proved and not built; what the prover said is in $log"
     printf '%s\n' "$now $(sum_of_program)" >"$record"
 }
+
+# `rt check NAME`: its lines go to LOG, how far it is to standard error. In a shell of its own, so that a command's traps stay as they are.
+check_shown() ( # NAME LOG
+    : >"$2"
+    # shellcheck disable=SC2046
+    show_progress "$1" "$2" $(needed_by "$1") 9>&- &
+    shower=$! status=0
+    trap 'kill "$shower" 2>/dev/null; exit 130' HUP INT TERM
+    (cd "$root" && rt check "$1") >"$2" 2>&1 || status=$?
+    kill "$shower" 2>/dev/null
+    wait "$shower" 2>/dev/null
+    ! renews || printf '\r\033[K' >&2
+    exit "$status"
+)
 
 # Every second, how far the proof is: on a terminal in a line that renews itself, elsewhere in a line for each crate. It waits a second more at
 # first: what was proved before is passed over meanwhile, and is not shown.

@@ -37,15 +37,15 @@ static void put(size_t start, size_t count, int letter) {
 
 static bool alive(unsigned snake) { return image[8 + 4 * snake] == 1; }
 
-/* The board, a row a line: A to H the heads of snakes 0 to 7, a to h the rest of their bodies, x a dead snake, * food. Where several share a
- * cell, what is shown first is put last: heads, then bodies, then the dead, the lower number first. */
+/* The board, a line a row and a character a cell: A to H the heads of the living snakes 0 to 7, a to h the rest of their bodies, 0 to 7 a
+ * corpse, * food. What stands over the rest is put last: heads, below them bodies, corpses, food, and a lower snake over a higher one. */
 static void show_board(void) {
     unsigned snakes = image[0], side = image[1];
     for (unsigned i = 0; i < side * side; i++) board[i] = '.';
     put(words - image[4], image[4], '*');
     for (unsigned i = snakes; i-- > 0;) {
         lundaspro_part body = lundaspro_body(image, words, i);
-        if (!alive(i)) put(body.start, body.len, 'x');
+        if (!alive(i)) put(body.start, body.len, '0' + (int)i);
     }
     for (unsigned i = snakes; i-- > 0;) {
         lundaspro_part body = lundaspro_body(image, words, i);
@@ -55,7 +55,7 @@ static void show_board(void) {
         lundaspro_part body = lundaspro_body(image, words, i);
         if (alive(i)) put(body.start, 1, 'A' + (int)i);
     }
-    for (unsigned i = 0; i < side * side; i++) printf("%c%c", board[i], i % side == side - 1 ? '\n' : ' ');
+    for (unsigned row = 0; row < side; row++) printf("%.*s\n", (int)side, board + row * side);
 }
 
 /* Words 0 to 4 are snakes, side, food due, birth, food count; then four words for each snake. */

@@ -42,8 +42,9 @@ impl Image {
     }
 }
 
-/// The board, a row a line: `A` to `H` the heads of snakes 0 to 7, `a` to `h` the rest of their bodies, `x` a dead snake, `*` food, `.` a free
-/// cell. Where several share a cell, a living head is shown before a living body, that before a dead one, and the lower number before the higher.
+/// The board, a line a row and a character a cell: `A` to `H` the heads of the living snakes 0 to 7, `a` to `h` the rest of their bodies, `0` to
+/// `7` a corpse, `*` food, `.` a free cell. Where a cell holds several, a head stands over bodies, these over corpses, these over food, and a
+/// lower snake over a higher one.
 impl fmt::Display for Image {
     fn fmt(&self, f: &mut fmt::Formatter<'_>) -> fmt::Result {
         let side = usize::from(self.grid());
@@ -51,7 +52,7 @@ impl fmt::Display for Image {
             return f.write_str("no board: image not well-formed");
         }
         let mut board = vec![b'.'; side * side];
-        // what is shown first is put last
+        // what stands over the rest is put last
         let (living, dead): (Vec<u64>, Vec<u64>) = (0..u64::from(self.snakes()))
             .rev()
             .partition(|&snake| self.alive(snake));
@@ -62,7 +63,7 @@ impl fmt::Display for Image {
         };
         put(self.food(), b'*');
         for snake in dead {
-            put(self.body(snake), b'x');
+            put(self.body(snake), b'0' + snake as u8);
         }
         for &snake in &living {
             put(self.body(snake), b'a' + snake as u8);
@@ -72,8 +73,7 @@ impl fmt::Display for Image {
         }
         let rows: Vec<String> = board
             .chunks(side)
-            .map(|row| row.iter().map(|&letter| char::from(letter)))
-            .map(|row| row.map(String::from).collect::<Vec<_>>().join(" "))
+            .map(|row| row.iter().map(|&letter| char::from(letter)).collect())
             .collect();
         f.write_str(&rows.join("\n"))
     }

@@ -9,7 +9,7 @@
 //! let drawn = start.draw(2)?.next;
 //! let moved = drawn.step(&setting, &[Forward, Forward])?.next;
 //! let eaten = moved.step(&setting, &[TurnLeft, Forward])?;
-//! assert_eq!(eaten.next.to_string(), ". . A\nB . a\n. . .");
+//! assert_eq!(eaten.next.to_string(), "..A\nB.a\n...");
 //! assert_eq!((eaten.next.head(0), eaten.next.due(), eaten.terminal), (Some(2), 1, false));
 //! assert_eq!(eaten.events[0].to_string(), "a");
 //! # Ok::<(), Refusal>(())

@@ -515,26 +515,28 @@ fn sentences() {
 
 fn boards() {
     let start = setting(2, 3, 1, 1).initial_state().unwrap();
-    assert_eq!(start.to_string(), ". . .\n. A B\n. . .");
+    assert_eq!(start.to_string(), "...\n.AB\n...");
     let drawn = start.draw(2).unwrap().next;
-    assert_eq!(drawn.to_string(), ". . *\n. A B\n. . .");
-    // several on a cell: C's head over B's body, B's head over the corpse and the food
-    let corpse = Snake {
+    assert_eq!(drawn.to_string(), "..*\n.AB\n...");
+    // several on a cell: D's head over C's body, C's head over a corpse and food, a corpse over food and over the next
+    let corpse = |body| Snake {
         heading: 0,
         alive: 0,
-        body: &[4, 5, 8],
+        body,
     };
-    let heap = [corpse, alive(0, &[8, 7]), alive(0, &[7])];
-    let heap = image(3, 0, 0, &heap, &[0, 8]);
-    assert_eq!(heap.to_string(), "* . .\n. x x\n. C B");
+    let heap = [
+        corpse(&[4, 5, 8]),
+        corpse(&[3, 4]),
+        alive(0, &[8, 7]),
+        alive(0, &[7]),
+    ];
+    let heap = image(3, 0, 0, &heap, &[0, 5, 8]);
+    assert_eq!(heap.to_string(), "*..\n100\n.DC");
     let eight: Vec<Snake> = [[0], [1], [2], [3], [4], [5], [6], [7]]
         .iter()
         .map(|body| alive(0, body))
         .collect();
-    assert_eq!(
-        image(3, 0, 0, &eight, &[]).to_string(),
-        "A B C\nD E F\nG H ."
-    );
+    assert_eq!(image(3, 0, 0, &eight, &[]).to_string(), "ABC\nDEF\nGH.");
 }
 
 fn what_an_image_shows() {
@@ -558,13 +560,32 @@ fn what_an_image_shows() {
 }
 
 fn events_as_letters() {
-    let all = Event::from_number(127 + 256);
-    assert_eq!(all.to_string(), "aWkwlxy");
-    assert_eq!(Event::default().to_string(), "-");
-    assert_eq!(format!("{:>3}|", Event::default()), "  -|");
-    for (cause, letter) in [(1, "W"), (2, "S"), (3, "O"), (4, "H")] {
-        assert_eq!(Event::from_number(256 * cause + 2).to_string(), letter);
-    }
+    let blank = Event::default();
+    let all = Event {
+        ate_food: true,
+        died: true,
+        death_cause: Some(Cause::Wall),
+        killed_opponent: true,
+        won: true,
+        lost: true,
+        drew: true,
+        survived_to_max_ticks: true,
+    };
+    assert_eq!(
+        (blank.to_string(), all.to_string()),
+        ("-".into(), "aWkwlxy".into())
+    );
+    assert_eq!(format!("{blank:>3}|"), "  -|");
+    let died = |cause| Event {
+        died: true,
+        death_cause: Some(cause),
+        ..blank
+    };
+    let causes = [Cause::Wall, Cause::SelfBody, Cause::OppBody, Cause::HeadOn];
+    assert_eq!(
+        causes.map(|cause| died(cause).to_string()),
+        ["W", "S", "O", "H"]
+    );
 }
 
 fn actions_by_number() {
