@@ -149,6 +149,16 @@ static void books(void) {
     CHECK(lundaspro_write_book(setting, 65536, row, 28, book, 0).refusal == 2);
 }
 
+/* A sentence for each number that a call gives, and for no other. */
+static void sentences(void) {
+    const char *none = lundaspro_sentence(0);
+    for (int i = 1; i < 256; i++) {
+        bool named = (i >= 1 && i <= 12) || (i >= 20 && i <= 31) || (i >= 40 && i <= 42);
+        CHECK((strcmp(lundaspro_sentence((uint8_t)i), none) != 0) == named);
+    }
+    CHECK(strcmp(lundaspro_sentence(lundaspro_count(image, 13).refusal), "image not well-formed") == 0);
+}
+
 int main(void) {
     short_events();
     other_bits();
@@ -156,6 +166,7 @@ int main(void) {
     bodies();
     every_other_call();
     books();
+    sentences();
     printf("%d checks passed\n", checks);
     return 0;
 }

@@ -28,7 +28,7 @@ extern "C" {
 #define LUNDASPRO_PLANE_NUMBERS 5120 /* an observation: obs */
 #define LUNDASPRO_BOOK_WORDS(pages, row_len) (17 + 2 * (pages) + (row_len)) /* a book: out, exactly what writing it needs */
 
-/* Refusals. */
+/* Refusals; lundaspro_sentence says these sentences by the number. */
 #define LUNDASPRO_SNAKES 1          /* snakes not 2..8 */
 #define LUNDASPRO_LENGTH_ZERO 2     /* initial length 0 */
 #define LUNDASPRO_LEAD_ZERO 3       /* food lead 0 */
@@ -36,25 +36,24 @@ extern "C" {
 #define LUNDASPRO_GRID 5            /* grid above 32 (space query: or below 1) */
 #define LUNDASPRO_FOOD_AREA 6       /* food above g*g (0 when g < 0) */
 #define LUNDASPRO_FOOD_CHAIN 7      /* food above 10,000 */
-#define LUNDASPRO_PRODUCT 8         /* product of min(snakes, food) factors from g*g downward above 2^53 */
+#define LUNDASPRO_PRODUCT 8         /* g*g(g*g-1).. of min(snakes, food) factors above 2^53 */
 #define LUNDASPRO_UNTRACEABLE 9     /* some body cannot be traced to its length */
 #define LUNDASPRO_CELL_OUTSIDE 10   /* first bad cell: outside */
 #define LUNDASPRO_CELL_TAKEN 11     /* first bad cell: already taken */
 #define LUNDASPRO_FOOD_FREE 12      /* food above the free cells */
 #define LUNDASPRO_MALFORMED 20      /* image not well-formed */
-#define LUNDASPRO_OTHER_SETTING 21  /* n or g differs from the setting */
+#define LUNDASPRO_OTHER_SETTING 21  /* snakes or grid differ from the setting */
 #define LUNDASPRO_FOOD_DUE 22       /* food is due at a step */
 #define LUNDASPRO_NONE_DUE 23       /* none is due at a draw */
-#define LUNDASPRO_ACTION_COUNT 24   /* action count is not n */
+#define LUNDASPRO_ACTION_COUNT 24   /* action count is not the number of snakes */
 #define LUNDASPRO_ACTION 25         /* a living snake's action above 2 */
-#define LUNDASPRO_AGENT 26          /* agent not below n */
+#define LUNDASPRO_AGENT 26          /* agent not below the number of snakes */
 #define LUNDASPRO_OUTCOME 27        /* outcome not below the count */
 #define LUNDASPRO_COUNT 28          /* count above 2^64 - 1 */
 #define LUNDASPRO_BUFFER 29         /* an output buffer shorter than its answer */
 #define LUNDASPRO_LIST 30           /* list to rank: wrong length, a cell not free, or repeated */
 #define LUNDASPRO_WEIGHT 31         /* a reward weight not finite */
-#define LUNDASPRO_CONTENTS 40       /* a book's contents cut short, off their layout or with a refused setting, starts not rising from right after
-                                       the contents, one outside the book, or words left in a book of no pages */
+#define LUNDASPRO_CONTENTS 40       /* a book's contents: cut short, off their layout, a refused setting, starts out of line, words left in a book of no pages */
 #define LUNDASPRO_PAGE 41           /* no such page */
 #define LUNDASPRO_PAGES 42          /* above 65,535 pages */
 
@@ -240,5 +239,7 @@ lundaspro_page_answer lundaspro_page(const uint16_t *book, size_t book_len, uint
 #ifdef __cplusplus
 }
 #endif
+
+#include "lundaspro_sentence.h"
 
 #endif

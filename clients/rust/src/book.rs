@@ -21,15 +21,21 @@ impl Setting {
 
 /// The words of a book whose contents are accepted. A page is checked when it is read, so that others may be damaged.
 ///
-/// ```no_run
-/// # fn main() -> Result<(), lundaspro::Refusal> {
-/// # let words = vec![];
-/// let book = lundaspro::Book::open(words)?;
-/// for page in book.pages() {
-///     println!("food due: {}", page?[2]);
+/// ```
+/// use lundaspro::{Book, Image, Refusal, Setting};
+///
+/// let setting = Setting { num_snakes: 2, grid_size: 3, initial_length: 1, initial_food_count: 1, ..Setting::default() };
+/// let start = setting.initial_state()?;
+/// let drawn = start.draw(2)?.next;
+/// let words = setting.write_book(&[start, drawn.clone()])?.into_words();
+///
+/// let book = Book::open(words)?;
+/// for page in &book {
+///     println!("{}", Image::checked(page?.to_vec())?);
 /// }
-/// # Ok(())
-/// # }
+/// assert_eq!(book.page(1), Ok(drawn.words()));
+/// assert_eq!(book.page(2), Err(Refusal::Page));
+/// # Ok::<(), Refusal>(())
 /// ```
 #[derive(Clone, Debug, PartialEq, Eq, Hash)]
 pub struct Book(Vec<u16>);
@@ -39,7 +45,7 @@ impl Book {
     pub fn open(words: Vec<u16>) -> Result<Book, Refusal> {
         // No book has this page: 41 comes where the contents are accepted.
         match lend::page(&words, u64::MAX) {
-            Err(refusal) if refusal.number() == 40 => Err(refusal),
+            Err(Refusal::Contents) => Err(Refusal::Contents),
             _ => Ok(Book(words)),
         }
     }
