@@ -12,11 +12,11 @@ use lib.ListN.{length, getD}
 use borrow.Author.Tests.{ltb-true, eqb-true, not-true}
 use Rattle.lists.specs.Choice.{_if_else_}
 use Rattle.lists.specs.Below.{someBelow, countBelow, eachBelow}
-use Rattle.lists.proofs.Tests.{tell, and-left, or-false-right}
+use Rattle.lists.proofs.Tests.{tell, and-left}
 use Rattle.lists.proofs.Below.{some-found, some-false, some-ext, each-at, each-long}
-use Rattle.rules.specs.State.{Snake, State, nobody, count, snakeOf}
+use Rattle.rules.specs.State.{Snake, State, nobody, count}
 use Rattle.rules.specs.Events.{dies, blank}
-use Rattle.rules.specs.Step.{Moved, Transition, causeOf, after, alive, leads, transitionOf, stepped}
+use Rattle.rules.specs.Step.{Moved, Transition, causeOf, after, alive, deaths, leads, transitionOf, stepped}
 use Rattle.rules.specs.declared.Cause.{Cause}
 use Rattle.rules.specs.declared.Cause.the-variants.{NoCause}
 use Rattle.rules.specs.declared.Event.{Event}
@@ -77,7 +77,7 @@ module _ (n : ℕ) (c : ℕ → Cause) (z : ℕ → Snake) where
   causes-aside (Is k) i j = refl
 
   -- a corpse is not led
-  corpse-unled : (l : Limit) (i j : ℕ) → z j .alive ≡ false → leads n c z l i j ≡ false
+  pub corpse-unled : (l : Limit) (i j : ℕ) → z j .alive ≡ false → leads n c z l i j ≡ false
   corpse-unled l i j e = elim (tell (leads n c z l i j)) [
     | inl t ↦ absurd (true≢false (sym (leading l i j t .other) ∙ e))
     | inr f ↦ f
@@ -145,7 +145,7 @@ module _ (s : Setting) (g n : ℕ) (food : List ℕ) (m : ℕ → Moved) where
   lost-to : (i : ℕ) → i < n → someBelow n (λ j. leads n c z l j i) ≡ true → LostToLead s o n i
   unfolding transitionOf
   lost-to i h e = elim (some-one n (λ j. leads n c z l j i) e) [
-    found w k t ↦
+    | found w k t ↦
         let f = leading n c z l w i t in
         let q = some-found (leads n c z l w) n i h t in
         let b : byLead s (o .next) ≡ true = by-lead-is ∙ some-found (λ i. someBelow n (leads n c z l i)) n w k q in
@@ -158,7 +158,7 @@ module _ (s : Setting) (g n : ℕ) (food : List ℕ) (m : ℕ → Moved) where
           below = k;
           survives = f .longer;
           longer = f .apart;
-          won = ap (λ (x : Event). x .won) (each-at n _ blank w k) ∙ either _ (someBelow n (leads n c z l w)) q;
+          won = ap (λ (x : Event). x .won) (each-at n _ blank w k) ∙ either (z w .alive && eqb (alive n c z) 1 && ltb 0 (deaths n c z)) (someBelow n (leads n c z l w)) q;
         }
   ]
 

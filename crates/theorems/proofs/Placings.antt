@@ -18,16 +18,15 @@ use Rattle.rules.specs.Image.{imageOf, stateOf}
 use Rattle.rules.specs.Events.{dies, blank, eight}
 use Rattle.rules.specs.Setting.{settingCheck, initialState}
 use Rattle.rules.specs.SettingFacts.{Accepts}
-use Rattle.rules.specs.Step.{Moved, Transition, stays, goes, movedOf, causeOf, after, transitionOf, stepped}
+use Rattle.rules.specs.Step.{Moved, Transition, stays, movedOf, causeOf, after, transitionOf, stepped}
 use Rattle.rules.specs.Chance.{drawn, afterDraw}
 use Rattle.rules.specs.Tables.{by}
 use Rattle.rules.specs.Says.{Says, refuses, gives, first, seen}
-use Rattle.rules.specs.Calls.{initialSays, stepSays, Draw, drawSays}
+use Rattle.rules.specs.Calls.{initialSays, stepSays, drawSays}
 use Rattle.rules.specs.Orders.{initialOrder, stepOrder, drawOrder}
 use Rattle.rules.specs.declared.Cause.{Cause}
 use Rattle.rules.specs.declared.Cause.the-variants.{NoCause}
 use Rattle.rules.specs.declared.Event.{Event}
-use Rattle.rules.specs.declared.Limit.{Limit}
 use Rattle.rules.specs.declared.Setting.{Setting}
 use Rattle.rules.proofs.Image.{state-back}
 use Rattle.rules.proofs.InitialFacts.{start-count, start-long}
@@ -63,7 +62,7 @@ lead-facts s t i j e = leading (count t) (λ _. NoCause) (snakeOf t) (s .«win_f
 -- one who is led makes it the end by the lead
 led-ends : (s : Setting) (t : State) (i : ℕ) → i < count t → ledIn s t i ≡ true → byLead s t ≡ true
 led-ends s t i h e = elim (some-one (count t) (λ j. leadsIn s t j i) e) [
-  found j k q ↦ some-found (λ i. someBelow (count t) (leadsIn s t i)) (count t) j k (some-found (leadsIn s t j) (count t) i h q)
+  | found j k q ↦ some-found (λ i. someBelow (count t) (leadsIn s t i)) (count t) j k (some-found (leadsIn s t j) (count t) i h q)
 ]
 
 none-led : (s : Setting) (t : State) (i : ℕ) → i < count t → byLead s t ≡ false → ledIn s t i ≡ false
@@ -158,14 +157,14 @@ module _ (m : Match) (t : State) (acts : List ℕ) (k : Known m t) where
         accepted = k .accepted;
         same = kept ∙ k .same;
         deaths = λ i h e.
-        let l : i < count t = omega (arith, kept) in
-        let v = survives (m .setting) t acts i l e in
-        let d : getD es i blank .died ≡ false = ap (λ (x : Event). x .died) (event-at i l) ∙ v .spared in
-        filled-at (deathAt (counted (m .moves)) (m .deaths) es) 8 8 0 0 i (few i l)
-        ∙ ap (λ (b : Bool). counted (m .moves) if b else getD (m .deaths) i 0) d ∙ k .deaths i l (v .lived);
+            let l : i < count t = omega (arith, kept) in
+            let v = survives (m .setting) t acts i l e in
+            let d : getD es i blank .died ≡ false = ap (λ (x : Event). x .died) (event-at i l) ∙ v .spared in
+            filled-at (deathAt (counted (m .moves)) (m .deaths) es) 8 8 0 0 i (few i l)
+            ∙ ap (λ (b : Bool). counted (m .moves) if b else getD (m .deaths) i 0) d ∙ k .deaths i l (v .lived);
         behind = λ i h.
-        let l : i < count t = omega (arith, kept) in
-        filled-at (behindAt es) 8 8 false false i (few i l) ∙ ap lostAlive (event-at i l) ∙ living-lost (m .setting) t acts i l;
+            let l : i < count t = omega (arith, kept) in
+            filled-at (behindAt es) 8 8 false false i (few i l) ∙ ap lostAlive (event-at i l) ∙ living-lost (m .setting) t acts i l;
         over = λ e. ap (λ (b : Bool). b || endsBy m b) (lead-terminal (m .setting) t acts e);
       }
 
@@ -186,7 +185,7 @@ opens : (x : First) (room : ℕ) (t : Turn) → openedBy x room ≡ gives t → 
 unfolding initialSays
 opens NoFirst room t e = let z : _≡_ {A = ℕ} 0 1 = cc in absurd (omega arith)
 opens (Opens s) room t e = elim (seen-gives (opened s) (initialSays s room) t e) [
-  saw a p q ↦
+  | saw a p q ↦
       let z = check-passed (settingCheck s) (startFor s room) a (sym (initial-says s room) ∙ p) in
       rw (← q, ← given-is (initialOrder s room) (initialState s) a p) (start-known s (accepts s z))
 ]
@@ -197,7 +196,7 @@ asks m t room cells NoLine acts u k e = let z : _≡_ {A = ℕ} 0 1 = cc in absu
 asks m t room cells (DrawLine i) acts u k e =
     let w = imageOf t in
     elim (seen-gives (drawnTurn m) (drawSays w i room cells) u e) [
-      saw d p q ↦
+      | saw d p q ↦
           let n = given-is (drawOrder w i room cells) (record { next = afterDraw (stateOf w) i; cells = drawn (stateOf w) i }) d p in
           rw (← q, ← n, state-back t) (drawn-known m t i k)
     ]
@@ -205,7 +204,7 @@ asks m t room cells MoveLine acts u k e =
     let w = imageOf t in
     let l = take (snakesOf m) acts in
     elim (seen-gives (movedTurn m) (stepSays (m .setting) w l room) u e) [
-      saw o p q ↦
+      | saw o p q ↦
           let n = given-is (stepOrder (m .setting) w l room) (stepped (m .setting) (stateOf w) l) o p in
           rw (← q, ← n, state-back t) (step-known m t l k)
     ]
@@ -327,8 +326,8 @@ module _ (m : Match) (t : State) (k : Known m t) where
   -- which of the two leads
   which-leads : byLead s t ≡ true → (leadsIn s t 0 1 ≡ true) ⊎ (leadsIn s t 1 0 ≡ true)
   which-leads e = elim (some-one (count t) (λ i. someBelow (count t) (leadsIn s t i)) e) [
-    found i h q ↦ elim (some-one (count t) (leadsIn s t i) q) [
-      found j l r ↦
+    | found i h q ↦ elim (some-one (count t) (leadsIn s t i) q) [
+      | found j l r ↦
           let f = lead-facts s t i j r in
           let p : count t ≡ 2 = k .same ∙ k .accepted .lead-two (f .lead) (f .set) in
           of-two (λ i. (j : ℕ) → j < 2 → leadsIn s t i j ≡ true → (leadsIn s t 0 1 ≡ true) ⊎ (leadsIn s t 1 0 ≡ true))
