@@ -1,5 +1,5 @@
 // Answers as text, put one after the other into a lent buffer. Each call answers the index after what it put.
-// What was put is written out from 32,768 bytes on, after each answer and among many words, so that the room of 65,536 never ends.
+// What was put is written out from 32,768 bytes on, before each answer and among many words, so that the room of 65,536 never ends.
 use crate::buffers::kept;
 use libc::STDOUT_FILENO;
 use printing::put_item;
