@@ -87,6 +87,7 @@ fn put_turn(setting: Setting, moves: u64, past: &mut [u16], len: usize, image: &
         setting,
         moves,
         deaths: [0u64; 8],
+        behind: [false; 8],
         over: false,
     };
     let desk = Desk {

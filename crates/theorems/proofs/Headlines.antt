@@ -48,6 +48,12 @@ pub use Rattle.theorems.proofs.Longest.{longest-list}
 -- Demand 3: a birth chain with p due ends after exactly min(p, n + 1) draws
 pub use Rattle.rules.proofs.Births.{chain-count}
 pub use Rattle.rules.proofs.FairCalls.{birth-countable, chain-draw, chain-ended, chain-not-before}
+-- Document 02, wish 3: a living snake has lost exactly where another leads it; then the lead ended the match, and max_ticks did not
+pub use Rattle.theorems.specs.Lead.{LostToLead}
+pub use Rattle.theorems.proofs.Lead.{living-lost, lost-to-lead, lead-terminal, ticks-apart}
+-- Document 02, wish 3: exactly the matches that the lead ends have another `p` line, 1 for the winner and 2 for the other; the dead stand where they stood
+pub use Rattle.theorems.specs.Lead.{Reached, Ending, Placed}
+pub use Rattle.theorems.proofs.Placings.{replay-ends, places-by-lead}
 -- Tightness: two answers that meet one promise are equal, and so are the lent buffers
 pub use Rattle.rules.proofs.Answers.{one-turn, one-check, one-verdict, one-start, one-step, one-view, one-count, one-draw, one-rank, one-actor, one-legal, one-key, one-truncation, one-reward, one-space, one-action-space, one-body}
 -- Tightness: two parts that the body query may hand back have equal words at one address
