@@ -9,8 +9,8 @@ use crate::states::Setting;
 mod raw;
 
 use raw::{
-    lundaspro_count, lundaspro_draw, lundaspro_initial_state, lundaspro_observe, lundaspro_rank, lundaspro_step, lundaspro_validate,
-    lundaspro_well_formed, Drawn, Number, Setting as FlatSetting, Stepped, Written,
+    lundaspro_count, lundaspro_draw, lundaspro_initial_state, lundaspro_observe, lundaspro_page, lundaspro_rank, lundaspro_step,
+    lundaspro_validate, lundaspro_well_formed, lundaspro_write_book, Drawn, Number, Page, Setting as FlatSetting, Stepped, Written,
 };
 
 pub const IMAGE_WORDS: usize = 9253;
@@ -75,4 +75,14 @@ pub fn rank(image: &[u16], list: &[u16]) -> Number {
 #[inline(always)]
 pub fn observe(image: &[u16], agent: u64, obs: &mut [f32]) -> Written {
     unsafe { lundaspro_observe(image.as_ptr(), image.len(), agent, obs.as_mut_ptr(), obs.len()) }
+}
+
+#[inline(always)]
+pub fn write_book(s: FlatSetting, pages: u64, row: &[u16], out: &mut [u16]) -> Written {
+    unsafe { lundaspro_write_book(s, pages, row.as_ptr(), row.len(), out.as_mut_ptr(), out.len()) }
+}
+
+#[inline(always)]
+pub fn page(book: &[u16], page: u64) -> Page {
+    unsafe { lundaspro_page(book.as_ptr(), book.len(), page) }
 }

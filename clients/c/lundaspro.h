@@ -1,6 +1,6 @@
 /* The calls of the snake arena from C: crate bindings, target/staticlib/libbindings.a (`rt staticlib bindings`), x86-64 Linux.
  *
- * Every call is proved to answer as the call of crate arena that it wraps, for every input; none has a precondition of its own.
+ * Every call is proved to answer as the call of crate arena or book that it wraps, for every input; none has a precondition of its own.
  *
  * What a caller owes is what C cannot check: each pointer is not null (not even where its length is 0), aligned, and followed by as many
  * elements as its length says; memory that is written (out, list, events, obs) overlaps no other argument; a bool holds 0 or 1.
@@ -26,31 +26,37 @@ extern "C" {
 #define LUNDASPRO_LIST_WORDS 20    /* the cells of one draw: list */
 #define LUNDASPRO_EVENT_WORDS 8    /* the events of a step: events, exactly what a step needs */
 #define LUNDASPRO_PLANE_NUMBERS 5120 /* an observation: obs */
+#define LUNDASPRO_BOOK_WORDS(pages, row_len) (17 + 2 * (pages) + (row_len)) /* a book: out, exactly what writing it needs */
 
-/* Refusals. No call gives 7. */
+/* Refusals; lundaspro_sentence says these sentences by the number. No call gives 7. */
 #define LUNDASPRO_SNAKES 1          /* snakes not 2..8 */
 #define LUNDASPRO_LENGTH_ZERO 2     /* initial length 0 */
 #define LUNDASPRO_LEAD_ZERO 3       /* food lead 0 */
 #define LUNDASPRO_LEAD_NOT_TWO 4    /* food lead set, snakes not 2 */
 #define LUNDASPRO_GRID 5            /* grid above 32 (space query: or below 1) */
 #define LUNDASPRO_FOOD_AREA 6       /* food above g*g (0 when g < 0) */
-#define LUNDASPRO_PRODUCT 8         /* product of min(snakes, food) factors from g*g downward above 2^53 */
+#define LUNDASPRO_PRODUCT 8         /* g*g(g*g-1).. of min(snakes, food) factors above 2^53 */
 #define LUNDASPRO_UNTRACEABLE 9     /* some body cannot be traced to its length */
 #define LUNDASPRO_CELL_OUTSIDE 10   /* first bad cell: outside */
 #define LUNDASPRO_CELL_TAKEN 11     /* first bad cell: already taken */
 #define LUNDASPRO_FOOD_FREE 12      /* food above the free cells */
 #define LUNDASPRO_MALFORMED 20      /* image not well-formed */
-#define LUNDASPRO_OTHER_SETTING 21  /* n or g differs from the setting */
+#define LUNDASPRO_OTHER_SETTING 21  /* snakes or grid differ from the setting */
 #define LUNDASPRO_FOOD_DUE 22       /* food is due at a step */
 #define LUNDASPRO_NONE_DUE 23       /* none is due at a draw */
-#define LUNDASPRO_ACTION_COUNT 24   /* action count is not n */
+#define LUNDASPRO_ACTION_COUNT 24   /* action count is not the number of snakes */
 #define LUNDASPRO_ACTION 25         /* a living snake's action above 2 */
-#define LUNDASPRO_AGENT 26          /* agent not below n */
+#define LUNDASPRO_AGENT 26          /* agent not below the number of snakes */
 #define LUNDASPRO_OUTCOME 27        /* outcome not below the count */
 #define LUNDASPRO_COUNT 28          /* count above 2^64 - 1 */
 #define LUNDASPRO_BUFFER 29         /* an output buffer shorter than its answer */
 #define LUNDASPRO_LIST 30           /* list to rank: wrong length, a cell not free, or repeated */
 #define LUNDASPRO_WEIGHT 31         /* a reward weight not finite */
+#define LUNDASPRO_CONTENTS 40       /* a book's contents: cut short, off their layout, a refused setting, starts out of line, words left in a book of no pages */
+#define LUNDASPRO_PAGE 41           /* no such page */
+#define LUNDASPRO_PAGES 42          /* above 65,535 pages */
+#define LUNDASPRO_UNIT_COUNT 80     /* unit number: count not 1 to 2^53 */
+#define LUNDASPRO_UNIT_NUMBER 81    /* unit number: not at least 0 and below 1 */
 
 /* An event is one number: the bits below and 256 times the cause. Read by truncation and reward, any other bit is ignored
  * and a cause above 4 is none. */
@@ -79,7 +85,7 @@ extern "C" {
 #define LUNDASPRO_TURN_LEFT 1
 #define LUNDASPRO_TURN_RIGHT 2
 
-/* A match's setting; win_food_lead and max_ticks count only where the flag before them is set. No call here reads max_ticks. */
+/* A match's setting; win_food_lead and max_ticks count only where the flag before them is set. Only write_book reads max_ticks. */
 typedef struct {
     uint64_t num_snakes;
     int32_t grid_size;
@@ -164,6 +170,13 @@ typedef struct {
     size_t len;
 } lundaspro_part;
 
+/* A page of the caller's book: `len` words from word `start` on. */
+typedef struct {
+    uint8_t refusal;
+    size_t start;
+    size_t len;
+} lundaspro_page_answer;
+
 /* Whether the words are a well-formed image. */
 bool lundaspro_well_formed(const uint16_t *image, size_t image_len);
 
@@ -217,8 +230,17 @@ lundaspro_sum lundaspro_reward(lundaspro_weights weights, uint16_t event);
 /* The heading after an action. A heading above 3 is read as 3, an action above 2 as 2. */
 uint8_t lundaspro_relative_to_absolute(uint8_t heading, uint8_t action);
 
+/* The match book of that many images, which stand in the row one after the other: its contents, then the images. Refusals 1 to 12, 42,
+ * then 20 and 21 page by page (20 too for words after the last), 29. */
+lundaspro_written lundaspro_write_book(lundaspro_setting setting, uint64_t pages, const uint16_t *row, size_t row_len, uint16_t *out, size_t out_len);
+
+/* Where a page lies in a book, from page 0 on. Other pages are not looked at. Refusals 40, 41, 20, 21. */
+lundaspro_page_answer lundaspro_page(const uint16_t *book, size_t book_len, uint64_t page);
+
 #ifdef __cplusplus
 }
 #endif
+
+#include "lundaspro_sentence.h"
 
 #endif

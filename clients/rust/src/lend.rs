@@ -102,3 +102,29 @@ pub fn observe(image: &[u16], agent: u64, obs: &mut [f32]) -> Result<usize, Refu
     };
     Refusal::check(a.refusal).map(|()| a.words)
 }
+
+/// The book of so many images that stand in a row; [`crate::book_words`] says how long it is. Refusals 1 to 12, 42, 20, 21, 29.
+pub fn write_book(
+    setting: &Setting,
+    pages: u64,
+    row: &[u16],
+    out: &mut [u16],
+) -> Result<usize, Refusal> {
+    let a = unsafe {
+        raw::lundaspro_write_book(
+            setting.flat(),
+            pages,
+            row.as_ptr(),
+            row.len(),
+            out.as_mut_ptr(),
+            out.len(),
+        )
+    };
+    Refusal::check(a.refusal).map(|()| a.words)
+}
+
+/// A page of a book, from page 0 on: the book's own words. Refusals 40, 41, 20, 21.
+pub fn page(book: &[u16], page: u64) -> Result<&[u16], Refusal> {
+    let a = unsafe { raw::lundaspro_page(book.as_ptr(), book.len(), page) };
+    Refusal::check(a.refusal).map(|()| &book[a.start..a.start + a.len])
+}

@@ -23,6 +23,7 @@ records! {
     Sum { refusal: u8, sum: f64 }
     Space { refusal: u8, discrete: bool, count: usize, planes: usize, rows: usize, cols: usize, low: f32, high: f32 }
     Part { start: usize, len: usize }
+    Page { refusal: u8, start: usize, len: usize }
 }
 
 extern "C" {
@@ -77,4 +78,13 @@ extern "C" {
     ) -> Marked;
     pub fn lundaspro_reward(weights: Weights, event: u16) -> Sum;
     pub fn lundaspro_relative_to_absolute(heading: u8, action: u8) -> u8;
+    pub fn lundaspro_write_book(
+        setting: Setting,
+        pages: u64,
+        row: *const u16,
+        row_len: usize,
+        out: *mut u16,
+        out_len: usize,
+    ) -> Written;
+    pub fn lundaspro_page(book: *const u16, book_len: usize, page: u64) -> Page;
 }

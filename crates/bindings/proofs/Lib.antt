@@ -2,3 +2,4 @@ pub mod Numbers
 pub mod Saying
 pub mod Lying
 pub mod Theorems
+pub mod BookLaws

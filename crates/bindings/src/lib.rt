@@ -1,12 +1,15 @@
-// The arena's calls for C and Rust programs: every public call of `arena` as an exported function over numbers, slices of numbers
-// and flat records. `clients/c/lundaspro.h` declares the same records and functions. No call has a `requires`.
+// The calls for C and Rust programs: every public call of `arena`, and a book's writer and page, as an exported function over numbers,
+// slices of numbers and flat records. `clients/c/lundaspro.h` declares the same records and functions. No call has a `requires`.
 mod answers;
+mod books;
 mod chances;
 mod matches;
 mod readings;
 mod tells;
 mod views;
 
+pub use books::lundaspro_page;
+pub use books::lundaspro_write_book;
 pub use chances::lundaspro_count;
 pub use chances::lundaspro_draw;
 pub use chances::lundaspro_rank;
@@ -127,6 +130,14 @@ pub struct FlatSpace {
 // `len` words of the caller's image, from word `start` on.
 #[repr(C)]
 pub struct FlatPart {
+    pub start: usize,
+    pub len: usize,
+}
+
+// A page: `len` words of the caller's book, from word `start` on.
+#[repr(C)]
+pub struct FlatPage {
+    pub refusal: u8,
     pub start: usize,
     pub len: usize,
 }
