@@ -7,7 +7,7 @@ use native.Mathlib.Omega.{arith}
 use lib.IntN.{ℤ}
 use lib.Ieee.{Float}
 use Rattle.rules.specs.Says.{says, saysVerdict, saysNumber, saysKey, saysActor, saysLegal, saysMark, saysSum, saysSpace}
-use Rattle.rules.specs.Promises.{Turns, Checks, Validates, Starts, Steps, Observes, Counts, Draws, Ranks, ActsNext, Allows, Keys, Truncates, Rewards, Chooses, ObservationSpace, ActionSpace, Parts}
+use Rattle.rules.specs.Promises.{Turns, Checks, Validates, Starts, Steps, Observes, Counts, Draws, Ranks, ActsNext, Allows, Keys, Truncates, Rewards, ObservationSpace, ActionSpace, Parts}
 use Rattle.rules.specs.declared.Heading.{Heading}
 use Rattle.rules.specs.declared.RelativeAction.{RelativeAction}
 use Rattle.rules.specs.declared.Setting.{Setting}
@@ -177,9 +177,6 @@ one-truncation w a e r q p o = mark-one r q (p .answer ∙ sym (o .answer))
 
 pub one-reward : (w : Weights) (e : Event) (r q : Reward) → Rewards w e r → Rewards w e q → r ≡ q
 one-reward w e r q p o = sum-one r q (p .answer ∙ sym (o .answer))
-
-pub one-outcome : (c : ℕ) (u : Float) (r q : Number) → Chooses c u r → Chooses c u q → r ≡ q
-one-outcome c u r q p o = number-one r q (p .answer ∙ sym (o .answer))
 
 pub one-space : (g : ℤ) (r q : Space) → ObservationSpace g r → ObservationSpace g q → r ≡ q
 one-space g r q p o = space-one r q (p .answer ∙ sym (o .answer))

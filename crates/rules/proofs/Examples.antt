@@ -1,6 +1,6 @@
 -- Document 01's twelve examples hold of the definitions: one statement, by computation. So do the rows of the second table. Assumes nothing.
 use mathlib.Core.Path.{refl}
-use lib.Ieee.{ofBits, ofInt, add, mul, toUnsigned}
+use lib.Ieee.{ofBits, ofInt, add}
 use Rattle.lists.specs.Below.{allBelow, someBelow, countBelow, eachBelow, concatBelow, lowestFrom}
 use Rattle.lists.specs.Lists.{any, keep, member, insert, without, place}
 use Rattle.lists.specs.Products.{falling}
@@ -10,7 +10,6 @@ use Rattle.rules.specs.Step.{causeOf, transitionOf, stepped}
 use Rattle.rules.specs.Chance.{freeFrom, free, outcomes, digits, pick, drawnFrom, drawn, rankIn, rankOf}
 use Rattle.rules.specs.LengthKey.{sorted, folded, lengthKey}
 use Rattle.rules.specs.Reward.{rewardOf}
-use Rattle.rules.specs.UnitNumber.{outcomeOf}
 use Rattle.rules.specs.Examples.{EachHolds, theTwelve, theOthers}
 use Rattle.rules.specs.Tables.{fault}
 
@@ -20,5 +19,5 @@ examples-hold =
     ((refl, refl), (refl, ((refl, refl), (refl, (refl, (refl, (refl, ((refl, refl, refl, refl), ((refl, refl, refl, refl), (refl, (refl, (refl, (refl, (refl, tt))))))))))))))
 
 pub more-hold : EachHolds theOthers
-unfolding someBelow countBelow eachBelow lowestFrom keep member causeOf transitionOf stepped rewardOf ofBits ofInt add outcomeOf mul toUnsigned theOthers
-more-hold = (refl, (refl, (refl, (refl, (refl, (refl, tt))))))
+unfolding someBelow countBelow eachBelow lowestFrom keep member causeOf transitionOf stepped rewardOf ofBits ofInt add theOthers
+more-hold = (refl, (refl, (refl, (refl, (refl, tt)))))

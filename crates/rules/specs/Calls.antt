@@ -16,9 +16,8 @@ use Rattle.rules.specs.View.{view, lit}
 use Rattle.rules.specs.LengthKey.{lengthKey}
 use Rattle.rules.specs.Turns.{chanceActs, legalFor, truncated}
 use Rattle.rules.specs.Reward.{rewardOf}
-use Rattle.rules.specs.UnitNumber.{outcomeOf}
 use Rattle.rules.specs.Says.{Says, gives, byTable, Shape, box, discrete}
-use Rattle.rules.specs.Orders.{initialOrder, stepOrder, observeOrder, countOrder, drawOrder, rankOrder, imageOrder, agentOrder, rewardOrder, outcomeOrder, spaceOrder}
+use Rattle.rules.specs.Orders.{initialOrder, stepOrder, observeOrder, countOrder, drawOrder, rankOrder, imageOrder, agentOrder, rewardOrder, spaceOrder}
 use Rattle.rules.specs.declared.Setting.{Setting}
 use Rattle.rules.specs.declared.Event.{Event}
 use Rattle.rules.specs.declared.Weights.{Weights}
@@ -64,10 +63,6 @@ truncationSays w a e = byTable (agentOrder w a) (gives (truncated e (snakeOf (st
 
 unfoldable pub rewardSays : Weights → Event → Says Float
 rewardSays w e = byTable (rewardOrder w) (gives (rewardOf w e))
-
--- c is the count that an outcome is wanted of
-unfoldable pub outcomeSays : ℕ → Float → Says ℕ
-outcomeSays c u = byTable (outcomeOrder c u) (gives (outcomeOf c u))
 
 unfoldable pub spaceSays : ℤ → Says Shape
 spaceSays g = byTable (spaceOrder g) (gives (box 5 (sideOf g) (sideOf g) (lit false) (lit true)))

@@ -5,8 +5,8 @@ use Prim.Native.Nat.{ℕ, _^_}
 use mathlib.Core.Bool.{Bool, true, false}
 use mathlib.Core.List.{List, [], _∷_}
 use mathlib.Core.Option.{some}
-use lib.IntN.{ℤ, pos, negsuc, negℤ}
-use lib.Ieee.{Float, fin, binary64, ofInt}
+use lib.IntN.{ℤ, pos, negℤ}
+use lib.Ieee.{Float, binary64, ofInt}
 use Rattle.lists.specs.Below.{eachBelow}
 use Rattle.rules.specs.State.{Snake, State}
 use Rattle.rules.specs.Setting.{sideOf, settingCheck, worst}
@@ -15,7 +15,6 @@ use Rattle.rules.specs.Chance.{free, outcomes, drawn, rankOf}
 use Rattle.rules.specs.View.{shows}
 use Rattle.rules.specs.LengthKey.{lengthKey}
 use Rattle.rules.specs.Reward.{rewardOf}
-use Rattle.rules.specs.UnitNumber.{outcomeOf}
 use Rattle.rules.specs.Events.{dies, blank}
 use Rattle.rules.specs.declared.Setting.{Setting}
 use Rattle.rules.specs.declared.Limit.the-variants.{Unset}
@@ -36,11 +35,9 @@ pub data Example : Type 0 where
   -- of the second table alone
   steps : Setting → State → List ℕ → Transition → Example
   pays : Weights → Event → ℤ → Example
-  chosen : ℕ → Float → ℕ → Example
 
 -- an accepted setting and its product; a refused one and its number; the free cells, the count, and what an index draws, which ranks as that index; a place,
--- a heading and the place where it shows; a step's events; the length cell. Then: all that comes of a step; the reward of an event, a whole number; the
--- outcome of a unit number
+-- a heading and the place where it shows; a step's events; the length cell. Then: all that comes of a step; the reward of an event, a whole number
 abbrev pub Holds : Example → Type 0
 Holds (accepted s p) = (settingCheck s ≡ 0) × (worst (s .«num_snakes») (sideOf (s .«grid_size»)) (s .«initial_food_count») ≡ p)
 Holds (refused s k) = settingCheck s ≡ k
@@ -50,7 +47,6 @@ Holds (move s t acts es) = stepped s t acts .events ≡ es
 Holds (key t k) = lengthKey t ≡ some k
 Holds (steps s t acts o) = stepped s t acts ≡ o
 Holds (pays w e x) = rewardOf w e ≡ ofInt binary64 x
-Holds (chosen c u i) = outcomeOf c u ≡ i
 
 abbrev pub EachHolds : List Example → Type 0
 EachHolds [] = Unit {0}
@@ -128,10 +124,6 @@ coarse =
 abbrev pub flagged : Event
 flagged = record { «ate_food» = true; died = false; «death_cause» = NoCause; «killed_opponent» = true; won = true; lost = true; drew = true; «survived_to_max_ticks» = true }
 
--- the binary64 number nearest to a third
-abbrev pub third : Float
-third = fin false 6004799503160661 (negsuc 53)
-
 -- each row is what a must-fail edit of this crate contradicts
 unfoldable pub theOthers : List Example
 theOthers =
@@ -149,6 +141,4 @@ theOthers =
     (comes true (arena 4 0 (living Right (1 ∷ []) ∷ dead Up (5 ∷ []) ∷ []) []) (blank ∷ blank ∷ []))
     -- 'Else add food, kill, win, loss, survival in that order as flagged': no other order gives 9
     ∷ pays coarse flagged (pos 9)
-    -- 'the rounded product of count and u': the exact one is 1 - 2^-54, which rounds to 1
-    ∷ chosen 3 third 1
     ∷ []

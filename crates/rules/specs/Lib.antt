@@ -15,7 +15,6 @@ pub mod View
 pub mod LengthKey
 pub mod Turns
 pub mod Reward
-pub mod UnitNumber
 pub mod Says
 pub mod Orders
 pub mod Calls

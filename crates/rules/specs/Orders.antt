@@ -1,4 +1,4 @@
--- Document 01's 'Order', and the orders of document 02, as tables: a row is a refusal's number and when it is given. Assumes nothing.
+-- Document 01's 'Order' as tables: a row is a refusal's number and when it is given. Assumes nothing.
 use Prim.Native.Nat.{ℕ, _*_, _-_, _^_}
 use mathlib.Core.Bool.{Bool, not, _&&_, _||_}
 use mathlib.Core.List.{List, [], _∷_, _++_}
@@ -6,7 +6,6 @@ use lib.Dec.{ltb, eqb}
 use lib.ListN.{length, getD}
 use lib.IntN.{ℤ, pos}
 use lib.Signed.{ltZ}
-use lib.Ieee.{Float}
 use Rattle.lists.specs.Below.{someBelow}
 use Rattle.rules.specs.Tables.{Table, by}
 use Rattle.rules.specs.Grid.{sameZ}
@@ -16,14 +15,12 @@ use Rattle.rules.specs.Setting.{settingOrder, initialState}
 use Rattle.rules.specs.Step.{stepped}
 use Rattle.rules.specs.Chance.{outcomes, drawn, afterDraw, canRank}
 use Rattle.rules.specs.Reward.{allFinite}
-use Rattle.rules.specs.UnitNumber.{outsideCount, isUnit}
 use Rattle.rules.specs.declared.Setting.{Setting}
 use Rattle.rules.specs.declared.Weights.{Weights}
 
 -- 20 'image not well-formed', 21 'n or g differs from the setting', 22 / 23 'food is due at a step / none is due at a draw', 24 'action count is not n',
 -- 25 'a living snake's action above 2', 26 'agent not below n', 27 'outcome not below the count', 28 'count above 2^64 - 1', 29 'an output buffer shorter
--- than its answer', 30 'list to rank: wrong length, a cell not free, or repeated', 31 'a reward weight not finite',
--- 80 and 81 of a unit number; 1 to 12 stand in Setting
+-- than its answer', 30 'list to rank: wrong length, a cell not free, or repeated', 31 'a reward weight not finite'; 1 to 12 stand in Setting
 
 -- what is asked of every image
 abbrev pub imageRows : List ℕ → Table
@@ -93,10 +90,6 @@ agentOrder w a = imageRows w ++ ((by 26, not (ltb a (snakesIn w))) ∷ [])
 -- 'Reward: 31'
 abbrev pub rewardOrder : Weights → Table
 rewardOrder w = (by 31, not (allFinite w)) ∷ []
-
--- 'Refusals: 80 count outside the range, then 81 u outside its own'
-abbrev pub outcomeOrder : ℕ → Float → Table
-outcomeOrder c u = (by 80, outsideCount c) ∷ (by 81, not (isUnit u)) ∷ []
 
 -- 'grid above 32 (space query: or below 1)'
 abbrev pub spaceOrder : ℤ → Table

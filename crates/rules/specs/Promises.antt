@@ -11,7 +11,7 @@ use Rattle.rules.specs.Headings.{turned}
 use Rattle.rules.specs.Events.{blank, eight}
 use Rattle.rules.specs.Image.{imageOf, wellFormed}
 use Rattle.rules.specs.Says.{seen, beside, lent, says, saysVerdict, saysNumber, saysKey, saysActor, saysLegal, saysMark, saysSum, saysSpace}
-use Rattle.rules.specs.Calls.{settingSays, initialSays, stepSays, observeSays, countSays, drawSays, rankSays, actorSays, legalSays, keySays, truncationSays, rewardSays, outcomeSays, spaceSays, actionSays, bodyAsked}
+use Rattle.rules.specs.Calls.{settingSays, initialSays, stepSays, observeSays, countSays, drawSays, rankSays, actorSays, legalSays, keySays, truncationSays, rewardSays, spaceSays, actionSays, bodyAsked}
 use Rattle.rules.specs.declared.Heading.{Heading}
 use Rattle.rules.specs.declared.RelativeAction.{RelativeAction}
 use Rattle.rules.specs.declared.Setting.{Setting}
@@ -78,9 +78,6 @@ pub record Truncates (w : List ℕ) (a : ℕ) (e : Event) (r : Truncated) : Type
 
 pub record Rewards (w : Weights) (e : Event) (r : Reward) : Type 0 where
   pub answer : saysSum r ≡ rewardSays w e
-
-pub record Chooses (c : ℕ) (u : Float) (r : Number) : Type 0 where
-  pub answer : saysNumber r ≡ outcomeSays c u
 
 pub record ObservationSpace (g : ℤ) (r : Space) : Type 0 where
   pub answer : saysSpace r ≡ spaceSays g

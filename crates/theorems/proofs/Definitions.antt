@@ -18,10 +18,9 @@ use Rattle.rules.specs.View.{view, lit}
 use Rattle.rules.specs.LengthKey.{lengthKey}
 use Rattle.rules.specs.Turns.{chanceActs, legalFor, truncated}
 use Rattle.rules.specs.Reward.{rewardOf}
-use Rattle.rules.specs.UnitNumber.{outcomeOf}
 use Rattle.rules.specs.Says.{gives, byTable, box, seen, beside, lent, saysKey, saysActor, saysLegal}
-use Rattle.rules.specs.Calls.{settingSays, initialSays, stepSays, observeSays, countSays, Draw, drawSays, rankSays, actorSays, legalSays, keySays, truncationSays, rewardSays, outcomeSays, spaceSays, bodyAsked}
-use Rattle.rules.specs.Promises.{Turns, Checks, Validates, Starts, Steps, Observes, Counts, Draws, Ranks, ActsNext, Allows, Keys, Truncates, Rewards, Chooses, ObservationSpace, ActionSpace, Parts}
+use Rattle.rules.specs.Calls.{settingSays, initialSays, stepSays, observeSays, countSays, Draw, drawSays, rankSays, actorSays, legalSays, keySays, truncationSays, rewardSays, spaceSays, bodyAsked}
+use Rattle.rules.specs.Promises.{Turns, Checks, Validates, Starts, Steps, Observes, Counts, Draws, Ranks, ActsNext, Allows, Keys, Truncates, Rewards, ObservationSpace, ActionSpace, Parts}
 use Rattle.rules.specs.declared.Heading.{Heading}
 use Rattle.rules.specs.declared.RelativeAction.{RelativeAction}
 use Rattle.rules.specs.declared.Setting.{Setting}
@@ -48,7 +47,7 @@ use Rattle.rules.proofs.Answers.{answer-one, verdict-one, number-one, mark-one,
 use denote.Ref.{RefT}
 use Rattle.image.specs.Memory.{wordPlace, startAsked}
 use Rattle.rules.specs.Tables.{Table, noneHold}
-use Rattle.rules.specs.Orders.{initialOrder, stepOrder, observeOrder, countOrder, drawOrder, rankOrder, imageOrder, agentOrder, rewardOrder, outcomeOrder, spaceOrder}
+use Rattle.rules.specs.Orders.{initialOrder, stepOrder, observeOrder, countOrder, drawOrder, rankOrder, imageOrder, agentOrder, rewardOrder, spaceOrder}
 use Rattle.rules.proofs.Tables.{table-gives}
 use Rattle.theorems.specs.Answers.{StepIs, DrawIs}
 
@@ -156,11 +155,6 @@ truncation-is w a e r p h = mark-one r (Marked _) (p .answer ∙ lawful (agentOr
 pub reward-is : (w : Weights) (e : Event) (r : Reward) → Rewards w e r → noneHold (rewardOrder w) ≡ true → r ≡ Sum (rewardOf w e)
 unfolding rewardSays
 reward-is w e r p h = sum-one r (Sum (rewardOf w e)) (p .answer ∙ lawful (rewardOrder w) (rewardOf w e) h)
-
--- the rounded product, cut, at most count - 1
-pub outcome-is : (c : ℕ) (u : Float) (r : Number) → Chooses c u r → noneHold (outcomeOrder c u) ≡ true → r ≡ Value (outcomeOf c u)
-unfolding outcomeSays
-outcome-is c u r p h = number-one r (Value (outcomeOf c u)) (p .answer ∙ lawful (outcomeOrder c u) (outcomeOf c u) h)
 
 -- five planes of the grid's side, from 0.0 to 1.0
 pub space-is : (g : ℤ) (r : Space) → ObservationSpace g r → noneHold (spaceOrder g) ≡ true → r ≡ Box 5 (sideOf g) (sideOf g) (lit false) (lit true)

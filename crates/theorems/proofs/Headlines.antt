@@ -1,20 +1,21 @@
 -- The headline theorems by name, each under the demand that it answers; the file named has the statement. Assumes nothing.
 
--- Demand 1: each call says what its table of refusals says (rules/specs/Calls), and the tables have the numbers of documents 01 and 02 in their order
-pub use Rattle.theorems.proofs.Refusals.{setting-order, initial-order, step-order, observe-order, count-order, draw-order, rank-order, image-order, agent-order, reward-order, outcome-order, space-order}
--- Demand 1: 01's row of 7 changes no answer, and 7 is never given
+-- Demand 1: each call says what its table of refusals says (rules/specs/Calls), and the tables have document 01's numbers in its order, but for 7
+pub use Rattle.theorems.proofs.Refusals.{setting-order, initial-order, step-order, observe-order, count-order, draw-order, rank-order, image-order, agent-order, reward-order, space-order}
+-- Demand 1 and request 14: 01's own table of the setting has 7, its row changes no answer, and 7 is never given
+pub use Rattle.theorems.proofs.Refusals.{chain-order}
 pub use Rattle.rules.proofs.ChainLimit.{without-7, never-7}
 -- Demand 1: a table refuses by the number of its first row that holds, and by no other
 pub use Rattle.rules.proofs.Tables.{table-gives, table-refuses, table-first}
 -- Demand 1: so a call is refused by k if and only if k is the number of its table's first row that holds
 pub use Rattle.theorems.specs.Answers.{RefusedBy}
-pub use Rattle.theorems.proofs.Refusals.{validate-refused, initial-refused, step-refused, observe-refused, count-refused, draw-refused, rank-refused, actor-refused, legal-refused, key-refused, truncation-refused, reward-refused, outcome-refused, space-refused}
+pub use Rattle.theorems.proofs.Refusals.{validate-refused, initial-refused, step-refused, observe-refused, count-refused, draw-refused, rank-refused, actor-refused, legal-refused, key-refused, truncation-refused, reward-refused, space-refused}
 -- Demand 1: a refusal leaves every lent word, both buffers of a draw
 pub use Rattle.theorems.proofs.Refusals.{initial-untouched, step-untouched, observe-untouched, draw-untouched}
 -- Demand 1: an answer is a count of words, and the words after them keep their values
 pub use Rattle.theorems.proofs.Refusals.{initial-after, step-after, observe-after, draw-after}
 -- Demand 2: where no row holds, each call answers what its definition says
-pub use Rattle.theorems.proofs.Definitions.{turn-is, check-is, body-is, validate-is, initial-is, step-is, observe-is, count-is, draw-is, rank-is, actor-is, legal-is, key-is, truncation-is, reward-is, outcome-is, space-is, action-space-is}
+pub use Rattle.theorems.proofs.Definitions.{turn-is, check-is, body-is, validate-is, initial-is, step-is, observe-is, count-is, draw-is, rank-is, actor-is, legal-is, key-is, truncation-is, reward-is, space-is, action-space-is}
 -- Demand 2: document 01's twelve examples, one table; a second one for wrong definitions that neither they nor a law shuts out
 pub use Rattle.rules.proofs.Examples.{examples-hold, more-hold}
 -- Demand 2: what a program prints that takes the lines of its input one by one is the replay of that input
@@ -45,9 +46,6 @@ pub use Rattle.rules.proofs.FairCalls.{sets-fair}
 -- Demand 3, of the calls' answers: beside the food nothing changes but what is due, and at birth whether it is birth; at birth, and there without a free cell
 pub use Rattle.rules.specs.Fair.{Changed}
 pub use Rattle.rules.proofs.FairCalls.{draw-changes, birth-changes, full-changes}
--- Wish 14: for counts 1 to 2^53 the outcome of a unit number is a legal index, the whole part of the exact product or one more; a draw of it is never 27
-pub use Rattle.unit.specs.Chosen.{Choosable, Chosen, NeverAbove}
-pub use Rattle.unit.proofs.Theorems.{outcome-chosen, chosen-draws}
 -- Demand 3: a list of 20 cells holds whatever a draw gives
 pub use Rattle.theorems.proofs.Longest.{longest-list}
 -- Demand 3: a birth chain with p due ends after exactly min(p, n + 1) draws
@@ -60,7 +58,7 @@ pub use Rattle.theorems.proofs.Lead.{living-lost, lost-to-lead, lead-te
 pub use Rattle.theorems.specs.Lead.{Reached, Ending, Placed}
 pub use Rattle.theorems.proofs.Placings.{replay-ends, places-by-lead}
 -- Tightness: two answers that meet one promise are equal, and so are the lent buffers
-pub use Rattle.rules.proofs.Answers.{one-turn, one-check, one-verdict, one-start, one-step, one-view, one-count, one-draw, one-rank, one-actor, one-legal, one-key, one-truncation, one-reward, one-outcome, one-space, one-action-space, one-body}
+pub use Rattle.rules.proofs.Answers.{one-turn, one-check, one-verdict, one-start, one-step, one-view, one-count, one-draw, one-rank, one-actor, one-legal, one-key, one-truncation, one-reward, one-space, one-action-space, one-body}
 -- Tightness: two parts that the body query may hand back have equal words at one address
 pub use Rattle.theorems.proofs.Definitions.{one-part}
 -- One image for each state
@@ -91,3 +89,12 @@ pub use Rattle.contents.proofs.Laying.{setting-wordy}
 -- Request 1: a damaged page elsewhere changes nothing of the page that is read; a page is found by the contents alone
 pub use Rattle.book.proofs.Separate.{page-alone}
 pub use Rattle.book.proofs.Theorems.{find-alone, find-then-read, find-refuses, find-reads}
+-- Request 14, the outcome of a unit number: its table has wish 14's numbers in its order, exactly those are given, and where no row holds the answer is the definition's
+pub use Rattle.theorems.proofs.Units.{outcome-order, outcome-refused, outcome-is}
+-- Request 14: two answers that meet its promise are equal
+pub use Rattle.unit.proofs.Answers.{one-outcome}
+-- Request 14: for counts 1 to 2^53 a legal index, the whole part of the exact product or one more, and the count loses nothing; a draw of it is never refused by 27
+pub use Rattle.unit.specs.Chosen.{Choosable, Chosen, NeverAbove}
+pub use Rattle.unit.proofs.Theorems.{outcome-chosen, chosen-draws}
+-- Request 14: a product that rounds up to a whole number
+pub use Rattle.unit.proofs.Theorems.{rounds-up}

@@ -13,17 +13,16 @@ use Rattle.lists.specs.Lists.{overFront}
 use Rattle.rules.specs.Tables.{Table}
 use Rattle.rules.specs.State.{snakeOf}
 use Rattle.rules.specs.Image.{imageOf, stateOf}
-use Rattle.rules.specs.Setting.{sideOf, settingOrder, initialState}
+use Rattle.rules.specs.Setting.{sideOf, settingOrder, chainOrder, initialState}
 use Rattle.rules.specs.Step.{Transition, stepped}
 use Rattle.rules.specs.Chance.{outcomes, drawn, afterDraw, rankOf}
 use Rattle.rules.specs.View.{view, lit}
 use Rattle.rules.specs.LengthKey.{lengthKey}
 use Rattle.rules.specs.Turns.{chanceActs, legalFor, truncated}
 use Rattle.rules.specs.Reward.{rewardOf}
-use Rattle.rules.specs.UnitNumber.{outcomeOf}
 use Rattle.rules.specs.Says.{Says, refuses, gives, byTable, seen, beside, lent, says, saysVerdict, saysNumber, saysKey, saysActor, saysLegal, saysMark, saysSum, box, saysSpace}
-use Rattle.rules.specs.Calls.{settingSays, initialSays, stepSays, observeSays, countSays, Draw, drawSays, rankSays, actorSays, legalSays, keySays, truncationSays, rewardSays, outcomeSays, spaceSays}
-use Rattle.rules.specs.Promises.{Validates, Starts, Steps, Observes, Counts, Draws, Ranks, ActsNext, Allows, Keys, Truncates, Rewards, Chooses, ObservationSpace}
+use Rattle.rules.specs.Calls.{settingSays, initialSays, stepSays, observeSays, countSays, Draw, drawSays, rankSays, actorSays, legalSays, keySays, truncationSays, rewardSays, spaceSays}
+use Rattle.rules.specs.Promises.{Validates, Starts, Steps, Observes, Counts, Draws, Ranks, ActsNext, Allows, Keys, Truncates, Rewards, ObservationSpace}
 use Rattle.rules.specs.declared.Setting.{Setting}
 use Rattle.rules.specs.declared.Event.{Event}
 use Rattle.rules.specs.declared.Weights.{Weights}
@@ -48,7 +47,7 @@ use Rattle.rules.specs.declared.Reward.{Reward}
 use Rattle.rules.specs.declared.Reward.the-variants.{Refused as RefusedSum}
 use Rattle.rules.specs.declared.Space.{Space}
 use Rattle.rules.specs.declared.Space.the-variants.{Refused as RefusedSpace}
-use Rattle.rules.specs.Orders.{initialOrder, stepOrder, observeOrder, countOrder, drawOrder, rankOrder, imageOrder, agentOrder, rewardOrder, outcomeOrder, spaceOrder}
+use Rattle.rules.specs.Orders.{initialOrder, stepOrder, observeOrder, countOrder, drawOrder, rankOrder, imageOrder, agentOrder, rewardOrder, spaceOrder}
 use Rattle.rules.proofs.Tables.{table-refuses, table-first, table-seen}
 use Rattle.rules.proofs.Answers.{answer-one, verdict-one, number-one, key-one, actor-one, legal-one, mark-one, sum-one, space-one}
 use Rattle.theorems.specs.Answers.{RefusedBy}
@@ -62,6 +61,10 @@ settingNumbers = 1 ∷ 2 ∷ 3 ∷ 4 ∷ 5 ∷ 6 ∷ 8 ∷ 9 ∷ 10 ∷ 11 ∷ 1
 
 pub setting-order : (s : Setting) → numbers (settingOrder s) ≡ settingNumbers
 setting-order s = refl
+
+-- 01's own, with the 7 that is never given
+pub chain-order : (s : Setting) → numbers (chainOrder s) ≡ 1 ∷ 2 ∷ 3 ∷ 4 ∷ 5 ∷ 6 ∷ 7 ∷ 8 ∷ 9 ∷ 10 ∷ 11 ∷ 12 ∷ []
+chain-order s = refl
 
 pub initial-order : (s : Setting) (room : ℕ) → numbers (initialOrder s room) ≡ settingNumbers ++ (29 ∷ [])
 initial-order s room = refl
@@ -92,9 +95,6 @@ agent-order w a = refl
 pub reward-order : (w : Weights) → numbers (rewardOrder w) ≡ 31 ∷ []
 reward-order w = refl
 
-pub outcome-order : (c : ℕ) (u : Float) → numbers (outcomeOrder c u) ≡ 80 ∷ 81 ∷ []
-outcome-order c u = refl
-
 pub space-order : (g : ℤ) → numbers (spaceOrder g) ≡ 5 ∷ []
 space-order g = refl
 
@@ -112,7 +112,7 @@ module _ {R A : Type 0} (said : R → Says A) (refusal : Refusal → R) (as-said
 pub by-words : {A : Type 0} (f : A → ℕ) (t : Table) (a : A) (r : Answer) → says r ≡ seen f (byTable t (gives a)) → RefusedBy RefusedAnswer t r
 by-words f t a r e = by-rows says RefusedAnswer (λ k. refl) answer-one t (f a) r (e ∙ table-seen f t a)
 
-by-number : (t : Table) (a : ℕ) (r : Number) → saysNumber r ≡ byTable t (gives a) → RefusedBy RefusedNumber t r
+pub by-number : (t : Table) (a : ℕ) (r : Number) → saysNumber r ≡ byTable t (gives a) → RefusedBy RefusedNumber t r
 by-number = by-rows saysNumber RefusedNumber (λ k. refl) number-one
 
 pub validate-refused : (s : Setting) (r : Verdict) → Validates s r → RefusedBy RefusedVerdict (settingOrder s) r
@@ -164,10 +164,6 @@ truncation-refused w a v r p = by-rows saysMark RefusedMark (λ k. refl) mark-on
 pub reward-refused : (w : Weights) (v : Event) (r : Reward) → Rewards w v r → RefusedBy RefusedSum (rewardOrder w) r
 unfolding rewardSays
 reward-refused w v r p = by-rows saysSum RefusedSum (λ k. refl) sum-one (rewardOrder w) (rewardOf w v) r (p .answer)
-
-pub outcome-refused : (c : ℕ) (u : Float) (r : Number) → Chooses c u r → RefusedBy RefusedNumber (outcomeOrder c u) r
-unfolding outcomeSays
-outcome-refused c u r p = by-number (outcomeOrder c u) (outcomeOf c u) r (p .answer)
 
 pub space-refused : (g : ℤ) (r : Space) → ObservationSpace g r → RefusedBy RefusedSpace (spaceOrder g) r
 unfolding spaceSays

@@ -9,9 +9,9 @@ use borrow.Author.Tests.{eqb-false, ltb-false, not-true, not-false}
 use Rattle.lists.proofs.Tests.{or-false-left, or-false-right}
 use Rattle.rules.specs.Tables.{by}
 use Rattle.rules.specs.Says.{refuses, gives, byTable}
-use Rattle.rules.specs.Calls.{outcomeSays}
-use Rattle.rules.specs.UnitNumber.{outsideCount, isUnit, outcomeOf}
 use Rattle.rules.specs.declared.Refusal.{Refusal}
+use Rattle.unit.specs.UnitNumber.{outsideCount, isUnit, outcomeOf}
+use Rattle.unit.specs.Calls.{outcomeSays}
 use Rattle.unit.specs.Chosen.{Choosable}
 
 module _ (c : ℕ) (u : Float) where

@@ -15,7 +15,7 @@ use lib.Ieee.Order.{round-mono, transfer}
 use lib.Ieee.Positive.{num, den}
 use lib.Ieee.Scale.{finite, round-same, round-val, round-under, grid}
 use lib.Ieee.Back.{round-whole}
-use Rattle.rules.specs.UnitNumber.{isUnit, wholePart}
+use Rattle.unit.specs.UnitNumber.{isUnit, wholePart}
 use Rattle.unit.specs.Chosen.{Choosable}
 
 -- ---- a unit number: a fraction below 1, or minus zero

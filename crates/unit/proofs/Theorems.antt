@@ -2,30 +2,38 @@
 -- Assumes nothing.
 use Prim.Native.Nat.{ℕ, suc, _+_, _-_, _≤_, _<_, min}
 use native.Mathlib.Omega.{arith}
-use mathlib.Core.Path.{_≡_, sym, ap, subst, _∙_}
+use mathlib.Core.Path.{_≡_, refl, sym, ap, subst, _∙_}
 use mathlib.Core.Bool.{Bool, true, false}
 use mathlib.Core.List.{List, [], _∷_}
 use lib.ListN.{length}
-use lib.IntN.{pos}
-use lib.Ieee.{Float, binary64, mul, ofInt, toUnsigned}
+use lib.IntN.{pos, negsuc}
+use lib.Ieee.{Float, fin, binary64, mul, ofInt, toUnsigned}
 use borrow.Author.Tests.{lt-ltb, le-ltb, ne-eqb}
 use Rattle.rules.specs.Tables.{by}
 use Rattle.rules.specs.Image.{imageOf, stateOf}
 use Rattle.rules.specs.Chance.{outcomes, drawn, afterDraw}
 use Rattle.rules.specs.Says.{Says, refuses, gives, byTable, says, saysNumber}
-use Rattle.rules.specs.Orders.{countOrder, drawOrder, outcomeOrder}
-use Rattle.rules.specs.Calls.{Draw, countSays, drawSays, outcomeSays}
-use Rattle.rules.specs.Promises.{Counts, Draws, Chooses}
-use Rattle.rules.specs.UnitNumber.{outsideCount, outcomeOf, wholePart}
+use Rattle.rules.specs.Orders.{countOrder, drawOrder}
+use Rattle.rules.specs.Calls.{Draw, countSays, drawSays}
+use Rattle.rules.specs.Promises.{Counts, Draws}
 use Rattle.rules.specs.declared.Number.{Number}
 use Rattle.rules.specs.declared.Number.the-variants.{Value}
 use Rattle.rules.specs.declared.Drawn.{Drawn}
 use Rattle.rules.specs.declared.Answer.the-variants.{Refused}
 use Rattle.rules.proofs.Tables.{given-out, given-is, table-seen}
 use Rattle.rules.proofs.Answers.{number-one}
+use Rattle.unit.specs.UnitNumber.{outsideCount, outcomeOf, wholePart}
+use Rattle.unit.specs.Orders.{outcomeOrder}
+use Rattle.unit.specs.Calls.{outcomeSays}
+use Rattle.unit.specs.Promises.{Chooses}
 use Rattle.unit.specs.Chosen.{Choosable, Chosen, NeverAbove}
 use Rattle.unit.proofs.Products.{product, count-value}
 use Rattle.unit.proofs.Choosing.{in-range}
+
+-- 'the rounded product of count and u': the exact one, of 3 and the number nearest to a third, is 1 - 2^-54, which rounds to 1
+pub rounds-up : outcomeOf 3 (fin false 6004799503160661 (negsuc 53)) ≡ 1
+unfolding outcomeOf mul toUnsigned ofInt
+rounds-up = refl
 
 module _ (c : ℕ) (u : Float) where
   -- a whole number from the whole part to one more, cut at c - 1

@@ -1,4 +1,4 @@
--- What an outcome is chosen from, and what is shown of the one that is chosen (02, 'Draw from a unit number'). Assumes nothing.
+-- What an outcome is chosen from, and what is shown of the one that is chosen (02, wish 14). Assumes nothing.
 use Prim.Native.Nat.{ℕ, _+_, _^_, _≤_, _<_}
 use mathlib.Core.Path.{_≡_}
 use mathlib.Core.Bool.{true, false}
@@ -10,11 +10,11 @@ use Rattle.rules.specs.Tables.{by}
 use Rattle.rules.specs.Image.{stateOf}
 use Rattle.rules.specs.Chance.{outcomes}
 use Rattle.rules.specs.Promises.{Draws}
-use Rattle.rules.specs.UnitNumber.{isUnit, wholePart}
 use Rattle.rules.specs.declared.Number.{Number}
 use Rattle.rules.specs.declared.Number.the-variants.{Value}
 use Rattle.rules.specs.declared.Drawn.{Drawn}
 use Rattle.rules.specs.declared.Answer.the-variants.{Refused}
+use Rattle.unit.specs.UnitNumber.{isUnit, wholePart}
 
 -- a count and a number that are not refused
 pub record Choosable (c : ℕ) (u : Float) : Type 0 where

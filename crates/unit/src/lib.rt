@@ -1,8 +1,8 @@
 // The outcome of a unit number, as the Rust's uniform draw has it.
 use rules::Number;
 ghost use mathlib.Core.Path.{_≡_};
-ghost use Rattle.rules.specs.UnitNumber.{outsideCount, isUnit, outcomeOf};
-ghost use Rattle.rules.specs.Promises.{Chooses};
+ghost use Rattle.unit.specs.UnitNumber.{outsideCount, isUnit, outcomeOf};
+ghost use Rattle.unit.specs.Promises.{Chooses};
 ghost use Rattle.unit.specs.Chosen.{Choosable};
 
 // 0, or above 2^53. Strict tests, here and below: no order of branches to follow.

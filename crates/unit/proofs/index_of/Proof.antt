@@ -3,7 +3,7 @@ use borrow.Author.Needs.{needs}
 use Prim.Native.Nat.{_^_}
 use lib.Dec.{le→leb}
 use lib.Ieee.{inFloat}
-use Rattle.rules.specs.UnitNumber.{outcomeOf}
+use Rattle.unit.specs.UnitNumber.{outcomeOf}
 use Rattle.unit.proofs.Products.{product}
 use Rattle.unit.proofs.index_of.Statement.{statement}
 use Rattle.unit.proofs.index_of.Tie as tie

@@ -1,6 +1,6 @@
 -- `unit::is_outside` meets its contract: it makes the definition's two tests. Assumes nothing.
 use borrow.Author.Needs.{needs}
-use Rattle.rules.specs.UnitNumber.{outsideCount}
+use Rattle.unit.specs.UnitNumber.{outsideCount}
 use Rattle.unit.proofs.is_outside.Statement.{statement}
 use Rattle.unit.proofs.is_outside.Tie as tie
 

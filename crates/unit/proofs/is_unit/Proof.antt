@@ -1,7 +1,7 @@
 -- `unit::is_unit` meets its contract: both tests are binary64's own, and `&` is the definition's. Assumes nothing.
 use borrow.Author.Needs.{needs}
 use lib.Ieee.{le, ofBits}
-use Rattle.rules.specs.UnitNumber.{isUnit}
+use Rattle.unit.specs.UnitNumber.{isUnit}
 use Rattle.unit.proofs.is_unit.Statement.{statement}
 use Rattle.unit.proofs.is_unit.Tie as tie
 

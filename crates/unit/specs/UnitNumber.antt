@@ -1,4 +1,4 @@
--- The outcome of a unit number (02, 'Draw from a unit number'), for every count and every binary64 number. Assumes nothing.
+-- The outcome of a unit number (02, wish 14), for every count and every binary64 number. Assumes nothing.
 use Prim.Native.Nat.{ℕ, _-_, _*_, _/_, _^_, min}
 use mathlib.Core.Bool.{Bool, false, _&&_, _||_}
 use lib.Dec.{eqb, ltb}
