@@ -8,9 +8,9 @@ use std::num::NonZeroU8;
 pub struct Refusal(NonZeroU8);
 
 impl Refusal {
-    /// `Ok` where the number is 0.
-    pub(crate) fn check(number: u8) -> Result<(), Refusal> {
-        NonZeroU8::new(number).map_or(Ok(()), |number| Err(Refusal(number)))
+    /// `Ok` where a call returned 0; the table's number is what is below 256.
+    pub(crate) fn check(returned: u64) -> Result<(), Refusal> {
+        NonZeroU8::new((returned % 256) as u8).map_or(Ok(()), |number| Err(Refusal(number)))
     }
 
     pub fn number(self) -> u8 {

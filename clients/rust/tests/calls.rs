@@ -17,5 +17,5 @@ macro_rules! tests {
 
 tests! {
     sample_match settings draws longest_list turned_picture facing_neighbours length_cells refused_images refused_steps refused_draws short_buffers
-    rewards turns events_as_numbers spaces sentences
+    rewards turns events_as_bytes spaces sentences
 }
