@@ -4,7 +4,7 @@ use std::hint::black_box;
 
 use crate::snake::{egocentric_parts, SnakeState};
 use crate::states::{self, Setting, State};
-use crate::{port, rust};
+use crate::{books, port, rust};
 use reinfors_core::game::Game;
 
 /// A case: who is asked, what, on which state.
@@ -124,9 +124,19 @@ fn of_rust(call: &str, name: &str, times: u64) {
     }
 }
 
-/// What no call that reads or copies the image can go below.
+fn of_book(call: &str, book: &books::Book, times: u64) {
+    let (setting, row, made) = (port::setting(&book.setting), book.row(), book.made());
+    let mut out = vec![0; book.words()];
+    match call {
+        "bind" => repeat(times, || port::write_book(black_box(&setting), book.pages as u64, black_box(&row), &mut out)),
+        "page" => repeat(times, || port::page(black_box(&made), black_box(book.middle()))),
+        _ => panic!("no call {call}"),
+    }
+}
+
+/// What no call that reads or copies the image, or the row of a book, can go below.
 fn floor(call: &str, name: &str, times: u64) {
-    let image = state_named(name).image(0);
+    let image = books::named(name).map_or_else(|| state_named(name).image(0), |book| book.row());
     let mut out = image.clone();
     match call {
         "copy" => repeat(times, || {
@@ -144,11 +154,15 @@ fn floor(call: &str, name: &str, times: u64) {
 }
 
 const WARM_UP: u64 = 32;
+/// No allocator is warmed for a book.
+const BOOK_WARM_UP: u64 = 2;
 
 /// A warm-up, then so many calls.
 pub fn run(case: &Case, times: u64) {
-    let all = WARM_UP + times;
+    let book = books::named(&case.state);
+    let all = if book.is_some() { BOOK_WARM_UP } else { WARM_UP } + times;
     match case.side.as_str() {
+        "port" if book.is_some() => book.iter().for_each(|book| of_book(&case.call, book, all)),
         "port" => of_port(&case.call, &case.state, all),
         "rust" => of_rust(&case.call, &case.state, all),
         _ => floor(&case.call, &case.state, all),

@@ -8,6 +8,7 @@
 //! bench states                         the images, a line each: name, food due, words
 #![no_main]
 
+mod books;
 mod calls;
 mod plan;
 mod port;

@@ -1,7 +1,7 @@
 //! Which cases are counted, how many calls each takes, and with which hash seeds.
 
 use crate::calls::{state_named, Case};
-use crate::states;
+use crate::{books, states};
 
 pub const PORT: [&str; 13] = [
     "well", "validate", "initial", "step", "step2", "count1", "countk", "draw1", "drawk", "rank1", "rankk", "see0",
@@ -15,9 +15,13 @@ pub const FLOORS: [&str; 3] = ["copy", "pass", "words"];
 pub const GROWTH_PORT: [&str; 6] = ["well", "step", "count1", "draw1", "rank1", "see0"];
 pub const GROWTH_RUST: [&str; 4] = ["step", "count1", "draw1", "see0"];
 pub const SETTINGS: [&str; 2] = ["longest", "endless"];
+pub const BOOKS: [&str; 2] = ["bind", "page"];
 
 /// How many calls: more of the cheap ones.
 fn times(state: &str) -> u64 {
+    if let Some(book) = books::named(state) {
+        return (1_000_000 / book.words() as u64).clamp(2, 100);
+    }
     let words = match state {
         "overlong" | "longest" | "endless" => 300,
         _ => state_named(state).words() as u64,
@@ -62,6 +66,12 @@ pub fn plan(seeds: u64) -> Vec<String> {
     for state in SETTINGS {
         all.extend(line("port", "validate", state, 1));
         all.extend(line("rust", "validate", state, 1));
+    }
+    for book in &books::three() {
+        for call in BOOKS {
+            all.extend(line("port", call, book.name, 1));
+        }
+        all.extend(line("floor", "copy", book.name, 1));
     }
     all
 }

@@ -8,8 +8,8 @@ use crate::states::Setting;
 mod raw;
 
 use raw::{
-    lundaspro_flat_count, lundaspro_flat_draw, lundaspro_flat_initial_state, lundaspro_flat_observe, lundaspro_flat_rank, lundaspro_flat_step,
-    lundaspro_flat_validate, lundaspro_flat_well_formed, Event, Setting as FlatSetting,
+    lundaspro_flat_count, lundaspro_flat_draw, lundaspro_flat_initial_state, lundaspro_flat_observe, lundaspro_flat_page, lundaspro_flat_rank, lundaspro_flat_step,
+    lundaspro_flat_validate, lundaspro_flat_well_formed, lundaspro_flat_write_book, Event, Setting as FlatSetting,
 };
 
 pub const IMAGE_WORDS: usize = 9253;
@@ -76,4 +76,20 @@ pub fn observe(image: &[u16], agent: u64, obs: &mut [f32]) -> usize {
     let mut written = [0];
     unsafe { lundaspro_flat_observe(image.as_ptr(), image.len(), agent, obs.as_mut_ptr(), obs.len(), &mut written) };
     written[0] as usize
+}
+
+/// How many words.
+#[inline(always)]
+pub fn write_book(s: &FlatSetting, pages: u64, row: &[u16], out: &mut [u16]) -> usize {
+    let mut written = [0];
+    unsafe { lundaspro_flat_write_book(s, pages, row.as_ptr(), row.len(), out.as_mut_ptr(), out.len(), &mut written) };
+    written[0] as usize
+}
+
+/// Where it starts, and how many words.
+#[inline(always)]
+pub fn page(book: &[u16], page: u64) -> [usize; 2] {
+    let mut part = [0; 2];
+    unsafe { lundaspro_flat_page(book.as_ptr(), book.len(), page, &mut part) };
+    part.map(|n| n as usize)
 }

@@ -2,7 +2,7 @@
 
 use crate::snake::{egocentric_parts, Snake, SnakeState};
 use crate::states::{self, Setting, State};
-use crate::{port, rust};
+use crate::{books, port, rust};
 use reinfors_core::game::Game;
 use reinfors_core::ChanceDist;
 
@@ -103,6 +103,19 @@ fn all_of(t: &mut Tally, s: &State) {
     views(t, s);
 }
 
+/// A book is held against one that the bench makes itself.
+fn book(t: &mut Tally, b: &books::Book) {
+    let mut out = vec![0; b.words() + 1];
+    let words = port::write_book(&port::setting(&b.setting), b.pages as u64, &b.row(), &mut out);
+    let made = b.made();
+    t.same(&format!("write_book, {}", b.name), &out[..words], &made[..]);
+    for page in [0, b.middle(), b.pages as u64 - 1] {
+        let found = port::page(&made, page);
+        let what = format!("page {page}, {}", b.name);
+        t.same(&what, found, [b.start(page), b.image.len()]);
+    }
+}
+
 /// False where an answer differs.
 pub fn check() -> bool {
     let mut t = Tally { answers: 0, differing: 0 };
@@ -120,7 +133,10 @@ pub fn check() -> bool {
     all_of(&mut t, &states::thirty());
     settings(&mut t, "the longest bodies", &states::LONGEST);
     settings(&mut t, "a length without end", &states::ENDLESS);
-    let states = states::five().len() + states::growth().len() + 1;
-    println!("{} answers on {states} states compared, {} differ", t.answers, t.differing);
+    let (states, books) = (states::five().len() + states::growth().len() + 1, books::three());
+    for b in &books {
+        book(&mut t, b);
+    }
+    println!("{} answers on {states} states and {} books compared, {} differ", t.answers, books.len(), t.differing);
     t.differing == 0
 }

@@ -3,6 +3,7 @@
 use std::collections::BTreeMap;
 
 use crate::calls::Case;
+use crate::books;
 use crate::plan::{parse, FLOORS, GROWTH_PORT, GROWTH_RUST, SETTINGS};
 use crate::states::{self, State};
 
@@ -113,12 +114,12 @@ fn title(call: &str) -> (&'static str, &'static str) {
     }
 }
 
-struct Book<'a> {
+struct Table<'a> {
     counts: &'a Counts,
     states: Vec<State>,
 }
 
-impl Book<'_> {
+impl Table<'_> {
     fn row(&self, title: &str, cell: impl Fn(&State) -> Option<String>) {
         row(title, self.states.iter().map(|s| cell(s).unwrap_or_else(|| "-".to_string())));
     }
@@ -155,28 +156,28 @@ impl Book<'_> {
 }
 
 fn five(counts: &Counts) {
-    let book = Book { counts, states: states::five() };
-    let names: Vec<String> = book.states.iter().map(|s| s.name.clone()).collect();
+    let table = Table { counts, states: states::five() };
+    let names: Vec<String> = table.states.iter().map(|s| s.name.clone()).collect();
     let sizes = || {
-        book.row("*words of the image*", |s| Some(whole(s.words() as f64)));
-        book.row("*free cells; k*", |s| Some(format!("{}; {}", s.free(), s.most())));
+        table.row("*words of the image*", |s| Some(whole(s.words() as f64)));
+        table.row("*free cells; k*", |s| Some(format!("{}; {}", s.free(), s.most())));
     };
     println!("### Calls\n");
     head("instructions a call", &names);
     sizes();
-    book.count("port", "well");
+    table.count("port", "well");
     for call in ["validate", "initial", "count1", "countk", "draw1", "drawk"] {
-        book.pair(call);
+        table.pair(call);
     }
-    book.count("port", "rank1");
-    book.count("port", "rankk");
-    book.pair("see0");
-    book.pair("seeall");
+    table.count("port", "rank1");
+    table.count("port", "rankk");
+    table.pair("see0");
+    table.pair("seeall");
     println!("\n### Step\n");
     head("instructions a call", &names);
     for call in ["step", "step2"] {
-        book.pair(call);
-        book.row("ratio to the Rust's `validate` and `step`", |s| {
+        table.pair(call);
+        table.row("ratio to the Rust's `validate` and `step`", |s| {
             let both = counts.of("rust", call, &s.name)? + counts.of("rust", "validate", &s.name)?;
             Some(share(counts.of("port", call, &s.name)? / both))
         });
@@ -184,16 +185,16 @@ fn five(counts: &Counts) {
     println!("\n### Floors\n");
     head("instructions", &names);
     for call in FLOORS {
-        book.count("floor", call);
+        table.count("floor", call);
     }
-    book.count("rust", "clone");
-    let (above, all) = book.above();
+    table.count("rust", "clone");
+    let (above, all) = table.above();
     println!("\n{} of {all} ratios with an aim are within it.", all - above);
     if counts.seeds() == 1 {
         return;
     }
     let wide = ["validate", "step", "step2", "count1", "countk", "draw1", "drawk"]
-        .map(|c| book.states.iter().map(|s| counts.spread(c, &s.name)).fold(0.0, f64::max));
+        .map(|c| table.states.iter().map(|s| counts.spread(c, &s.name)).fold(0.0, f64::max));
     let part = |x: f64| format!("{:.2} %", 100.0 * x);
     println!(
         "The Rust's counts lie apart by hash seed, at most: `validate` {}, `step` {}, `chance_node` {}, `apply_chance_node` {}.",
@@ -205,29 +206,29 @@ fn five(counts: &Counts) {
 }
 
 fn growth(counts: &Counts) {
-    let book = Book { counts, states: states::growth() };
-    let names: Vec<String> = book.states.iter().map(|s| whole(s.words() as f64)).collect();
+    let table = Table { counts, states: states::growth() };
+    let names: Vec<String> = table.states.iter().map(|s| whole(s.words() as f64)).collect();
     println!("\n### Growth\n");
     head("instructions a call; words", &names);
     for call in GROWTH_PORT {
         if GROWTH_RUST.contains(&call) {
-            book.pair(call);
+            table.pair(call);
         } else {
-            book.count("port", call);
+            table.count("port", call);
         }
     }
     for call in FLOORS {
-        book.count("floor", call);
+        table.count("floor", call);
     }
     println!();
     head("the port's, divided by the words", &names);
     for call in GROWTH_PORT {
-        book.row(title(call).0, |s| Some(format!("{:.1}", counts.of("port", call, &s.name)? / s.words() as f64)));
+        table.row(title(call).0, |s| Some(format!("{:.1}", counts.of("port", call, &s.name)? / s.words() as f64)));
     }
     println!();
     // The last two images differ by nine words and in kind: both are held against the one of 5,000 words.
     let pairs: Vec<(&State, &State)> =
-        (1..book.states.len()).map(|i| (&book.states[(i - 1).min(6)], &book.states[i])).collect();
+        (1..table.states.len()).map(|i| (&table.states[(i - 1).min(6)], &table.states[i])).collect();
     let names = pairs.iter().map(|(a, b)| format!("{} to {}", whole(a.words() as f64), whole(b.words() as f64)));
     head("the port's, for each word more", &names.collect::<Vec<_>>());
     for call in GROWTH_PORT {
@@ -259,8 +260,51 @@ fn checks(counts: &Counts) {
     }
 }
 
+/// At most so many instructions for a word of the contents, beside the check of the page.
+const CONTENTS_AIM: f64 = 4.0;
+
+fn books(counts: &Counts) {
+    let all = books::three();
+    let of = |side: &str, call: &str, b: &books::Book| counts.of(side, call, b.name);
+    let show = |title: &str, cell: &dyn Fn(&books::Book) -> Option<String>| {
+        row(title, all.iter().map(|b| cell(b).unwrap_or_else(|| "-".to_string())));
+    };
+    // the state of the pages is one of the five
+    let check = |b: &books::Book| {
+        let five = states::five();
+        let state = five.iter().find(|s| s.words() == b.image.len())?;
+        counts.of("port", "well", &state.name)
+    };
+    let beside = |b: &books::Book| Some((of("port", "page", b)? - check(b)?) / b.contents() as f64);
+    println!("\n### Books\n");
+    let names = all.iter().map(|b| format!("{} pages of {} words", whole(b.pages as f64), whole(b.image.len() as f64)));
+    head("instructions a call", &names.collect::<Vec<_>>());
+    show("*words of the row; of the contents*", &|b| {
+        Some(format!("{}; {}", whole((b.pages * b.image.len()) as f64), whole(b.contents() as f64)))
+    });
+    show("`write_book`", &|b| of("port", "bind", b).map(whole));
+    show("for each word of the row", &|b| {
+        Some(format!("{:.1}", of("port", "bind", b)? / (b.pages * b.image.len()) as f64))
+    });
+    show("`well_formed` of each page", &|b| Some(whole(check(b)? * b.pages as f64)));
+    show("the rest, for each word of the book", &|b| {
+        Some(format!("{:.1}", (of("port", "bind", b)? - check(b)? * b.pages as f64) / b.words() as f64))
+    });
+    show("a copy of the row (`memcpy`)", &|b| of("floor", "copy", b).map(whole));
+    show("`page`, the middle one", &|b| of("port", "page", b).map(whole));
+    show("without `well_formed` of it, for each word of the contents", &|b| {
+        let price = beside(b)?;
+        Some(if CONTENTS_AIM < price {
+            format!("**{price:.1}** (aim {CONTENTS_AIM:.0})")
+        } else {
+            format!("{price:.1}")
+        })
+    });
+}
+
 pub fn print(counts: &Counts) {
     five(counts);
     growth(counts);
     checks(counts);
+    books(counts);
 }

@@ -69,6 +69,7 @@ static void refused_others(void) {
     CHECK(lundaspro_flat_observe(image, 14, 0, planes, 44, two) == 29 && lundaspro_flat_observe(image, 14, 2, planes, 45, two) == 26);
     CHECK(lundaspro_flat_length_cell(image, 13, two) == 20 && lundaspro_flat_actor(image, 13, two) == 20);
     CHECK(lundaspro_flat_legal_actions(image, 14, 2, two) == 26 && lundaspro_flat_truncation(image, 14, 2, event, marked) == 26);
+    CHECK(lundaspro_flat_write_book(setting, 65536, image, 14, words, 20, two) == 42 && lundaspro_flat_page(image, 14, 0, two) == 40);
     CHECK(lundaspro_flat_observation_space(33, five, bounds) == 5 && lundaspro_flat_reward(weights, event, &sum) == 31);
     CHECK(untouched(two, sizeof two) && untouched(five, sizeof five) && untouched(words, sizeof words) && untouched(marked, sizeof marked));
     CHECK(untouched(planes, sizeof planes) && untouched(bounds, sizeof bounds) && untouched(&sum, sizeof sum));
@@ -162,6 +163,55 @@ static void every_other_call(void) {
     CHECK(none.refusal == 5 && !none.discrete && none.count == 0);
 }
 
+/* A book of two pages: 17 words of contents, two for each page, the images. */
+static void books(void) {
+    lundaspro_setting setting = {.num_snakes = 2, .grid_size = 3, .initial_length = 1, .max_ticks_set = true, .max_ticks = 0x0004000300020001};
+    uint16_t row[28], book[60], whole[60];
+    for (int i = 0; i < 28; i++) row[i] = image[i % 14];
+    row[14 + 13] = 8;
+    size_t need = LUNDASPRO_BOOK_WORDS(2, 28);
+    for (size_t room = 0; room < need; room++) {
+        memset(book, 9, sizeof book);
+        lundaspro_written short_of = lundaspro_write_book(setting, 2, row, 28, book, room);
+        CHECK(short_of.refusal == 29 && short_of.words == 0 && untouched(book, sizeof book));
+    }
+    lundaspro_written a = lundaspro_write_book(setting, 2, row, 28, book, 60);
+    static const uint16_t contents[21] = {1, 2, 3, 1, 0, 0, 0, 0, 0, 0, 0, 1, 1, 2, 3, 4, 2, 21, 0, 35, 0};
+    CHECK(a.refusal == 0 && a.words == need && untouched(book + need, 2 * (60 - need)));
+    CHECK(memcmp(book, contents, sizeof contents) == 0 && memcmp(book + 21, row, sizeof row) == 0);
+    lundaspro_page_answer p = lundaspro_page(book, need, 0), q = lundaspro_page(book, need, 1);
+    CHECK(p.refusal == 0 && p.start == 21 && p.len == 14 && q.refusal == 0 && q.start == 35 && q.len == 14);
+    CHECK(lundaspro_page(book, need, 2).refusal == 41 && lundaspro_page(book, need, UINT64_MAX).refusal == 41);
+    p = lundaspro_page(book, need + 1, 1);
+    CHECK(p.refusal == 20 && p.start == 0 && p.len == 0 && lundaspro_page(book, need + 1, 0).refusal == 0);
+    for (size_t cut = 0; cut < 36; cut++) CHECK(lundaspro_page(book, cut, 0).refusal == 40);
+    for (int i = 0; i < 21; i++) {
+        memcpy(whole, book, sizeof whole);
+        whole[i] = 65535;
+        /* lead's and max_ticks's own words and a set flag's number may be any */
+        bool fine = 11 < i && i < 16;
+        CHECK((lundaspro_page(whole, need, 0).refusal == 0) == fine && (lundaspro_page(whole, need, 0).refusal == 40) == !fine);
+    }
+    CHECK(lundaspro_write_book(setting, 65536, row, 28, book, 60).refusal == 42 && lundaspro_write_book(setting, UINT64_MAX, row, 28, book, 60).refusal == 42);
+    CHECK(lundaspro_write_book(setting, 1, row, 28, book, 60).refusal == 20 && lundaspro_write_book(setting, 3, row, 28, book, 60).refusal == 20);
+    CHECK(lundaspro_write_book(setting, 0, row, 28, book, 60).refusal == 20 && lundaspro_write_book(setting, 0, row, 0, book, 17).words == 17);
+    CHECK(lundaspro_page(book, 17, 0).refusal == 41 && lundaspro_page(book, 18, 0).refusal == 40);
+    setting.grid_size = 4;
+    CHECK(lundaspro_write_book(setting, 2, row, 28, book, 60).refusal == 21);
+    setting.initial_length = 0;
+    CHECK(lundaspro_write_book(setting, 65536, row, 28, book, 0).refusal == 2);
+}
+
+/* A sentence for each number that a call gives, and for no other. */
+static void sentences(void) {
+    const char *none = lundaspro_sentence(0);
+    for (int i = 1; i < 256; i++) {
+        bool named = (i >= 1 && i <= 12) || (i >= 20 && i <= 31) || (i >= 40 && i <= 42);
+        CHECK((strcmp(lundaspro_sentence((uint8_t)i), none) != 0) == named);
+    }
+    CHECK(strcmp(lundaspro_sentence(lundaspro_count(image, 13).refusal), "image not well-formed") == 0);
+}
+
 int main(void) {
     refused_steps();
     refused_others();
@@ -170,6 +220,8 @@ int main(void) {
     nan_weights();
     bodies();
     every_other_call();
+    books();
+    sentences();
     printf("%d checks passed\n", checks);
     return 0;
 }

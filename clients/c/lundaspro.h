@@ -1,7 +1,7 @@
 /* The calls of the snake arena from C: crate bindings, target/staticlib/libbindings.a (`rt staticlib bindings`) on x86-64 Linux; `clients/build` makes it for other
  * machines too.
  *
- * Every exported call is proved to answer as the call of crate arena that it wraps, for every input; none has a precondition of its own. An
+ * Every exported call is proved to answer as the call of crate arena or book that it wraps, for every input; none has a precondition of its own. An
  * exported call (`lundaspro_flat_..`, below) takes numbers, arrays of fixed size and slices, and returns its refusal. The calls to use, with records, are
  * thin functions over them.
  *
@@ -29,8 +29,9 @@ extern "C" {
 #define LUNDASPRO_LIST_WORDS 20    /* the cells of one draw: list */
 #define LUNDASPRO_EVENTS 8         /* the events of a step: events, exactly what a step needs */
 #define LUNDASPRO_PLANE_NUMBERS 5120 /* an observation: obs */
+#define LUNDASPRO_BOOK_WORDS(pages, row_len) (17 + 2 * (pages) + (row_len)) /* a book: out, exactly what writing it needs */
 
-/* Refusals. */
+/* Refusals; lundaspro_sentence says these sentences by the number. */
 #define LUNDASPRO_SNAKES 1          /* snakes not 2..8 */
 #define LUNDASPRO_LENGTH_ZERO 2     /* initial length 0 */
 #define LUNDASPRO_LEAD_ZERO 3       /* food lead 0 */
@@ -38,23 +39,26 @@ extern "C" {
 #define LUNDASPRO_GRID 5            /* grid above 32 (space query: or below 1) */
 #define LUNDASPRO_FOOD_AREA 6       /* food above g*g (0 when g < 0) */
 #define LUNDASPRO_FOOD_CHAIN 7      /* food above 10,000 */
-#define LUNDASPRO_PRODUCT 8         /* product of min(snakes, food) factors from g*g downward above 2^53 */
+#define LUNDASPRO_PRODUCT 8         /* g*g(g*g-1).. of min(snakes, food) factors above 2^53 */
 #define LUNDASPRO_UNTRACEABLE 9     /* some body cannot be traced to its length */
 #define LUNDASPRO_CELL_OUTSIDE 10   /* first bad cell: outside */
 #define LUNDASPRO_CELL_TAKEN 11     /* first bad cell: already taken */
 #define LUNDASPRO_FOOD_FREE 12      /* food above the free cells */
 #define LUNDASPRO_MALFORMED 20      /* image not well-formed */
-#define LUNDASPRO_OTHER_SETTING 21  /* n or g differs from the setting */
+#define LUNDASPRO_OTHER_SETTING 21  /* snakes or grid differ from the setting */
 #define LUNDASPRO_FOOD_DUE 22       /* food is due at a step */
 #define LUNDASPRO_NONE_DUE 23       /* none is due at a draw */
-#define LUNDASPRO_ACTION_COUNT 24   /* action count is not n */
+#define LUNDASPRO_ACTION_COUNT 24   /* action count is not the number of snakes */
 #define LUNDASPRO_ACTION 25         /* a living snake's action above 2 */
-#define LUNDASPRO_AGENT 26          /* agent not below n */
+#define LUNDASPRO_AGENT 26          /* agent not below the number of snakes */
 #define LUNDASPRO_OUTCOME 27        /* outcome not below the count */
 #define LUNDASPRO_COUNT 28          /* count above 2^64 - 1 */
 #define LUNDASPRO_BUFFER 29         /* an output buffer shorter than its answer */
 #define LUNDASPRO_LIST 30           /* list to rank: wrong length, a cell not free, or repeated */
 #define LUNDASPRO_WEIGHT 31         /* a reward weight not finite */
+#define LUNDASPRO_CONTENTS 40       /* a book's contents: cut short, off their layout, a refused setting, starts out of line, words left in a book of no pages */
+#define LUNDASPRO_PAGE 41           /* no such page */
+#define LUNDASPRO_PAGES 42          /* above 65,535 pages */
 
 /* Causes of death. */
 #define LUNDASPRO_NO_CAUSE 0
@@ -104,6 +108,9 @@ uint64_t lundaspro_flat_legal_actions(const uint16_t *image, uint64_t image_len,
 uint64_t lundaspro_flat_truncation(const uint16_t *image, uint64_t image_len, uint64_t agent, const uint8_t event[8], uint8_t marked[8]);
 uint64_t lundaspro_flat_reward(const double weights[7], const uint8_t event[8], double sum[1]);
 uint64_t lundaspro_flat_relative_to_absolute(uint64_t heading, uint64_t action, uint64_t after[1]);
+uint64_t lundaspro_flat_write_book(const uint64_t setting[9], uint64_t pages, const uint16_t *row, uint64_t row_len, uint16_t *out, uint64_t out_len,
+    uint64_t written[1]);
+uint64_t lundaspro_flat_page(const uint16_t *book, uint64_t book_len, uint64_t page, uint64_t part[2]); /* start, length */
 
 /* ---- the calls with records */
 
@@ -112,7 +119,7 @@ static inline uint8_t lundaspro_refusal(uint64_t returned) {
     return (uint8_t)(returned % 256);
 }
 
-/* A match's setting; win_food_lead and max_ticks count only where the flag before them is set. No call here reads max_ticks. */
+/* A match's setting; win_food_lead and max_ticks count only where the flag before them is set. Only write_book reads max_ticks. */
 typedef struct {
     uint64_t num_snakes;
     int32_t grid_size;
@@ -202,6 +209,13 @@ typedef struct {
     size_t start;
     size_t len;
 } lundaspro_part;
+
+/* A page of the caller's book: `len` words from word `start` on. */
+typedef struct {
+    uint8_t refusal;
+    size_t start;
+    size_t len;
+} lundaspro_page_answer;
 
 /* The setting as the exported calls take it. */
 typedef struct {
@@ -354,8 +368,28 @@ static inline uint8_t lundaspro_relative_to_absolute(uint8_t heading, uint8_t ac
     return (uint8_t)after[0];
 }
 
+/* The match book of that many images, which stand in the row one after the other: its contents, then the images. Refusals 1 to 12, 42,
+ * then 20 and 21 page by page (20 too for words after the last), 29. */
+static inline lundaspro_written lundaspro_write_book(lundaspro_setting setting, uint64_t pages, const uint16_t *row, size_t row_len, uint16_t *out, size_t out_len) {
+    lundaspro_numbers s = lundaspro_setting_numbers(setting);
+    uint64_t written[1] = {0};
+    uint64_t r = lundaspro_flat_write_book(s.numbers, pages, row, row_len, out, out_len, written);
+    lundaspro_written a = {lundaspro_refusal(r), (size_t)written[0]};
+    return a;
+}
+
+/* Where a page lies in a book, from page 0 on. Other pages are not looked at. Refusals 40, 41, 20, 21. */
+static inline lundaspro_page_answer lundaspro_page(const uint16_t *book, size_t book_len, uint64_t page) {
+    uint64_t part[2] = {0, 0};
+    uint64_t r = lundaspro_flat_page(book, book_len, page, part);
+    lundaspro_page_answer a = {lundaspro_refusal(r), (size_t)part[0], (size_t)part[1]};
+    return a;
+}
+
 #ifdef __cplusplus
 }
 #endif
+
+#include "lundaspro_sentence.h"
 
 #endif

@@ -6,7 +6,7 @@ import { once } from 'node:events';
 import { readFileSync } from 'node:fs';
 import { createServer } from 'node:http';
 import { pathToFileURL } from 'node:url';
-import { ACTIONS, Arena, CAUSES, HEADINGS, IMAGE_WORDS, instantiate, LIST_WORDS, load, PLANE_NUMBERS, Refusal } from './lundaspro.mjs';
+import { ACTIONS, Arena, BOOK_PAGES, bookWords, CAUSES, HEADINGS, IMAGE_WORDS, instantiate, LIST_WORDS, load, PLANE_NUMBERS, Refusal, SENTENCES } from './lundaspro.mjs';
 import { watched } from './watch.mjs';
 
 let checks = 0;
@@ -210,12 +210,43 @@ wrong(TypeError, () => arena.count(new Int16Array(image)));
     same(arena.step(inner, image, actions), arena.step(setting, image, [0, 0]));
 }
 
-// ---- sentences are those of the Rust client
+// ---- a sentence for each number that a call gives (tests/sentences: the header's), and one for no other
 {
-    const rust = readFileSync(new URL('../rust/src/refusal.rs', import.meta.url), 'utf8');
-    const rows = [...rust.matchAll(/^ *(\d+|_) => "(.*)",$/gm)];
-    same(rows.length, 25);
-    for (const [, number, sentence] of rows) same(new Refusal(number === '_' ? 99 : Number(number)).sentence, sentence);
+    const numbers = Object.keys(SENTENCES).map(Number);
+    same(numbers, [...Array(12).keys()].map((i) => i + 1).concat([...Array(12).keys()].map((i) => i + 20), [40, 41, 42]));
+    for (let i = 0; i < 256; i++) same(new Refusal(i).sentence, SENTENCES[i] ?? 'no number that a call gives');
+}
+
+// ---- books: of as many words as bookWords says where the caller lends nothing; a page is a view of the caller's book
+{
+    const first = arena.initial_state(setting);
+    const second = arena.step(setting, first, [0, 0]).next;
+    const row = Uint16Array.of(...first, ...second);
+    const book = arena.write_book(setting, 2, row);
+    same([book.length, bookWords(2, row.length), book[16]], [51, 51, 2]);
+    same([arena.page(book, 0), arena.page(book, 1n)], [first, second]);
+    same(arena.page(book, 1).buffer, book.buffer);
+    const lent = new Uint16Array(60).fill(9);
+    same(arena.write_book(setting, 2, row, lent), book);
+    same([...lent.subarray(51)], Array(9).fill(9));
+    lent.fill(9);
+    refused(29, () => arena.write_book(setting, 2, row, lent.subarray(0, 50)));
+    refused(42, () => arena.write_book(setting, BOOK_PAGES + 1, row, lent));
+    refused(42, () => arena.write_book(setting, 2n ** 64n - 1n, row));
+    refused(20, () => arena.write_book(setting, BOOK_PAGES, row));
+    refused(20, () => arena.write_book(setting, 1, row, lent));
+    refused(21, () => arena.write_book({ ...setting, grid_size: 4 }, 2, row, lent));
+    refused(1, () => arena.write_book({ ...setting, num_snakes: 9 }, 2, row, lent));
+    refused(41, () => arena.page(book, 2));
+    refused(41, () => arena.page(book, 2n ** 64n - 1n));
+    refused(40, () => arena.page(book.subarray(0, 20), 0));
+    refused(20, () => arena.page(book.subarray(0, 50), 1));
+    wrong(RangeError, () => arena.page(book, -1));
+    wrong(TypeError, () => arena.page([...book], 0));
+    wrong(TypeError, () => arena.write_book(setting, 2, [...row]));
+    wrong(TypeError, () => arena.write_book(setting, 0.5, row));
+    same(lent.every((n) => n === 9), true);
+    same(arena.write_book(setting, 0, new Uint16Array(0)).length, 17);
 }
 
 // ---- the watch sees a byte too much, in an answer and in a refusal, and none where there is none

@@ -11,14 +11,17 @@
 //
 // The library's memory is handled here: a call's arguments are laid one behind the other from the heap's start, and the next call begins there again, so
 // that no number of calls takes more memory than the largest of them.
-import { Refusal } from './refusal.mjs';
+import { Refusal, SENTENCES } from './refusal.mjs';
 
-export { Refusal };
+export { Refusal, SENTENCES };
 
 // An image has at most so many words, a draw lists so many cells, an observation has so many numbers.
 export const IMAGE_WORDS = 9253;
 export const LIST_WORDS = 20;
 export const PLANE_NUMBERS = 5120;
+// A book has at most so many pages; so many words has the book of so many, whose images have so many words in all.
+export const BOOK_PAGES = 65535;
+export const bookWords = (pages, images) => 17 + 2 * pages + images;
 
 // A cause's number is its place here, a heading's and an action's likewise.
 export const CAUSES = Object.freeze([null, 'Wall', 'SelfBody', 'OppBody', 'HeadOn']);
@@ -330,6 +333,38 @@ export class Arena {
         const index = this.#lendLongs(1);
         this.#check(this.#exports.lundaspro_flat_rank(w, length, l, count, index));
         return this.#long(index, 0);
+    }
+
+    // ---- books
+
+    // The match book of that many images, which stand in the row one after the other. Refusals 1 to 12, 42, then 20 and 21 page by page; 29 where `out` is too
+    // short.
+    write_book(setting, pages, row, out) {
+        const numbers = settingNumbers(setting);
+        const count = unsigned(pages, 'pages');
+        const length = lengthOf(row, Uint16Array, 'row');
+        // what has more pages is refused
+        const most = bookWords(Math.min(Number(count), BOOK_PAGES), row.length);
+        const room = roomOf(out, Uint16Array, most, 'out');
+        this.#begin();
+        const s = this.#putLongs(numbers);
+        const r = this.#putWords(row);
+        const o = this.#room(2 * room);
+        const written = this.#lendLongs(1);
+        this.#check(this.#exports.lundaspro_flat_write_book(s, count, r, length, o, BigInt(room), written));
+        return taken(this.#words, o / 2, this.#number(written, 0), out);
+    }
+
+    // The image on a page of a book, from page 0 on: a view of the caller's words. Word 16 of a book says how many pages it has. Refusals 40, 41, 20, 21.
+    page(book, page) {
+        const length = lengthOf(book, Uint16Array, 'book');
+        const number = unsigned(page, 'page');
+        this.#begin();
+        const b = this.#putWords(book);
+        const part = this.#lendLongs(2);
+        this.#check(this.#exports.lundaspro_flat_page(b, length, number, part));
+        const start = this.#number(part, 0);
+        return book.subarray(start, start + this.#number(part, 1));
     }
 
     // ---- agents

@@ -8,6 +8,7 @@ const MOST_WORDS = 16384n;
 const MOST_NUMBERS = 8192n;
 const MOST_ACTIONS = 64n;
 const MOST_RANKED = 2048n;
+const MOST_BOOK_WORDS = 262144n;
 const PATTERN = 42406;
 
 const watch = watched((await instantiate(process.argv[2])).exports);
@@ -70,8 +71,8 @@ class Fields {
     cells(most) {
         return Uint16Array.from(this.counted(most, 65535n), Number);
     }
-    image() {
-        const words = this.cells(MOST_WORDS);
+    image(most = MOST_WORDS) {
+        const words = this.cells(most);
         this.end();
         return words;
     }
@@ -171,6 +172,17 @@ const calls = {
         const snake = f.number();
         const body = arena.body(f.image(), snake);
         return [body.byteOffset / 2, body.length, ...body];
+    },
+    B(f) {
+        const setting = f.setting();
+        const out = lendWords(f.upTo(MOST_BOOK_WORDS));
+        const pages = f.number();
+        return counted(arena.write_book(setting, pages, f.image(MOST_BOOK_WORDS), out));
+    },
+    P(f) {
+        const number = f.number();
+        const page = arena.page(f.image(MOST_BOOK_WORDS), number);
+        return [page.byteOffset / 2, page.length, ...page];
     },
     t: (f) => [arena.actor(f.image()) === 'Chance' ? 1 : 0],
     l(f) {

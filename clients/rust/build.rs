@@ -10,10 +10,14 @@ fn main() {
             PathBuf::from(env::var_os("CARGO_MANIFEST_DIR").expect("cargo sets it"))
                 .join("../../target/staticlib")
         });
-    println!(
-        "cargo:rerun-if-changed={}",
-        folder.join("libbindings.a").display()
-    );
+    let archive = folder.join("libbindings.a");
+    println!("cargo:rerun-if-changed={}", archive.display());
+    if !archive.exists() {
+        println!(
+            "cargo:warning=no {}: `rt staticlib bindings` makes it in the repository's target/staticlib; LUNDASPRO_LIB names another folder",
+            archive.display()
+        );
+    }
     println!("cargo:rustc-link-search=native={}", folder.display());
     println!("cargo:rustc-link-lib=static=bindings");
 }

@@ -123,3 +123,35 @@ pub fn observe(image: &[u16], agent: u64, obs: &mut [f32]) -> Result<usize, Refu
     })?;
     Ok(written[0] as usize)
 }
+
+/// The book of so many images that stand in a row; [`crate::book_words`] says how long it is. Refusals 1 to 12, 42, 20, 21, 29.
+pub fn write_book(
+    setting: &Setting,
+    pages: u64,
+    row: &[u16],
+    out: &mut [u16],
+) -> Result<usize, Refusal> {
+    let mut written = [0];
+    Refusal::check(unsafe {
+        raw::lundaspro_flat_write_book(
+            &setting.flat(),
+            pages,
+            row.as_ptr(),
+            row.len(),
+            out.as_mut_ptr(),
+            out.len(),
+            &mut written,
+        )
+    })?;
+    Ok(written[0] as usize)
+}
+
+/// A page of a book, from page 0 on: the book's own words. Refusals 40, 41, 20, 21.
+pub fn page(book: &[u16], page: u64) -> Result<&[u16], Refusal> {
+    let mut part = [0; 2];
+    Refusal::check(unsafe {
+        raw::lundaspro_flat_page(book.as_ptr(), book.len(), page, &mut part)
+    })?;
+    let [start, len] = part.map(|n| n as usize);
+    Ok(&book[start..start + len])
+}

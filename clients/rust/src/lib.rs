@@ -1,22 +1,30 @@
 //! A snake arena whose every call is proved, for Rust programs: crate bindings' static library behind safe functions.
 //!
-//! ```no_run
-//! # fn main() -> Result<(), lundaspro::Refusal> {
-//! use lundaspro::Setting;
+//! ```
+//! use lundaspro::{Action::*, Refusal, Setting};
+//!
 //! let setting = Setting { num_snakes: 2, grid_size: 3, initial_length: 1, initial_food_count: 1, ..Setting::default() };
 //! let start = setting.initial_state()?;
-//! let drawn = start.draw(2)?;
-//! let moved = drawn.next.step(&setting, &[0, 0])?;
-//! println!("over: {}, due: {}", moved.terminal, moved.next.words()[2]);
-//! # Ok(())
-//! # }
+//! assert_eq!(start.step(&setting, &[Forward, Forward]), Err(Refusal::FoodDue));
+//! let drawn = start.draw(2)?.next;
+//! let moved = drawn.step(&setting, &[Forward, Forward])?.next;
+//! let eaten = moved.step(&setting, &[TurnLeft, Forward])?;
+//! assert_eq!(eaten.next.to_string(), "..A\nB.a\n...");
+//! assert_eq!((eaten.next.head(0), eaten.next.due(), eaten.terminal), (Some(2), 1, false));
+//! assert_eq!(eaten.events[0].to_string(), "a");
+//! # Ok::<(), Refusal>(())
 //! ```
 //!
 //! Everything here owns its memory; module [`lend`] has the same calls over the caller's slices.
+mod action;
+mod board;
+mod book;
 pub mod lend;
+mod letters;
 mod raw;
 mod refusal;
 
+pub use book::{book_words, Book, Pages};
 pub use refusal::Refusal;
 
 /// An image has at most this many words.
@@ -26,8 +34,8 @@ pub const LIST_WORDS: usize = 20;
 /// An observation has at most this many numbers.
 pub const PLANE_NUMBERS: usize = 5120;
 
-/// A match's setting, by the names of the Rust's `Snake`. No call reads `max_ticks`.
-#[derive(Clone, Copy, Debug, Default, PartialEq, Eq)]
+/// A match's setting, by the names of the Rust's `Snake`. Only [`Setting::write_book`] reads `max_ticks`.
+#[derive(Clone, Copy, Debug, Default, PartialEq, Eq, Hash)]
 pub struct Setting {
     pub num_snakes: u64,
     pub grid_size: i32,
@@ -201,10 +209,11 @@ impl Image {
         &self.0[start..start + len]
     }
 
-    /// Refusals 1 to 12, 20, 21, 22, 24, 25.
-    pub fn step(&self, setting: &Setting, actions: &[u64]) -> Result<Step, Refusal> {
+    /// An action for each snake, dead ones included: a dead snake's may be any. Refusals 1 to 12, 20, 21, 22, 24.
+    pub fn step(&self, setting: &Setting, actions: &[Action]) -> Result<Step, Refusal> {
+        let numbers: Vec<u64> = actions.iter().map(|action| action.number()).collect();
         let mut words = vec![0; IMAGE_WORDS];
-        let a = lend::step(setting, &self.0, actions, &mut words)?;
+        let a = lend::step(setting, &self.0, &numbers, &mut words)?;
         Ok(Step {
             next: Image::cut(words, a.words),
             terminal: a.terminal,
@@ -263,13 +272,13 @@ impl Image {
         })
     }
 
-    /// Actions 0, 1 and 2, or none. Refusals 20, 26.
-    pub fn legal_actions(&self, agent: u64) -> Result<&'static [u64], Refusal> {
+    /// All three actions, or none. Refusals 20, 26.
+    pub fn legal_actions(&self, agent: u64) -> Result<&'static [Action], Refusal> {
         let mut actions = [0];
         Refusal::check(unsafe {
             raw::lundaspro_flat_legal_actions(self.0.as_ptr(), self.0.len(), agent, &mut actions)
         })?;
-        Ok(&[0, 1, 2][..actions[0] as usize])
+        Ok(&Action::ALL[..actions[0] as usize])
     }
 
     /// The event with `survived_to_max_ticks` set to whether the agent lives. Refusals 20, 26.

@@ -91,4 +91,19 @@ extern "C" {
         action: u64,
         after: &mut [u64; 1],
     ) -> u64;
+    pub fn lundaspro_flat_write_book(
+        setting: &Setting,
+        pages: u64,
+        row: *const u16,
+        row_len: usize,
+        out: *mut u16,
+        out_len: usize,
+        written: &mut [u64; 1],
+    ) -> u64;
+    pub fn lundaspro_flat_page(
+        book: *const u16,
+        book_len: usize,
+        page: u64,
+        part: &mut [u64; 2],
+    ) -> u64;
 }

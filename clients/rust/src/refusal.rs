@@ -1,51 +1,85 @@
-//! The numbers that a call may refuse by.
+//! The numbers that a call may refuse by, each with its name and its sentence.
 use std::error::Error;
 use std::fmt;
-use std::num::NonZeroU8;
 
-/// Why a call refused: its number, and what that says.
-#[derive(Clone, Copy, Debug, PartialEq, Eq, PartialOrd, Ord, Hash)]
-pub struct Refusal(NonZeroU8);
+macro_rules! refusals {
+    ($($number:literal $name:ident $sentence:literal)*) => {
+        /// Why a call refused. The names are those of `clients/c/lundaspro.h`.
+        #[derive(Clone, Copy, Debug, PartialEq, Eq, PartialOrd, Ord, Hash)]
+        #[non_exhaustive]
+        pub enum Refusal {
+            $(#[doc = $sentence] $name,)*
+            /// A number that this crate has no name for: the archive is of another state.
+            Unnamed(u8),
+        }
+
+        impl Refusal {
+            /// All that have a name, by their numbers.
+            pub const ALL: &'static [Refusal] = &[$(Refusal::$name),*];
+
+            /// The refusal of a number; `None` for 0.
+            pub fn from_number(number: u8) -> Option<Refusal> {
+                match number {
+                    0 => None,
+                    $($number => Some(Refusal::$name),)*
+                    other => Some(Refusal::Unnamed(other)),
+                }
+            }
+
+            /// Its number in documents 01 and 02.
+            pub fn number(self) -> u8 {
+                match self {
+                    $(Refusal::$name => $number,)*
+                    Refusal::Unnamed(number) => number,
+                }
+            }
+
+            /// When it is given.
+            pub fn sentence(self) -> &'static str {
+                match self {
+                    $(Refusal::$name => $sentence,)*
+                    Refusal::Unnamed(_) => "no number that a call gives",
+                }
+            }
+        }
+    };
+}
+
+// tests/sentences holds these to the header's
+refusals! {
+    1 Snakes "snakes not 2..8"
+    2 LengthZero "initial length 0"
+    3 LeadZero "food lead 0"
+    4 LeadNotTwo "food lead set, snakes not 2"
+    5 Grid "grid above 32 (space query: or below 1)"
+    6 FoodArea "food above g*g (0 when g < 0)"
+    7 FoodChain "food above 10,000"
+    8 Product "g*g(g*g-1).. of min(snakes, food) factors above 2^53"
+    9 Untraceable "some body cannot be traced to its length"
+    10 CellOutside "first bad cell: outside"
+    11 CellTaken "first bad cell: already taken"
+    12 FoodFree "food above the free cells"
+    20 Malformed "image not well-formed"
+    21 OtherSetting "snakes or grid differ from the setting"
+    22 FoodDue "food is due at a step"
+    23 NoneDue "none is due at a draw"
+    24 ActionCount "action count is not the number of snakes"
+    25 Action "a living snake's action above 2"
+    26 Agent "agent not below the number of snakes"
+    27 Outcome "outcome not below the count"
+    28 Count "count above 2^64 - 1"
+    29 Buffer "an output buffer shorter than its answer"
+    30 List "list to rank: wrong length, a cell not free, or repeated"
+    31 Weight "a reward weight not finite"
+    40 Contents "a book's contents: cut short, off their layout, a refused setting, starts out of line, words left in a book of no pages"
+    41 Page "no such page"
+    42 Pages "above 65,535 pages"
+}
 
 impl Refusal {
     /// `Ok` where a call returned 0; the table's number is what is below 256.
     pub(crate) fn check(returned: u64) -> Result<(), Refusal> {
-        NonZeroU8::new((returned % 256) as u8).map_or(Ok(()), |number| Err(Refusal(number)))
-    }
-
-    pub fn number(self) -> u8 {
-        self.0.get()
-    }
-
-    /// When it is given.
-    pub fn sentence(self) -> &'static str {
-        match self.number() {
-            1 => "snakes not 2..8",
-            2 => "initial length 0",
-            3 => "food lead 0",
-            4 => "food lead set, snakes not 2",
-            5 => "grid above 32 (space query: or below 1)",
-            6 => "food above g² (0 when g < 0)",
-            7 => "food above 10,000",
-            8 => "product g²(g²-1).. of min(snakes, food) factors above 2^53",
-            9 => "some body cannot be traced to its length",
-            10 => "first bad cell, in snake then body order: outside",
-            11 => "first bad cell, in snake then body order: already taken",
-            12 => "food above the free cells",
-            20 => "image not well-formed",
-            21 => "n or g differs from the setting",
-            22 => "food is due at a step",
-            23 => "none is due at a draw",
-            24 => "action count is not n",
-            25 => "a living snake's action above 2",
-            26 => "agent not below n",
-            27 => "outcome not below the count",
-            28 => "count above 2^64 - 1",
-            29 => "an output buffer shorter than its answer",
-            30 => "list to rank: wrong length, a cell not free, or repeated",
-            31 => "a reward weight not finite",
-            _ => "no number that a call gives",
-        }
+        Refusal::from_number((returned % 256) as u8).map_or(Ok(()), Err)
     }
 }
 

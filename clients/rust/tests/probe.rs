@@ -9,6 +9,7 @@ const MOST_WORDS: u64 = 16_384;
 const MOST_NUMBERS: u64 = 8_192;
 const MOST_ACTIONS: u64 = 64;
 const MOST_RANKED: u64 = 2_048;
+const MOST_BOOK_WORDS: u64 = 262_144;
 const PATTERN: u16 = 42_406;
 
 /// An answer's numbers and whether the lent buffers kept the rest; or a refusal and whether they kept all.
@@ -68,19 +69,27 @@ impl Fields<'_> {
         Some(list.into_iter().map(|n| n as u16).collect())
     }
 
-    fn words(&mut self) -> Option<Vec<u16>> {
-        let words = self.cells(MOST_WORDS)?;
+    fn words_up_to(&mut self, most: u64) -> Option<Vec<u16>> {
+        let words = self.cells(most)?;
         self.end()?;
         Some(words)
+    }
+
+    fn words(&mut self) -> Option<Vec<u16>> {
+        self.words_up_to(MOST_WORDS)
     }
 
     fn image(&mut self) -> Option<Image> {
         self.words().map(Image::unchecked)
     }
 
-    fn buffer(&mut self) -> Option<Vec<u16>> {
-        let room = self.up_to(MOST_WORDS)?;
+    fn buffer_up_to(&mut self, most: u64) -> Option<Vec<u16>> {
+        let room = self.up_to(most)?;
         Some(vec![PATTERN; room as usize])
+    }
+
+    fn buffer(&mut self) -> Option<Vec<u16>> {
+        self.buffer_up_to(MOST_WORDS)
     }
 
     fn setting(&mut self) -> Option<Setting> {
@@ -130,6 +139,12 @@ fn counted(list: &[u16]) -> Vec<u64> {
         .into_iter()
         .chain(list.iter().map(|&n| u64::from(n)))
         .collect()
+}
+
+/// Where a part of the words begins, and what it holds.
+fn placed(part: &[u16], words: &[u16]) -> Vec<u64> {
+    let start = (part.as_ptr() as usize - words.as_ptr() as usize) / 2;
+    [start as u64].into_iter().chain(counted(part)).collect()
 }
 
 fn bytes(event: Event) -> impl Iterator<Item = u64> {
@@ -208,12 +223,26 @@ fn observe(f: &mut Fields) -> Option<Answer> {
 fn body(f: &mut Fields) -> Option<Answer> {
     let snake = f.number()?;
     let image = f.image()?;
-    let body = image.body(snake);
-    let start = (body.as_ptr() as usize - image.words().as_ptr() as usize) / 2;
-    Some(Ok((
-        [start as u64].into_iter().chain(counted(body)).collect(),
-        true,
-    )))
+    Some(plain(Ok(placed(image.body(snake), image.words()))))
+}
+
+fn write_book(f: &mut Fields) -> Option<Answer> {
+    let setting = f.setting()?;
+    let mut out = f.buffer_up_to(MOST_BOOK_WORDS)?;
+    let pages = f.number()?;
+    let row = f.words_up_to(MOST_BOOK_WORDS)?;
+    Some(match lend::write_book(&setting, pages, &row, &mut out) {
+        Ok(n) => Ok((counted(&out[..n]), kept(&out, n))),
+        Err(refusal) => Err((refusal, kept(&out, 0))),
+    })
+}
+
+fn page(f: &mut Fields) -> Option<Answer> {
+    let page = f.number()?;
+    let book = f.words_up_to(MOST_BOOK_WORDS)?;
+    Some(plain(
+        lend::page(&book, page).map(|words| placed(words, &book)),
+    ))
 }
 
 fn reward(f: &mut Fields) -> Option<Answer> {
@@ -280,7 +309,8 @@ fn call(line: &str) -> Option<Answer> {
             let agent = f.number()?;
             let actions = f.image()?.legal_actions(agent);
             Some(plain(actions.map(|list| {
-                [list.len() as u64].iter().chain(list).copied().collect()
+                let numbers = list.iter().map(|action| action.number());
+                [list.len() as u64].into_iter().chain(numbers).collect()
             })))
         }
         "z" => Some(plain(
@@ -308,6 +338,8 @@ fn call(line: &str) -> Option<Answer> {
             Some(space(lundaspro::action_space()))
         }
         "h" => turn(f),
+        "B" => write_book(f),
+        "P" => page(f),
         "x" => Some(plain(Image::checked(f.words()?).map(|_| vec![]))),
         _ => None,
     }

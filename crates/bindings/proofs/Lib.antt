@@ -1,3 +1,4 @@
 pub mod Saying
 pub mod Lying
 pub mod Theorems
+pub mod BookLaws

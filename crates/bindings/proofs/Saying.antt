@@ -14,7 +14,7 @@ use Rattle.rules.specs.Events.{blank, eight}
 use Rattle.rules.specs.Image.{imageOf, wellFormed}
 use Rattle.rules.specs.Step.{Transition}
 use Rattle.rules.specs.View.{lit}
-use Rattle.rules.specs.Says.{Says, refuses, gives, says, saysVerdict, saysNumber, saysKey, saysActor, saysLegal, saysMark, saysSum, saysSpace, seen, beside, lent, Shape, box, discrete}
+use Rattle.rules.specs.Says.{Says, refuses, gives, says, saysVerdict, saysNumber, saysKey, saysActor, saysLegal, saysMark, saysSum, saysSpace, seen, beside, lent, Shape}
 use Rattle.rules.specs.Calls.{settingSays, initialSays, stepSays, observeSays, Draw, drawSays, actorSays, legalSays, keySays, truncationSays, rewardSays, spaceSays, actionSays}
 use Rattle.rules.specs.Promises.{Turns, Checks, Validates, Starts, Steps, Observes, Draws, ActsNext, Allows, Keys, Truncates, Rewards, ObservationSpace, ActionSpace}
 use Rattle.rules.specs.declared.Heading.{Heading}
@@ -43,8 +43,13 @@ use Rattle.rules.specs.declared.Reward.{Reward}
 use Rattle.rules.specs.declared.Reward.the-variants.{Sum, Refused as RefusedSum}
 use Rattle.rules.specs.declared.Space.{Space}
 use Rattle.rules.specs.declared.Space.the-variants.{Box, Discrete, Refused as RefusedSpace}
+use Rattle.contents.specs.Calls.{saysPage}
+use Rattle.contents.specs.declared.PageFound.{PageFound}
+use Rattle.contents.specs.declared.PageFound.the-variants.{Part, Refused as RefusedPage}
+use Rattle.book.specs.Calls.{writeSays, pageSays}
+use Rattle.book.specs.Promises.{Pages, Writes as Binds}
 use Rattle.flat.specs.Flat.{refusalNumber, eventBytes, eventsBytes}
-use Rattle.bindings.specs.Exports.{refusalOf, formedNumber, told, one, bitNumber, seenWhole, keyNumbers, actionNumbers, shapeNumbers, shapeBounds, stepNumbers, drawNumbers, Tells, Writes, FlatSpace, FlatSteps, FlatDraws}
+use Rattle.bindings.specs.Exports.{refusalOf, formedNumber, told, one, bitNumber, whole, keyNumbers, actionNumbers, shapeNumbers, shapeBounds, spanNumbers, Tells, Writes, FlatSpace, FlatSteps, FlatDraws}
 
 abbrev Apart : Type 0
 Apart = _≡_ {A = ℕ} 0 1
@@ -97,6 +102,13 @@ module _ (w : List ℕ) (i : ℕ) (a : Legal) (q : Allows w i a) (old : List ℕ
 
   pub legal-refused : (k : Refusal) → a ≡ RefusedLegal k → (r : ℕ) → r ≡ refusalNumber k → Tells actionNumbers (legalSays w i) old old r
   legal-refused k e = refused actionNumbers (legalSays w i) old k (ap saysLegal (sym e) ∙ q .answer)
+
+module _ (b : List ℕ) (i : ℕ) (a : PageFound) (q : Pages b i a) (old : List ℕ) where
+  pub page-told : (s n : ℕ) → a ≡ Part s n → Tells spanNumbers (pageSays b i) old (s ∷ n ∷ []) 0
+  page-told s n e = given spanNumbers (pageSays b i) old (record { start = s; len = n }) (ap saysPage (sym e) ∙ q .answer)
+
+  pub page-refused : (k : Refusal) → a ≡ RefusedPage k → (r : ℕ) → r ≡ refusalNumber k → Tells spanNumbers (pageSays b i) old old r
+  page-refused k e = refused spanNumbers (pageSays b i) old k (ap saysPage (sym e) ∙ q .answer)
 
 -- e is what the caller's bytes are read as
 module _ (w : List ℕ) (i : ℕ) (e e′ : Event) (a : Truncated) (q : Truncates w i e a) (p : e ≡ e′) (old : List ℕ) where
@@ -173,28 +185,38 @@ module _ (a : Space) (old new : List ℕ) (bounds newBounds : List Float) (r : �
 
 -- ---- a buffer, and how many words were written
 
-module _ {A B : Type 0} (f : A → List B) (old new : List B) (count : List ℕ) where
-  pub done : (x : Says A) (n : ℕ) → gives n ≡ seen (λ a. length (f a)) x → new ≡ lent f old x → Writes f x old new count (n ∷ []) 0
-  done (refuses k) n p q = let z : Apart = cc in absurd (omega arith)
-  done (gives a) n p q = let e : n ≡ length (f a) = cc in record { refusal = refl; count = ap one e; words = q }
+pub words-told : (a : Answer) (n : ℕ) → a ≡ Done n → (old : List ℕ) → Tells one (says a) old (n ∷ []) 0
+words-told a n e old = given one (says a) old n (ap says (sym e))
 
-  pub not-done : (x : Says A) (k : Refusal) → refuses k ≡ seen (λ a. length (f a)) x → new ≡ lent f old x → (r : ℕ) → r ≡ refusalNumber k → Writes f x old new count count r
-  not-done (refuses j) k p q r e = let s : k ≡ j = cc in record { refusal = e ∙ ap refusalNumber s; count = refl; words = q }
-  not-done (gives a) k p q r e = let z : Apart = cc in absurd (omega arith)
+pub words-refused : (a : Answer) (k : Refusal) → a ≡ Refused k → (old : List ℕ) (r : ℕ) → r ≡ refusalNumber k → Tells one (says a) old old r
+words-refused a k e old = refused one (says a) old k (ap says (sym e))
 
-module _ (s s′ : Setting) (old new : List ℕ) (a : Answer) (q : Starts s old new a) (p : s ≡ s′) (count : List ℕ) where
-  pub start-told : (n : ℕ) → a ≡ Done n → Writes imageOf (initialSays s′ (length old)) old new count (n ∷ []) 0
-  start-told n e = rw (← p) (done imageOf old new count (initialSays s (length old)) n (ap says (sym e) ∙ q .answer) (q .words))
+module _ {A B : Type 0} (f : A → List B) where
+  same-refusal : (x : Says A) → refusalOf (seen (λ a. length (f a)) x) ≡ refusalOf x
+  same-refusal (refuses k) = refl
+  same-refusal (gives a) = refl
 
-  pub start-refused : (k : Refusal) → a ≡ Refused k → (r : ℕ) → r ≡ refusalNumber k → Writes imageOf (initialSays s′ (length old)) old new count count r
-  start-refused k e r n = rw (← p) (not-done imageOf old new count (initialSays s (length old)) k (ap says (sym e) ∙ q .answer) (q .words) r n)
+  same-count : (count : List ℕ) (x : Says A) → told one count (seen (λ a. length (f a)) x) ≡ told (λ a. one (length (f a))) count x
+  same-count count (refuses k) = refl
+  same-count count (gives a) = refl
 
-module _ (w : List ℕ) (i : ℕ) (old new : List Float) (a : Answer) (q : Observes w i old new a) (count : List ℕ) where
-  pub view-told : (n : ℕ) → a ≡ Done n → Writes seenWhole (observeSays w i (length old)) old new count (n ∷ []) 0
-  view-told n e = done seenWhole old new count (observeSays w i (length old)) n (ap says (sym e) ∙ q .answer) (q .numbers)
+  pub written : (x : Says A) (old new : List B) (a : Answer) (count now : List ℕ) (r : ℕ) → Tells one (says a) count now r → says a ≡ seen (λ a. length (f a)) x → new ≡ lent f old x
+      → Writes f x old new count now r
+  written x old new a count now r t e q = record {
+    refusal = t .refusal ∙ ap refusalOf e ∙ same-refusal x;
+    count = t .answer ∙ ap (told one count) e ∙ same-count count x;
+    words = q;
+  }
 
-  pub view-refused : (k : Refusal) → a ≡ Refused k → (r : ℕ) → r ≡ refusalNumber k → Writes seenWhole (observeSays w i (length old)) old new count count r
-  view-refused k e = not-done seenWhole old new count (observeSays w i (length old)) k (ap says (sym e) ∙ q .answer) (q .numbers)
+module _ (a : Answer) (count now : List ℕ) (r : ℕ) (t : Tells one (says a) count now r) where
+  pub start-told : (s s′ : Setting) (old new : List ℕ) → Starts s old new a → s ≡ s′ → Writes imageOf (initialSays s′ (length old)) old new count now r
+  start-told s s′ old new q p = rw (← p) (written imageOf (initialSays s (length old)) old new a count now r t (q .answer) (q .words))
+
+  pub view-told : (w : List ℕ) (i : ℕ) (old new : List Float) → Observes w i old new a → Writes whole (observeSays w i (length old)) old new count now r
+  view-told w i old new q = written whole (observeSays w i (length old)) old new a count now r t (q .answer) (q .numbers)
+
+  pub book-told : (s s′ : Setting) (p : ℕ) (row old new : List ℕ) → Binds s p row old new a → s ≡ s′ → Writes whole (writeSays s′ p row (length old)) old new count now r
+  book-told s s′ p row old new q e = rw (← e) (written whole (writeSays s p row (length old)) old new a count now r t (q .answer) (q .words))
 
 -- ---- a draw
 

@@ -1,7 +1,7 @@
 -- The flat answers lose nothing: refusal 0 says that an answer came, reading the flat form back gives what the call says, and two answers that meet
 -- one promise are equal, with the lent memory. Assumes nothing.
 use Prim.Native.Nat.{ℕ}
-use mathlib.Core.Path.{_≡_, refl, sym, ap, ap₂, _∙_}
+use mathlib.Core.Path.{_≡_, refl, sym, ap, _∙_}
 use mathlib.Core.Bool.{Bool, true, false, not, _&&_}
 use mathlib.Core.List.{List, [], _∷_}
 use mathlib.Core.Option.{Option, none, some}
@@ -12,7 +12,7 @@ use lib.IntN.{ℤ}
 use lib.Ieee.{Float, nan}
 use lib.ListN.{length, getD, take, drop}
 use lib.Seq.{take-append-seam}
-use Rattle.lists.specs.Choice.{_if_else_, bit}
+use Rattle.lists.specs.Choice.{_if_else_}
 use Rattle.lists.specs.Below.{eachBelow}
 use Rattle.lists.specs.Lists.{all, overFront}
 use Rattle.rules.specs.Tables.{Table, by}
@@ -31,11 +31,10 @@ use Rattle.rules.specs.Setting.{settingOrder, sideOf, initialState}
 use Rattle.rules.specs.Says.{Says, refuses, gives, byTable, lent, Shape, box, discrete}
 use Rattle.rules.specs.Calls.{settingSays, initialSays, stepSays, observeSays, countSays, Draw, drawSays, rankSays, actorSays, legalSays, keySays, truncationSays, rewardSays, spaceSays}
 use Rattle.rules.specs.Orders.{initialOrder, stepOrder, observeOrder, countOrder, drawOrder, rankOrder, imageOrder, agentOrder, rewardOrder, spaceOrder}
-use Rattle.rules.specs.declared.Refusal.{Refusal}
 use Rattle.rules.specs.declared.Setting.{Setting}
 use Rattle.rules.specs.declared.Weights.{Weights}
 use Rattle.rules.specs.declared.Event.{Event}
-use Rattle.flat.specs.Flat.{flagIn, eventIn, eventBytes, eventsBytes, refusalNumber}
+use Rattle.flat.specs.Flat.{flagIn, eventIn, eventsBytes}
 use Rattle.flat.proofs.Theorems.{flag-back, event-back}
 use Rattle.bindings.specs.Exports.{one, bitNumber, keyNumbers, actionNumbers, shapeNumbers, shapeBounds, Tells, Writes, FlatSpace, FlatSteps, FlatDraws, FlatBody}
 

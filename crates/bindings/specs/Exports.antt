@@ -16,6 +16,7 @@ use Rattle.rules.specs.View.{lit}
 use Rattle.rules.specs.Says.{Says, refuses, gives, lent, Shape, box, discrete}
 use Rattle.rules.specs.Calls.{Draw, bodyAsked}
 use Rattle.image.specs.Memory.{startAsked}
+use Rattle.contents.specs.Calls.{Span}
 use Rattle.flat.specs.Flat.{refusalNumber, eventsBytes}
 
 -- ---- flat forms
@@ -43,9 +44,9 @@ one x = x ∷ []
 abbrev pub bitNumber : Bool → List ℕ
 bitNumber b = bit b ∷ []
 
--- the numbers themselves
-abbrev pub seenWhole : List Float → List Float
-seenWhole v = v
+-- the words or numbers themselves
+abbrev pub whole : {B : Type 0} → List B → List B
+whole v = v
 
 -- whether there is a key, and the key
 abbrev pub keyNumbers : Option ℕ → List ℕ
@@ -65,6 +66,10 @@ shapeNumbers (discrete n) = 1 ∷ n ∷ 0 ∷ 0 ∷ 0 ∷ []
 abbrev pub shapeBounds : Shape → List Float
 shapeBounds (box p h w l t) = l ∷ t ∷ []
 shapeBounds (discrete n) = lit false ∷ lit false ∷ []
+
+-- where a page lies in its book
+abbrev pub spanNumbers : Span → List ℕ
+spanNumbers q = q .start ∷ q .len ∷ []
 
 abbrev pub stepNumbers : Transition → List ℕ
 stepNumbers o = length (imageOf (o .next)) ∷ bit (o .terminal) ∷ []

@@ -1,23 +1,10 @@
 // The calls on chance: count, draw, rank.
+use crate::tells::tell_number;
 use flat::refusal_number;
 use rules::Answer;
-use rules::Number;
 ghost use lib.ListN.{length};
-ghost use Rattle.rules.specs.Says.{saysNumber};
 ghost use Rattle.rules.specs.Calls.{countSays, drawSays, rankSays};
 ghost use Rattle.bindings.specs.Exports.{one, Tells, FlatDraws};
-
-fn tell_number(a: Number, out: &mut [u64; 1]) -> u64
-    ensures { λ r. ⌜ Tells one (saysNumber a) (now (out .entry)) (now (out .exit)) r ⌝ }
-{
-    match a {
-        Number::Value(n) => {
-            *out = [n];
-            0
-        }
-        Number::Refused(r) => refusal_number(r),
-    }
-}
 
 // How many outcomes. Refusals 20, 23, 28.
 #[no_mangle]

@@ -1,10 +1,14 @@
-// The arena's calls for other languages: every public call of `arena` as an exported function over numbers, arrays of fixed size and
-// slices. A call answers its refusal, 0 for none; all else of an answer goes to what is lent, which a refusal leaves untouched. No call has a
-// `requires`. `clients/c/lundaspro.h` declares the same functions.
+// The calls for other languages: every public call of `arena`, and a book's writer and page, as an exported function over numbers, arrays of
+// fixed size and slices. A call answers its refusal, 0 for none; all else of an answer goes to what is lent, which a refusal leaves untouched. No
+// call has a `requires`. `clients/c/lundaspro.h` declares the same functions.
+mod books;
 mod chances;
 mod matches;
+mod tells;
 mod views;
 
+pub use books::lundaspro_flat_page;
+pub use books::lundaspro_flat_write_book;
 pub use chances::lundaspro_flat_count;
 pub use chances::lundaspro_flat_draw;
 pub use chances::lundaspro_flat_rank;

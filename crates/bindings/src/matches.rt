@@ -1,4 +1,5 @@
 // The calls that start a match and move it on, and those on an image alone.
+use crate::tells::tell_words;
 use flat::bit;
 use flat::events_bytes;
 use flat::refusal_number;
@@ -74,13 +75,7 @@ pub extern "C" fn lundaspro_flat_initial_state(
 {
     let s = setting_in(setting);
     let a = arena::initial_state(s, out);
-    match a {
-        Answer::Done(words) => {
-            *written = [words as u64];
-            0
-        }
-        Answer::Refused(r) => refusal_number(r),
-    }
+    tell_words(a, written)
 }
 
 // The eight events; how many words, and whether the match is over. Refusals 1 to 12, 20, 21, 22, 24, 25, 29.

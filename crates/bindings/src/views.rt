@@ -1,11 +1,11 @@
 // The calls on what an agent sees, may do and gets.
+use crate::tells::tell_words;
 use flat::event_bytes;
 use flat::event_in;
 use flat::grid_in;
 use flat::refusal_number;
 use flat::weights_in;
 use rules::Actor;
-use rules::Answer;
 use rules::Heading;
 use rules::Legal;
 use rules::LengthCell;
@@ -18,7 +18,7 @@ ghost use Rattle.rules.specs.Headings.{numberOf, headingOf, actionOf, turned};
 ghost use Rattle.rules.specs.Says.{saysSpace, gives};
 ghost use Rattle.rules.specs.Calls.{observeSays, actorSays, legalSays, keySays, truncationSays, rewardSays, spaceSays, actionSays};
 ghost use Rattle.flat.specs.Flat.{gridIn, weightsIn, eventIn, eventBytes};
-ghost use Rattle.bindings.specs.Exports.{one, keyNumbers, actionNumbers, Tells, Writes, FlatSpace, bitNumber, seenWhole};
+ghost use Rattle.bindings.specs.Exports.{one, whole, bitNumber, keyNumbers, actionNumbers, Tells, Writes, FlatSpace};
 
 // How many numbers. Refusals 20, 26, 29.
 #[no_mangle]
@@ -28,16 +28,10 @@ pub extern "C" fn lundaspro_flat_observe(
     obs: &mut [f32],
     written: &mut [u64; 1],
 ) -> u64
-    ensures { λ r. ⌜ Writes seenWhole (observeSays (now (image .entry)) agent (length (now (obs .entry)))) (now (obs .entry)) (now (obs .exit)) (now (written .entry)) (now (written .exit)) r ⌝ }
+    ensures { λ r. ⌜ Writes whole (observeSays (now (image .entry)) agent (length (now (obs .entry)))) (now (obs .entry)) (now (obs .exit)) (now (written .entry)) (now (written .exit)) r ⌝ }
 {
     let a = arena::observe(image, agent, obs);
-    match a {
-        Answer::Done(numbers) => {
-            *written = [numbers as u64];
-            0
-        }
-        Answer::Refused(r) => refusal_number(r),
-    }
+    tell_words(a, written)
 }
 
 // A space's five numbers and two bounds.

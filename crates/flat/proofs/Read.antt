@@ -15,10 +15,7 @@ use Rattle.lists.proofs.Signs.{minus-one}
 use Rattle.rules.specs.declared.Limit.{Limit}
 use Rattle.rules.specs.declared.Limit.the-variants.{Unset, Is}
 use Rattle.rules.specs.declared.Setting.{Setting}
-use Rattle.rules.specs.declared.Cause.{Cause}
-use Rattle.rules.specs.declared.Event.{Event}
-use Rattle.events.specs.Causes.{causeIn}
-use Rattle.flat.specs.Flat.{limitIn, gridIn, settingIn, eventIn}
+use Rattle.flat.specs.Flat.{limitIn, gridIn, settingIn}
 
 -- ---- a limit
 

@@ -1,7 +1,7 @@
 -- The flat forms lose nothing: what is told, read again, is what it was; every setting can be said; a number that is no 32-bit grid is refused
 -- by the grid's own number. Assumes nothing.
 use Prim.Native.Nat.{ℕ, _-_, _<_, _≤_}
-use mathlib.Core.Path.{_≡_, refl, ap, _∙_}
+use mathlib.Core.Path.{_≡_, refl}
 use mathlib.Core.Bool.{Bool, true, false}
 use mathlib.Core.List.{List, [], _∷_}
 use native.Mathlib.Omega.{arith}

@@ -1,17 +1,14 @@
 -- What a caller's flat numbers mean, and what is told in flat numbers. Assumes nothing.
 use Prim.Native.Nat.{ℕ, _-_}
-use mathlib.Core.Bool.{Bool, true, false, not}
+use mathlib.Core.Bool.{Bool, not}
 use mathlib.Core.List.{List, [], _∷_}
-use mathlib.Core.Option.{Option, none, some}
 use lib.Dec.{eqb, ltb}
 use lib.IntN.{ℤ, pos, negsuc}
 use lib.Ieee.{Float, nan}
-use lib.ListN.{length, getD}
+use lib.ListN.{getD}
 use Rattle.lists.specs.Choice.{_if_else_, bit}
 use Rattle.lists.specs.Below.{eachBelow}
 use Rattle.rules.specs.Events.{blank}
-use Rattle.rules.specs.View.{lit}
-use Rattle.rules.specs.Says.{Says, refuses, gives, Shape, box, discrete}
 use Rattle.events.specs.Causes.{causeNumber, causeIn}
 use Rattle.rules.specs.declared.Limit.{Limit}
 use Rattle.rules.specs.declared.Limit.the-variants.{Unset, Is}

@@ -5,7 +5,7 @@ use rules::Limit;
 use rules::Setting;
 use rules::Weights;
 ghost use mathlib.Core.Path.{_≡_};
-ghost use Rattle.flat.specs.Flat.{flagIn, limitIn, gridIn, settingIn, weightsIn, eventIn};
+ghost use Rattle.flat.specs.Flat.{limitIn, gridIn, settingIn, weightsIn, eventIn};
 
 fn limit_in(set: u64, number: u64) -> Limit
     ensures { λ r. ⌜ r ≡ limitIn set number ⌝ }

@@ -3,7 +3,6 @@ use events::cause_number;
 use rules::Event;
 use rules::Refusal;
 ghost use mathlib.Core.Path.{_≡_};
-ghost use Prim.Native.Nat.{_<_};
 ghost use Rattle.lists.specs.Choice.{bit};
 ghost use Rattle.flat.specs.Flat.{refusalNumber, eventBytes, eventsBytes};
 

@@ -1,68 +1,67 @@
 // The answer to one line: the call by its letter.
-use crate::fields::numbers_in;
+use crate::books;
+use crate::chances;
+use crate::fields::NOWHERE;
+use crate::reply::NO_CALL;
+use crate::reply::Reply;
+use crate::reply::put_reply;
 use crate::rewards;
 use crate::spaces;
 use crate::steps;
-use crate::with_image::image_call;
+use crate::with_image;
 use crate::writing::flush;
-use crate::writing::letter_line;
 
-// The calls whose fields are all plain numbers.
-fn numbers_call(letter: u8, values: &[u64], text: &mut [u8], at: usize) -> usize {
+// The calls that say few numbers.
+fn reply(letter: u8, s: &[u8], words: &mut [u16]) -> Reply {
     match letter {
-        b'w' => rewards::reward_line(values, text, at),
-        b'h' => spaces::turn_line(values, text, at),
-        _ => image_call(letter, values, text, at),
+        b'v' => steps::validate(s),
+        b'k' => chances::rank(s, words),
+        b'p' => spaces::observation_space(s),
+        b'w' => rewards::reward(s),
+        b'h' => spaces::turn(s),
+        _ => with_image::image_reply(letter, s, words),
     }
-}
-
-fn plain_call(letter: u8, s: &[u8], values: &mut [u64], text: &mut [u8], at: usize) -> usize {
-    let n = numbers_in(s, values);
-    if values.len() < n {
-        return letter_line(text, at, b'e');
-    }
-    numbers_call(letter, &values[0..n], text, at)
 }
 
 // The fields of a call are the bytes behind its letter and a space.
-fn call(letter: u8, s: &[u8], values: &mut [u64], text: &mut [u8], at: usize) -> usize {
+fn call(letter: u8, s: &[u8], words: &mut [u16], text: &mut [u8], at: usize) -> usize {
     match letter {
-        b'v' => steps::validate_line(s, text, at),
-        b'i' => steps::setting_line(letter, s, values, text, at),
-        b's' => steps::setting_line(letter, s, values, text, at),
-        b'p' => spaces::observation_space_line(s, text, at),
-        _ => plain_call(letter, s, values, text, at),
+        b'i' | b's' | b'B' => steps::setting_line(letter, s, words, text, at),
+        b'd' | b'o' | b'b' => with_image::image_line(letter, s, words, text, at),
+        b'P' => books::page_line(s, words, text, at),
+        _ => put_reply(text, at, reply(letter, s, words)),
     }
 }
 
 // Only `q` has no fields.
-fn answer(s: &[u8], values: &mut [u64], text: &mut [u8], at: usize) -> usize {
+fn answer(s: &[u8], words: &mut [u16], text: &mut [u8], at: usize) -> usize {
     if s.len() == 0 {
-        return letter_line(text, at, b'e');
+        return NOWHERE;
     }
     if s.len() == 1 {
-        return spaces::action_space_line(s[0], text, at);
+        return put_reply(text, at, spaces::action_space(s[0]));
     }
     if s[1] != b' ' {
-        return letter_line(text, at, b'e');
+        return NOWHERE;
     }
-    call(s[0], &s[2..], values, text, at)
+    call(s[0], &s[2..], words, text, at)
 }
 
-// Answers a line that has ended; one that fills its room is longer than any call. Answers are written out once there are many.
+// Answers a line that has ended; one that fills its room is longer than any call. A line that is no call has nowhere put an answer.
 pub fn answer_line(
     line: &[u8],
     held: usize,
-    values: &mut [u64],
+    words: &mut [u16],
     text: &mut [u8],
     at: usize,
 ) -> usize {
+    let from = flush(text, at, 32768);
     if line.len() <= held {
-        return letter_line(text, at, b'e');
+        return put_reply(text, from, NO_CALL);
     }
-    let end = answer(&line[0..held], values, text, at);
-    if end < 32768 {
-        return end;
+    let end = answer(&line[0..held], words, text, from);
+    if end == NOWHERE {
+        return put_reply(text, from, NO_CALL);
     }
-    flush(text, end)
+    end
 }

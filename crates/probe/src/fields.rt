@@ -3,22 +3,26 @@ use events::cause_in;
 use parsing::Num;
 use parsing::next_number;
 use rules::Event;
+ghost use Prim.Native.Nat.{_≤_};
+ghost use lib.ListN.{length};
 
-// Where a part is none, as the words of a call that has none.
+// Where no field starts: what follows one that is none. Above every length.
 pub const NOWHERE: usize = 18446744073709551615;
 
-pub enum Told {
-    NoEvent,
-    Tells(Event),
+// How many words, and where the field after them starts.
+pub struct Words {
+    pub count: usize,
+    pub next: usize,
 }
 
-// The fields, each a number: how many. Nowhere where one is none, or where they fill the room.
-pub fn numbers_in(s: &[u8], values: &mut [u64]) -> usize {
-    let mut at = 0;
+// The fields from that byte on, a number for each value: where the next field starts, a byte past the line where it ended with the last.
+// Nowhere where one is none.
+pub fn numbers_in(s: &[u8], from: usize, values: &mut [u64]) -> usize {
+    let mut at = from;
     let mut k = 0;
     while k < values.len() {
         if s.len() < at {
-            return k;
+            return NOWHERE;
         }
         let got = next_number(s, at);
         let num = got.num;
@@ -29,82 +33,82 @@ pub fn numbers_in(s: &[u8], values: &mut [u64]) -> usize {
         at = got.next;
         k += 1;
     }
-    NOWHERE
+    at
 }
 
-// The k-th field; 0 past the last.
-pub fn value(values: &[u64], k: usize) -> u64 {
-    if k < values.len() {
-        return values[k];
-    }
-    0
-}
-
-pub fn size(values: &[u64], k: usize) -> usize {
-    value(values, k) as usize
-}
-
-// Copies numbers to words; false where there are more than the room, or one is above 65,535.
-pub fn copy_words(numbers: &[u64], words: &mut [u16]) -> bool {
+// The same for words, straight into the room, since a book's may be many.
+fn each_word(s: &[u8], from: usize, words: &mut [u16]) -> usize {
+    let mut at = from;
     let mut k = 0;
-    while k < numbers.len() {
-        let v = numbers[k];
-        if 65535 < v {
-            return false;
+    while k < words.len() {
+        if s.len() < at {
+            return NOWHERE;
         }
-        if words.len() <= k {
-            return false;
+        let got = next_number(s, at);
+        let num = got.num;
+        let Num::Reads(v) = num else {
+            return NOWHERE;
+        };
+        if 65535 < v {
+            return NOWHERE;
         }
         words[k] = v as u16;
+        at = got.next;
         k += 1;
     }
-    true
+    at
 }
 
-// W, the line's last part, from a field on: its count. More than the room where there are no such words.
-pub fn words_in(values: &[u64], from: usize, words: &mut [u16]) -> usize {
-    if values.len() <= from {
+// W: a count, and so many words; nowhere where there are no such words, or more than the room.
+pub fn words_in(s: &[u8], from: usize, words: &mut [u16]) -> Words {
+    let mut head = [0u64; 1];
+    let start = numbers_in(s, from, &mut head);
+    let n = head[0];
+    if (words.len() as u64) < n {
+        return Words {
+            count: 0,
+            next: NOWHERE,
+        };
+    }
+    let count = n as usize;
+    let next = each_word(s, start, &mut words[0..count]);
+    Words { count, next }
+}
+
+// W as the line's last part, of at most so many words: its count. Nowhere where there are no such words, or something follows them.
+pub fn last_words(s: &[u8], from: usize, most: usize, words: &mut [u16]) -> usize {
+    let got = words_in(s, from, words);
+    if got.next != s.len() + 1 {
         return NOWHERE;
     }
-    let start = from + 1;
-    if (values.len() - start) as u64 != values[from] {
+    if most < got.count {
         return NOWHERE;
     }
-    if copy_words(&values[start..], words) {
-        return values.len() - start;
-    }
-    NOWHERE
+    got.count
 }
 
 // E: eight numbers, the third a cause and the rest flags.
-pub fn event_in(e: &[u64]) -> Told {
+pub fn is_event(e: &[u64]) -> bool {
     if e.len() != 8 {
-        return Told::NoEvent;
+        return false;
     }
-    let cause = e[2];
-    if 4 < cause {
-        return Told::NoEvent;
+    let early = (e[0] <= 1) & (e[1] <= 1) & (e[3] <= 1);
+    let late = (e[4] <= 1) & (e[5] <= 1) & (e[6] <= 1) & (e[7] <= 1);
+    (e[2] <= 4) & early & late
+}
+
+pub fn event_of(e: &[u64]) -> Event
+    requires { ⌜ 8 ≤ length (now e) ⌝ }
+{
+    let cause = cause_in((e[2] % 65536) as u16);
+    Event {
+        ate_food: e[0] == 1,
+        died: e[1] == 1,
+        death_cause: cause,
+        killed_opponent: e[3] == 1,
+        won: e[4] == 1,
+        lost: e[5] == 1,
+        drew: e[6] == 1,
+        survived_to_max_ticks: e[7] == 1,
     }
-    let a = e[0];
-    let d = e[1];
-    let k = e[3];
-    let w = e[4];
-    let l = e[5];
-    let x = e[6];
-    let y = e[7];
-    let early = (a <= 1) & (d <= 1) & (k <= 1);
-    let late = (w <= 1) & (l <= 1) & (x <= 1) & (y <= 1);
-    if !(early & late) {
-        return Told::NoEvent;
-    }
-    Told::Tells(Event {
-        ate_food: a == 1,
-        died: d == 1,
-        death_cause: cause_in(cause as u16),
-        killed_opponent: k == 1,
-        won: w == 1,
-        lost: l == 1,
-        drew: x == 1,
-        survived_to_max_ticks: y == 1,
-    })
 }

@@ -1,18 +1,19 @@
 // The calls on an image alone: whether it is well-formed, and a snake's body.
-use crate::writing::letter_line;
+use crate::reply::NOTHING;
+use crate::reply::Reply;
+use crate::reply::refused;
 use crate::writing::put;
 use crate::writing::put_number;
 use crate::writing::put_words;
-use crate::writing::refuse;
 use layout::start_at;
 use lists::word_at;
 
 // `x W`
-pub fn well_formed_line(words: &[u16], text: &mut [u8], at: usize) -> usize {
+pub fn well_formed(words: &[u16]) -> Reply {
     if arena::well_formed(words) {
-        return letter_line(text, at, b'a');
+        return NOTHING;
     }
-    refuse(text, at, 20, true)
+    refused(20)
 }
 
 // The start word of a snake's record; 0 for a malformed image or no such snake.

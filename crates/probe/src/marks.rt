@@ -1,23 +1,25 @@
-// Events as text.
-use crate::writing::put_each;
+// Events as numbers.
+use crate::reply::put_numbers;
 use events::cause_number;
-use image::flag;
 use rules::Event;
 
+pub fn bit(flag: bool) -> u64 {
+    flag as u64
+}
+
 // E, an event's eight numbers.
-pub fn put_event(text: &mut [u8], at: usize, e: Event) -> usize {
+pub fn event_numbers(e: Event) -> [u64; 8] {
     let cause = e.death_cause;
-    let told = [
-        flag(e.ate_food),
-        flag(e.died),
-        cause_number(cause),
-        flag(e.killed_opponent),
-        flag(e.won),
-        flag(e.lost),
-        flag(e.drew),
-        flag(e.survived_to_max_ticks),
-    ];
-    put_each(text, at, &told)
+    [
+        bit(e.ate_food),
+        bit(e.died),
+        cause_number(cause) as u64,
+        bit(e.killed_opponent),
+        bit(e.won),
+        bit(e.lost),
+        bit(e.drew),
+        bit(e.survived_to_max_ticks),
+    ]
 }
 
 pub fn put_events(text: &mut [u8], from: usize, events: [Event; 8]) -> usize {
@@ -25,7 +27,7 @@ pub fn put_events(text: &mut [u8], from: usize, events: [Event; 8]) -> usize {
     let mut i = 0;
     while i < 8 {
         let e = events[i];
-        at = put_event(text, at, e);
+        at = put_numbers(text, at, event_numbers(e), 8);
         i += 1;
     }
     at

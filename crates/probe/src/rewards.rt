@@ -1,11 +1,11 @@
 // The reward, whose floats stand in a line as bits.
-ghost use Prim.Native.Nat.{_≤_};
-ghost use lib.ListN.{length};
-use crate::fields::Told;
-use crate::fields::event_in;
-use crate::writing::answer_number;
-use crate::writing::letter_line;
-use crate::writing::refuse;
+use crate::fields::event_of;
+use crate::fields::is_event;
+use crate::fields::numbers_in;
+use crate::reply::NO_CALL;
+use crate::reply::Reply;
+use crate::reply::number;
+use crate::reply::refused;
 use rules::Reward;
 use rules::Weights;
 
@@ -25,9 +25,7 @@ fn bits_of(x: f64) -> u64 {
     f64::to_bits(x)
 }
 
-fn weights_in(w: &[u64]) -> Weights
-    requires { ⌜ 7 ≤ length (now w) ⌝ }
-{
+fn weights_in(w: &[u64; 15]) -> Weights {
     Weights {
         step: float_of(w[0]),
         food: float_of(w[1]),
@@ -40,15 +38,18 @@ fn weights_in(w: &[u64]) -> Weights
 }
 
 // `w B1..B7 E`
-pub fn reward_line(values: &[u64], text: &mut [u8], at: usize) -> usize {
-    if values.len() != 15 {
-        return letter_line(text, at, b'e');
+pub fn reward(s: &[u8]) -> Reply {
+    let mut values = [0u64; 15];
+    let next = numbers_in(s, 0, &mut values);
+    if next != s.len() + 1 {
+        return NO_CALL;
     }
-    let Told::Tells(event) = event_in(&values[7..15]) else {
-        return letter_line(text, at, b'e');
-    };
-    match arena::reward(weights_in(values), event) {
-        Reward::Sum(x) => answer_number(text, at, bits_of(x)),
-        Reward::Refused(r) => refuse(text, at, r.number, true),
+    if !is_event(&values[7..15]) {
+        return NO_CALL;
+    }
+    let event = event_of(&values[7..15]);
+    match arena::reward(weights_in(&values), event) {
+        Reward::Sum(x) => number(bits_of(x)),
+        Reward::Refused(r) => refused(r.number),
     }
 }

@@ -1,9 +1,9 @@
 // The spaces and the turn, which ask no state.
-use crate::writing::answer_number;
-use crate::writing::letter_line;
-use crate::writing::put;
-use crate::writing::put_number;
-use crate::writing::refuse;
+use crate::fields::numbers_in;
+use crate::reply::NO_CALL;
+use crate::reply::Reply;
+use crate::reply::number;
+use crate::reply::refused;
 use grid::action_of;
 use image::heading_of;
 use image::number_of;
@@ -11,7 +11,7 @@ use parsing::Grid;
 use parsing::grid_in;
 use rules::Space;
 
-fn put_space(text: &mut [u8], at: usize, space: Space) -> usize {
+fn shape(space: Space) -> Reply {
     match space {
         Space::Box {
             planes,
@@ -19,47 +19,47 @@ fn put_space(text: &mut [u8], at: usize, space: Space) -> usize {
             cols,
             low: _,
             high: _,
-        } => {
-            let a = put(text, at, b'a');
-            let b = put_number(text, a, planes as u64);
-            let c = put_number(text, b, rows as u64);
-            let d = put_number(text, c, cols as u64);
-            put(text, d, b'\n')
-        }
-        Space::Discrete(n) => answer_number(text, at, n as u64),
-        Space::Refused(r) => refuse(text, at, r.number, true),
+        } => Reply {
+            letter: b'a',
+            count: 3,
+            numbers: [planes as u64, rows as u64, cols as u64, 0, 0, 0, 0, 0],
+        },
+        Space::Discrete(n) => number(n as u64),
+        Space::Refused(r) => refused(r.number),
     }
 }
 
 // `p GRID`
-pub fn observation_space_line(s: &[u8], text: &mut [u8], at: usize) -> usize {
+pub fn observation_space(s: &[u8]) -> Reply {
     match grid_in(s) {
-        Grid::NoGrid => letter_line(text, at, b'e'),
-        Grid::GridIs(grid) => put_space(text, at, arena::observation_space(grid)),
+        Grid::NoGrid => NO_CALL,
+        Grid::GridIs(grid) => shape(arena::observation_space(grid)),
     }
 }
 
 // `q`, and no other letter.
-pub fn action_space_line(letter: u8, text: &mut [u8], at: usize) -> usize {
+pub fn action_space(letter: u8) -> Reply {
     if letter != b'q' {
-        return letter_line(text, at, b'e');
+        return NO_CALL;
     }
-    put_space(text, at, arena::action_space())
+    shape(arena::action_space())
 }
 
 // `h HEADING ACTION`
-pub fn turn_line(values: &[u64], text: &mut [u8], at: usize) -> usize {
-    if values.len() != 2 {
-        return letter_line(text, at, b'e');
+pub fn turn(s: &[u8]) -> Reply {
+    let mut values = [0u64; 2];
+    let next = numbers_in(s, 0, &mut values);
+    if next != s.len() + 1 {
+        return NO_CALL;
     }
     let heading = values[0];
     let action = values[1];
     if 3 < heading {
-        return letter_line(text, at, b'e');
+        return NO_CALL;
     }
     if 2 < action {
-        return letter_line(text, at, b'e');
+        return NO_CALL;
     }
     let turned = arena::relative_to_absolute(heading_of(heading as u16), action_of(action));
-    answer_number(text, at, number_of(turned) as u64)
+    number(number_of(turned) as u64)
 }

@@ -1,156 +1,140 @@
-// The calls that take a setting: the check, the initial state and the step.
+// The calls that take a setting: the check, the initial state, the step and, in `books`, the writer. A setting is read from its text just before
+// it is used, since each step of a proof speaks of every value at hand.
+use crate::books::write_line;
 use crate::buffers::PATTERN;
 use crate::buffers::kept;
+use crate::fields::NOWHERE;
+use crate::fields::last_words;
 use crate::fields::numbers_in;
-use crate::fields::size;
-use crate::fields::words_in;
+use crate::marks::bit;
 use crate::marks::put_events;
-use crate::with_image::after_list;
+use crate::reply::NO_CALL;
+use crate::reply::NOTHING;
+use crate::reply::Reply;
+use crate::reply::refused;
 use crate::writing::end;
-use crate::writing::letter_line;
 use crate::writing::put;
 use crate::writing::put_number;
 use crate::writing::put_words;
+use crate::writing::put_written;
 use crate::writing::refuse;
-use image::flag;
 use parsing::First;
 use parsing::read_first;
 use parsing::start_of;
 use rules::Answer;
-use rules::Setting;
 use rules::Stepped;
 use rules::Verdict;
+ghost use Prim.Native.Nat.{_≤_};
 
 // `v S`
-pub fn validate_line(s: &[u8], text: &mut [u8], at: usize) -> usize {
+pub fn validate(s: &[u8]) -> Reply {
     let First::Opens(setting) = read_first(s) else {
-        return letter_line(text, at, b'e');
+        return NO_CALL;
     };
     match arena::validate(setting) {
-        Verdict::Accepted => letter_line(text, at, b'a'),
-        Verdict::Refused(r) => refuse(text, at, r.number, true),
+        Verdict::Accepted => NOTHING,
+        Verdict::Refused(r) => refused(r.number),
     }
 }
 
-// A buffer that was lent and came back with the answer's words.
-fn put_lent(text: &mut [u8], at: usize, out: &[u16], n: usize) -> usize {
-    let i = put_words(text, at, out, n);
-    end(text, i, kept(out, n))
-}
-
-// `i S cap`; cap is the first number.
-fn initial_line(setting: Setting, values: &[u64], text: &mut [u8], at: usize) -> usize {
-    if values.len() != 1 {
-        return letter_line(text, at, b'e');
+// `i S cap`; s starts at cap.
+fn initial_line(setting: &[u8], s: &[u8], text: &mut [u8], at: usize) -> usize {
+    let mut values = [0u64; 1];
+    let next = numbers_in(s, 0, &mut values);
+    if next != s.len() + 1 {
+        return NOWHERE;
     }
-    let cap = size(values, 0);
+    let cap = values[0];
     if 16384 < cap {
-        return letter_line(text, at, b'e');
+        return NOWHERE;
     }
+    let First::Opens(setting) = read_first(setting) else {
+        return NOWHERE;
+    };
     let mut room = [PATTERN; 16384];
-    let out = &mut room[0..cap];
-    match arena::initial_state(setting, out) {
+    let out = &mut room[0..cap as usize];
+    let answer = arena::initial_state(setting, out);
+    put_written(text, at, answer, out)
+}
+
+fn put_step(text: &mut [u8], at: usize, stepped: Stepped, out: &[u16]) -> usize {
+    let answer = stepped.answer;
+    match answer {
         Answer::Done(n) => {
-            let i = put(text, at, b'a');
-            put_lent(text, i, out, n)
+            let a = put(text, at, b'a');
+            let b = put_number(text, a, bit(stepped.terminal));
+            let events = stepped.events;
+            let c = put_events(text, b, events);
+            let d = put_words(text, c, out, n);
+            end(text, d, kept(out, n))
         }
         Answer::Refused(r) => refuse(text, at, r.number, kept(out, 0)),
     }
 }
 
-fn put_step(text: &mut [u8], at: usize, stepped: Stepped, out: &[u16], n: usize) -> usize {
-    let a = put(text, at, b'a');
-    let b = put_number(text, a, flag(stepped.terminal) as u64);
-    let events = stepped.events;
-    let c = put_events(text, b, events);
-    put_lent(text, c, out, n)
-}
-
+// With the first k actions.
 fn step(
-    setting: Setting,
+    setting: &[u8],
     words: &[u16],
-    actions: &[u64],
-    out: &mut [u16],
+    actions: [u64; 64],
+    k: usize,
+    cap: u64,
     text: &mut [u8],
     at: usize,
-) -> usize {
-    let stepped = arena::step(setting, words, actions, out);
-    let answer = stepped.answer;
-    match answer {
-        Answer::Done(n) => put_step(text, at, stepped, out, n),
-        Answer::Refused(r) => refuse(text, at, r.number, kept(out, 0)),
-    }
-}
-
-fn lent_step(
-    setting: Setting,
-    words: &[u16],
-    actions: &[u64],
-    cap: usize,
-    text: &mut [u8],
-    at: usize,
-) -> usize {
+) -> usize
+    requires { ⌜ k ≤ 64 ⌝ }
+{
     if 16384 < cap {
-        return letter_line(text, at, b'e');
+        return NOWHERE;
     }
-    let mut out = [PATTERN; 16384];
-    step(setting, words, actions, &mut out[0..cap], text, at)
+    let First::Opens(setting) = read_first(setting) else {
+        return NOWHERE;
+    };
+    let mut room = [PATTERN; 16384];
+    let out = &mut room[0..cap as usize];
+    let stepped = arena::step(setting, words, &actions[0..k], out);
+    put_step(text, at, stepped, out)
 }
 
-// `s S cap K a1..aK W`; cap is the first number.
-fn step_line(setting: Setting, values: &[u64], text: &mut [u8], at: usize) -> usize {
-    let mut image = [PATTERN; 16384];
-    let from = after_list(values, 1, 64);
-    let n = words_in(values, from, &mut image);
-    if 16384 < n {
-        return letter_line(text, at, b'e');
+// `s S cap K a1..aK W`; s starts at cap.
+fn step_line(setting: &[u8], s: &[u8], words: &mut [u16], text: &mut [u8], at: usize) -> usize {
+    let mut values = [0u64; 2];
+    let from = numbers_in(s, 0, &mut values);
+    let k = values[1];
+    if 64 < k {
+        return NOWHERE;
     }
-    if from < 2 {
-        return letter_line(text, at, b'e');
+    let mut actions = [0u64; 64];
+    let next = numbers_in(s, from, &mut actions[0..k as usize]);
+    let n = last_words(s, next, 16384, words);
+    if words.len() < n {
+        return NOWHERE;
     }
-    if values.len() < from {
-        return letter_line(text, at, b'e');
-    }
-    lent_step(
+    step(
         setting,
-        &image[0..n],
-        &values[2..from],
-        size(values, 0),
+        &words[0..n],
+        actions,
+        k as usize,
+        values[0],
         text,
         at,
     )
 }
 
-// The numbers behind the setting.
-fn after_setting(
-    letter: u8,
-    setting: Setting,
-    s: &[u8],
-    values: &mut [u64],
-    text: &mut [u8],
-    at: usize,
-) -> usize {
-    let n = numbers_in(s, values);
-    if values.len() < n {
-        return letter_line(text, at, b'e');
-    }
-    if letter == b'i' {
-        return initial_line(setting, &values[0..n], text, at);
-    }
-    step_line(setting, &values[0..n], text, at)
-}
-
-// `i` or `s`: S stands before the eighth field.
-pub fn setting_line(letter: u8, s: &[u8], values: &mut [u64], text: &mut [u8], at: usize) -> usize {
+// `i`, `s` or `B`: S stands before the eighth field.
+pub fn setting_line(letter: u8, s: &[u8], words: &mut [u16], text: &mut [u8], at: usize) -> usize {
     let eighth = start_of(s, 7);
     if eighth < 1 {
-        return letter_line(text, at, b'e');
+        return NOWHERE;
     }
     if s.len() < eighth {
-        return letter_line(text, at, b'e');
+        return NOWHERE;
     }
-    match read_first(&s[0..eighth - 1]) {
-        First::NoFirst => letter_line(text, at, b'e'),
-        First::Opens(setting) => after_setting(letter, setting, &s[eighth..], values, text, at),
+    let setting = &s[0..eighth - 1];
+    let rest = &s[eighth..];
+    match letter {
+        b'i' => initial_line(setting, rest, text, at),
+        b's' => step_line(setting, rest, words, text, at),
+        _ => write_line(setting, rest, words, text, at),
     }
 }

@@ -1,16 +1,16 @@
 // What an agent sees and may do: observation, actor, legal actions, length cell and truncation.
 use crate::buffers::planes_kept;
-use crate::fields::Told;
-use crate::fields::event_in;
-use crate::fields::size;
-use crate::fields::value;
-use crate::marks::put_event;
-use crate::writing::answer_number;
+use crate::fields::NOWHERE;
+use crate::fields::event_of;
+use crate::fields::is_event;
+use crate::marks::event_numbers;
+use crate::reply::NO_CALL;
+use crate::reply::Reply;
+use crate::reply::number;
+use crate::reply::refused;
 use crate::writing::end;
-use crate::writing::letter_line;
 use crate::writing::put;
 use crate::writing::put_number;
-use crate::writing::put_words;
 use crate::writing::refuse;
 use rules::Actor;
 use rules::Answer;
@@ -43,81 +43,77 @@ fn put_lights(text: &mut [u8], from: usize, planes: &[f32], n: usize) -> usize {
     at
 }
 
-fn put_planes(text: &mut [u8], at: usize, planes: &[f32], n: usize) -> usize {
-    let a = put(text, at, b'a');
-    let b = put_number(text, a, n as u64);
-    let c = put_lights(text, b, planes, n);
-    end(text, c, planes_kept(planes, n))
-}
-
-fn observe(words: &[u16], agent: u64, planes: &mut [f32], text: &mut [u8], at: usize) -> usize {
-    match arena::observe(words, agent, planes) {
-        Answer::Done(n) => put_planes(text, at, planes, n),
+fn put_planes(text: &mut [u8], at: usize, answer: Answer, planes: &[f32]) -> usize {
+    match answer {
+        Answer::Done(n) => {
+            let a = put(text, at, b'a');
+            let b = put_number(text, a, n as u64);
+            let c = put_lights(text, b, planes, n);
+            end(text, c, planes_kept(planes, n))
+        }
         Answer::Refused(r) => refuse(text, at, r.number, planes_kept(planes, 0)),
     }
 }
 
 // `o AGENT cap W`
-pub fn observe_line(values: &[u64], words: &[u16], text: &mut [u8], at: usize) -> usize {
-    let cap = size(values, 1);
+pub fn observe_line(values: [u64; 9], words: &[u16], text: &mut [u8], at: usize) -> usize {
+    let cap = values[1];
     if 8192 < cap {
-        return letter_line(text, at, b'e');
+        return NOWHERE;
     }
-    let mut planes = [0.5f32; 8192];
-    observe(words, value(values, 0), &mut planes[0..cap], text, at)
+    let mut room = [0.5f32; 8192];
+    let planes = &mut room[0..cap as usize];
+    let answer = arena::observe(words, values[0], planes);
+    put_planes(text, at, answer, planes)
 }
 
 // `t W`
-pub fn actor_line(words: &[u16], text: &mut [u8], at: usize) -> usize {
+pub fn actor(words: &[u16]) -> Reply {
     match arena::actor(words) {
-        Actor::Chance => answer_number(text, at, 1),
-        Actor::Simultaneous => answer_number(text, at, 0),
-        Actor::Refused(r) => refuse(text, at, r.number, true),
+        Actor::Chance => number(1),
+        Actor::Simultaneous => number(0),
+        Actor::Refused(r) => refused(r.number),
     }
 }
 
 // `l AGENT W`
-pub fn legal_line(agent: u64, words: &[u16], text: &mut [u8], at: usize) -> usize {
+pub fn legal(agent: u64, words: &[u16]) -> Reply {
     match arena::legal_actions(words, agent) {
-        Legal::AnyAction => {
-            let actions = [0u16, 1, 2];
-            let i = put(text, at, b'a');
-            let j = put_words(text, i, &actions, 3);
-            put(text, j, b'\n')
-        }
-        Legal::NoAction => answer_number(text, at, 0),
-        Legal::Refused(r) => refuse(text, at, r.number, true),
+        Legal::AnyAction => Reply {
+            letter: b'a',
+            count: 4,
+            numbers: [3, 0, 1, 2, 0, 0, 0, 0],
+        },
+        Legal::NoAction => number(0),
+        Legal::Refused(r) => refused(r.number),
     }
 }
 
 // `z W`
-pub fn length_cell_line(words: &[u16], text: &mut [u8], at: usize) -> usize {
+pub fn length_cell(words: &[u16]) -> Reply {
     match arena::length_cell(words) {
-        LengthCell::Key(key) => {
-            let i = put(text, at, b'a');
-            let j = put_number(text, i, 1);
-            let k = put_number(text, j, key);
-            put(text, k, b'\n')
-        }
-        LengthCell::NoKey => answer_number(text, at, 0),
-        LengthCell::Refused(r) => refuse(text, at, r.number, true),
+        LengthCell::Key(key) => Reply {
+            letter: b'a',
+            count: 2,
+            numbers: [1, key, 0, 0, 0, 0, 0, 0],
+        },
+        LengthCell::NoKey => number(0),
+        LengthCell::Refused(r) => refused(r.number),
     }
 }
 
 // `u AGENT E W`
-pub fn truncation_line(values: &[u64], words: &[u16], text: &mut [u8], at: usize) -> usize {
-    if values.len() < 9 {
-        return letter_line(text, at, b'e');
+pub fn truncation(values: [u64; 9], words: &[u16]) -> Reply {
+    if !is_event(&values[1..9]) {
+        return NO_CALL;
     }
-    let Told::Tells(event) = event_in(&values[1..9]) else {
-        return letter_line(text, at, b'e');
-    };
+    let event = event_of(&values[1..9]);
     match arena::truncation(words, values[0], event) {
-        Truncated::Marked(marked) => {
-            let i = put(text, at, b'a');
-            let j = put_event(text, i, marked);
-            put(text, j, b'\n')
-        }
-        Truncated::Refused(r) => refuse(text, at, r.number, true),
+        Truncated::Marked(marked) => Reply {
+            letter: b'a',
+            count: 8,
+            numbers: event_numbers(marked),
+        },
+        Truncated::Refused(r) => refused(r.number),
     }
 }

@@ -1,28 +1,21 @@
-// The calls that end in an image: its words are read first, then the call goes by its letter.
-use crate::buffers::PATTERN;
+// The calls that end in an image: numbers first, then its words.
 use crate::chances;
 use crate::fields::NOWHERE;
-use crate::fields::size;
-use crate::fields::value;
-use crate::fields::words_in;
+use crate::fields::last_words;
+use crate::fields::numbers_in;
 use crate::images;
+use crate::reply::NO_CALL;
+use crate::reply::Reply;
 use crate::views;
-use crate::writing::letter_line;
-ghost use Prim.Native.Nat.{_≤_};
 
-// Where the words begin after a list, whose count is field k and at most `most`.
-pub fn after_list(values: &[u64], k: usize, most: usize) -> usize
-    requires { ⌜ (k ≤ 8) × (most ≤ 2048) ⌝ }
-{
-    let n = size(values, k);
-    if most < n {
-        return NOWHERE;
-    }
-    k + 1 + n
+// The numbers before the words, and how many words there are.
+pub struct Head {
+    pub values: [u64; 9],
+    pub words: usize,
 }
 
-// The field at which the words of a call begin; nowhere for the calls that have none.
-fn words_from(letter: u8, values: &[u64]) -> usize {
+// How many numbers stand before a call's words; nowhere for a letter that has none.
+fn numbers_before(letter: u8) -> usize {
     match letter {
         b'c' => 0,
         b't' => 0,
@@ -33,40 +26,57 @@ fn words_from(letter: u8, values: &[u64]) -> usize {
         b'o' => 2,
         b'd' => 3,
         b'u' => 9,
-        b'k' => after_list(values, 0, 2048),
         _ => NOWHERE,
     }
 }
 
-fn query(
-    letter: u8,
-    values: &[u64],
-    from: usize,
-    words: &[u16],
-    text: &mut [u8],
-    at: usize,
-) -> usize {
+// The words are nowhere where the line is no call.
+fn head_of(letter: u8, s: &[u8], words: &mut [u16]) -> Head {
+    let mut values = [0u64; 9];
+    let k = numbers_before(letter);
+    if 9 < k {
+        return Head {
+            values,
+            words: NOWHERE,
+        };
+    }
+    let from = numbers_in(s, 0, &mut values[0..k]);
+    let n = last_words(s, from, 16384, words);
+    Head { values, words: n }
+}
+
+// The calls that say few numbers.
+pub fn image_reply(letter: u8, s: &[u8], words: &mut [u16]) -> Reply {
+    let head = head_of(letter, s, words);
+    let values = head.values;
+    let n = head.words;
+    if words.len() < n {
+        return NO_CALL;
+    }
+    let image = &words[0..n];
     match letter {
-        b'c' => chances::count_line(words, text, at),
-        b'd' => chances::draw_line(values, words, text, at),
-        b'k' => chances::rank_line(values, from, words, text, at),
-        b'o' => views::observe_line(values, words, text, at),
-        b't' => views::actor_line(words, text, at),
-        b'z' => views::length_cell_line(words, text, at),
-        b'x' => images::well_formed_line(words, text, at),
-        b'b' => images::body_line(value(values, 0), words, text, at),
-        b'l' => views::legal_line(value(values, 0), words, text, at),
-        b'u' => views::truncation_line(values, words, text, at),
-        _ => letter_line(text, at, b'e'),
+        b'c' => chances::outcome(arena::count(image)),
+        b't' => views::actor(image),
+        b'z' => views::length_cell(image),
+        b'x' => images::well_formed(image),
+        b'l' => views::legal(values[0], image),
+        b'u' => views::truncation(values, image),
+        _ => NO_CALL,
     }
 }
 
-pub fn image_call(letter: u8, values: &[u64], text: &mut [u8], at: usize) -> usize {
-    let mut image = [PATTERN; 16384];
-    let from = words_from(letter, values);
-    let n = words_in(values, from, &mut image);
-    if 16384 < n {
-        return letter_line(text, at, b'e');
+// The others: the draw, the observation and the body.
+pub fn image_line(letter: u8, s: &[u8], words: &mut [u16], text: &mut [u8], at: usize) -> usize {
+    let head = head_of(letter, s, words);
+    let values = head.values;
+    let n = head.words;
+    if words.len() < n {
+        return NOWHERE;
     }
-    query(letter, values, from, &image[0..n], text, at)
+    let image = &words[0..n];
+    match letter {
+        b'd' => chances::draw_line(values, image, text, at),
+        b'o' => views::observe_line(values, image, text, at),
+        _ => images::body_line(values[0], image, text, at),
+    }
 }

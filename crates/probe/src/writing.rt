@@ -1,7 +1,9 @@
 // Answers as text, put one after the other into a lent buffer. Each call answers the index after what it put.
-// An answer has at most 60,000 bytes and the buffer is written out at 32,768, so that its room never ends.
+// What was put is written out from 32,768 bytes on, before each answer and among many words, so that the room of 65,536 never ends.
+use crate::buffers::kept;
 use libc::STDOUT_FILENO;
 use printing::put_item;
+use rules::Answer;
 
 pub fn put(text: &mut [u8], at: usize, b: u8) -> usize {
     if text.len() <= at {
@@ -11,8 +13,11 @@ pub fn put(text: &mut [u8], at: usize, b: u8) -> usize {
     at + 1
 }
 
-// Writes what was put.
-pub fn flush(text: &[u8], at: usize) -> usize {
+// Writes what was put, where it is at least so much.
+pub fn flush(text: &[u8], at: usize, least: usize) -> usize {
+    if at < least {
+        return at;
+    }
     if text.len() < at {
         return 0;
     }
@@ -36,6 +41,7 @@ pub fn put_each(text: &mut [u8], from: usize, words: &[u16]) -> usize {
     let mut at = from;
     let mut k = 0;
     while k < words.len() {
+        at = flush(text, at, 32768);
         at = put_number(text, at, words[k] as u64);
         k += 1;
     }
@@ -57,7 +63,8 @@ pub fn end(text: &mut [u8], at: usize, kept: bool) -> usize {
         return put(text, at, b'\n');
     }
     let i = put(text, at, b' ');
-    letter_line(text, i, b'!')
+    let j = put(text, i, b'!');
+    put(text, j, b'\n')
 }
 
 // The line of a refusal.
@@ -67,15 +74,14 @@ pub fn refuse(text: &mut [u8], at: usize, no: u8, kept: bool) -> usize {
     end(text, j, kept)
 }
 
-// The line of an answer that is one number.
-pub fn answer_number(text: &mut [u8], at: usize, v: u64) -> usize {
-    let i = put(text, at, b'a');
-    let j = put_number(text, i, v);
-    put(text, j, b'\n')
-}
-
-// A letter that ends its line: `a` for an answer that says nothing more, `e` for no call.
-pub fn letter_line(text: &mut [u8], at: usize, letter: u8) -> usize {
-    let i = put(text, at, letter);
-    put(text, i, b'\n')
+// The line of an answer that is the words of a lent buffer.
+pub fn put_written(text: &mut [u8], at: usize, answer: Answer, out: &[u16]) -> usize {
+    match answer {
+        Answer::Done(n) => {
+            let i = put(text, at, b'a');
+            let j = put_words(text, i, out, n);
+            end(text, j, kept(out, n))
+        }
+        Answer::Refused(r) => refuse(text, at, r.number, kept(out, 0)),
+    }
 }

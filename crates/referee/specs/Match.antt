@@ -40,7 +40,7 @@ pub record Turn : Type 0 where
 
 -- a match that has just begun
 abbrev pub fresh : Setting → Match
-fresh s = record { setting = s; moves = 0; deaths = replicate 8 0; over = false }
+fresh s = record { setting = s; moves = 0; deaths = replicate 8 0; behind = replicate 8 false; over = false }
 
 abbrev pub opened : Setting → State → Turn
 opened s t = record {

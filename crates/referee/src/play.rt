@@ -32,6 +32,7 @@ pub fn new_desk() -> Desk
         setting,
         moves: 0,
         deaths: [0u64; 8],
+        behind: [false; 8],
         over: false,
     };
     Desk {

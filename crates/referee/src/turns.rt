@@ -34,6 +34,7 @@ fn fresh_match(setting: Setting) -> Match
         setting,
         moves: 0,
         deaths: [0u64; 8],
+        behind: [false; 8],
         over: false,
     }
 }

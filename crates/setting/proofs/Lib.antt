@@ -1,3 +1,4 @@
 pub mod Judging
 pub mod Written
 pub mod Starting
+pub mod Differing

@@ -1,8 +1,10 @@
-// The check of a setting (refusals 1 to 12), and the initial state.
+// The check of a setting (refusals 1 to 12), whether an image is of another one (21), and the initial state.
+mod images;
 mod limits;
 mod place;
 mod start;
 
+pub use images::differs;
 use layout::front;
 use limits::limits;
 use limits::side_of;

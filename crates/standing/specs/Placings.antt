@@ -1,6 +1,6 @@
--- The placings at the end of a match: a snake's place, in the words of 01, 'Replay'. Assumes nothing.
+-- The placings at the end of a match: a snake's place, in the words of 01, 'Replay', and of 02, wish 3. Assumes nothing.
 use Prim.Native.Nat.{ℕ, _+_}
-use mathlib.Core.Bool.{Bool, _||_}
+use mathlib.Core.Bool.{Bool, false, _||_}
 use mathlib.Core.List.{List}
 use lib.Dec.{ltb, eqb}
 use lib.ListN.{getD}
@@ -20,6 +20,10 @@ outlasts deaths i j = outlives (getD deaths i 0) (getD deaths j 0)
 unfoldable pub placingOf : ℕ → List ℕ → ℕ → ℕ
 placingOf n deaths i = 1 if eqb (getD deaths i 0) 0 else (1 + countBelow n (outlasts deaths i))
 
+-- 02: 'put a living snake that lost behind the one that won: 1 and 2'; behind holds for each snake whether it lost and lives
+unfoldable pub endPlacing : ℕ → List ℕ → List Bool → ℕ → ℕ
+endPlacing n deaths behind i = 2 if getD behind i false else placingOf n deaths i
+
 -- the placings of n snakes, in a table of eight
-unfoldable pub placingsOf : ℕ → List ℕ → List ℕ
-placingsOf n deaths = filled (placingOf n deaths) n 8 0
+unfoldable pub placingsOf : ℕ → List ℕ → List Bool → List ℕ
+placingsOf n deaths behind = filled (endPlacing n deaths behind) n 8 0

@@ -1,4 +1,5 @@
--- How a match stands: the moves made, the move on which each snake died, its end and its last line (01, 'Replay'). Assumes nothing.
+-- How a match stands: the moves made, the move on which each snake died, who lost and lives, its end and its last line (01, 'Replay'; 02, wish 3).
+-- Assumes nothing.
 use Prim.Native.Nat.{ℕ, _+_}
 use mathlib.Core.Bool.{Bool, false, not, _&&_, _||_}
 use mathlib.Core.List.{List}
@@ -38,15 +39,26 @@ deathAt k deaths es i = k if getD es i blank .died else getD deaths i 0
 abbrev pub deathsAfter : ℕ → List ℕ → List Event → List ℕ
 deathsAfter k deaths es = filled (deathAt k deaths es) 8 8 0
 
+-- 02: 'a living snake that lost', by its event. Only a terminal move by the lead makes one (theorems/proofs/Lead), and it is the last
+abbrev pub lostAlive : Event → Bool
+lostAlive e = e .lost && not (e .died)
+
+abbrev pub behindAt : List Event → ℕ → Bool
+behindAt es i = lostAlive (getD es i blank)
+
+abbrev pub behindAfter : List Event → List Bool
+behindAfter es = filled (behindAt es) 8 8 false
+
 -- the match after a move that was terminal or not, with these events
 abbrev pub moved : Match → Bool → List Event → Match
 moved m over es = record {
   setting = m .setting;
   moves = counted (m .moves);
   deaths = deathsAfter (counted (m .moves)) (m .deaths) es;
+  behind = behindAfter es;
   over = over || endsBy m over;
 }
 
 -- '`p` and each place'
 unfoldable pub endText : Match → List ℕ
-endText m = placingsText (placingsOf (snakesOf m) (m .deaths)) (snakesOf m)
+endText m = placingsText (placingsOf (snakesOf m) (m .deaths) (m .behind)) (snakesOf m)

@@ -11,10 +11,12 @@ pub use moves::snakes_of;
 use rules::Setting;
 pub use shown::put_line;
 
-// The setting, the moves made, for each snake the move on which it died (0 while it lives), and whether the match is over.
+// The setting, the moves made, for each snake the move on which it died (0 while it lives) and whether it lost and lives, and whether the
+// match is over.
 pub struct Match {
     pub setting: Setting,
     pub moves: u64,
     pub deaths: [u64; 8],
+    pub behind: [bool; 8],
     pub over: bool,
 }

@@ -16,7 +16,7 @@ ghost use Rattle.lists.specs.Below.{filled};
 ghost use Rattle.rules.specs.Events.{blank};
 ghost use Rattle.printing.specs.Text.{Wrote};
 ghost use Rattle.standing.specs.Shown.{markShown};
-ghost use Rattle.standing.specs.Standing.{snakesOf, counted, reached, endsBy, deathsAfter, moved, endText};
+ghost use Rattle.standing.specs.Standing.{snakesOf, counted, reached, endsBy, deathsAfter, lostAlive, behindAfter, moved, endText};
 
 // At most eight, as every accepted setting has.
 pub fn snakes_of(m: Match) -> usize
@@ -93,6 +93,26 @@ fn deaths_after(k: u64, deaths: [u64; 8], events: [Event; 8]) -> [u64; 8]
     out
 }
 
+fn lost_alive(e: Event) -> bool
+    ensures { λ r. ⌜ r ≡ lostAlive e ⌝ }
+{
+    e.lost & !e.died
+}
+
+// For each snake whether it lost on this move and lives.
+fn behind_after(events: [Event; 8]) -> [bool; 8]
+    ensures { λ r. ⌜ r ≡ behindAfter events ⌝ }
+{
+    let mut out = [false; 8];
+    let mut i = 0;
+    while i < 8 {
+        let e = events[i];
+        out[i] = lost_alive(e);
+        i += 1;
+    }
+    out
+}
+
 // The match after a move.
 pub fn after_move(m: Match, over: bool, events: [Event; 8]) -> Match
     ensures { λ r. ⌜ r ≡ moved m over events ⌝ }
@@ -100,11 +120,13 @@ pub fn after_move(m: Match, over: bool, events: [Event; 8]) -> Match
     let k = count_on(m.moves);
     let old = m.deaths;
     let deaths = deaths_after(k, old, events);
+    let behind = behind_after(events);
     let setting = m.setting;
     Match {
         setting,
         moves: k,
         deaths,
+        behind,
         over: over | ends_by(m, over),
     }
 }
@@ -116,6 +138,7 @@ pub fn put_end(out: &mut [u8], m: Match) -> usize
 {
     let n = snakes_of(m);
     let deaths = m.deaths;
-    let all = placings(deaths, n);
+    let behind = m.behind;
+    let all = placings(deaths, behind, n);
     put_placings(out, all, n)
 }

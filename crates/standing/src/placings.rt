@@ -3,7 +3,7 @@ use lists::more_if;
 ghost use mathlib.Core.Path.{_≡_};
 ghost use Prim.Native.Nat.{_<_, _≤_};
 ghost use Rattle.lists.specs.Below.{countBelow};
-ghost use Rattle.standing.specs.Placings.{outlives, outlasts, placingOf, placingsOf};
+ghost use Rattle.standing.specs.Placings.{outlives, outlasts, placingOf, endPlacing, placingsOf};
 
 // Whether a snake is alive, or died on a later move than d.
 fn does_outlive(d: u64, x: u64) -> bool
@@ -36,15 +36,26 @@ fn placing_of(deaths: [u64; 8], n: usize, i: usize) -> u64
     1 + k
 }
 
-// The placings of n snakes, by the moves on which they died, 0 for the living.
-pub fn placings(deaths: [u64; 8], n: usize) -> [u64; 8]
+// A living snake that lost stands behind the one that won.
+fn end_placing(deaths: [u64; 8], behind: [bool; 8], n: usize, i: usize) -> u64
+    requires { ⌜ (n ≤ 8) × (i < 8) ⌝ }
+    ensures { λ r. ⌜ r ≡ endPlacing n deaths behind i ⌝ }
+{
+    if behind[i] {
+        return 2;
+    }
+    placing_of(deaths, n, i)
+}
+
+// The placings of n snakes, by the moves on which they died, 0 for the living, and by who lost and lives.
+pub fn placings(deaths: [u64; 8], behind: [bool; 8], n: usize) -> [u64; 8]
     requires { ⌜ n ≤ 8 ⌝ }
-    ensures { λ r. ⌜ r ≡ placingsOf n deaths ⌝ }
+    ensures { λ r. ⌜ r ≡ placingsOf n deaths behind ⌝ }
 {
     let mut out = [0u64; 8];
     let mut i = 0;
     while i < n {
-        out[i] = placing_of(deaths, n, i);
+        out[i] = end_placing(deaths, behind, n, i);
         i += 1;
     }
     out

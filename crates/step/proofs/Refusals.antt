@@ -1,20 +1,16 @@
 -- The refusals in their order: what the verdict says by the tests made so far, and what is known of an image that none of them refuses. Assumes nothing.
 use Prim.Native.Nat.{ℕ, _+_, _*_, _<_, _≤_}
 use native.Mathlib.Omega.{arith}
-use mathlib.Core.Path.{_≡_, refl, sym, ap, ap₂, subst, _∙_}
-use mathlib.Core.Bool.{Bool, true, false, not, _&&_, _||_}
+use mathlib.Core.Path.{_≡_, refl, sym, ap, subst, _∙_}
+use mathlib.Core.Bool.{Bool, true, false, _&&_, _||_}
 use mathlib.Core.List.{List, [], _∷_, _++_}
 use lib.Dec.{ltb, eqb}
-use lib.IntN.{ℤ, pos}
 use lib.ListN.{length, getD, replicate}
-use mir.Syntax.{w32}
-use mir.Val.{toZ, ofZ}
 use borrow.Author.Tests.{eqb-true, not-false, ltb-false, lt-ltb, le-ltb, eq-eqb, ne-eqb}
 use Rattle.lists.specs.Below.{someBelow}
 use Rattle.lists.proofs.Below.{some-ext}
 use Rattle.rules.specs.Tables.{Table, by}
 use Rattle.rules.specs.Setting.{settingOrder}
-use Rattle.rules.specs.Grid.{sameZ}
 use Rattle.rules.specs.State.{Snake, snakeOf}
 use Rattle.rules.specs.Image.{snakesIn, sideIn, dueIn, foodAt, stateOf, imageOf, wellFormed}
 use Rattle.rules.specs.Facts.{Sound}
@@ -39,12 +35,6 @@ use Rattle.step.specs.Applied.{Ready, Applied, roomFor}
 use Rattle.step.specs.Asked.{AsksImage, Asks, badAt, RefusedBy}
 use Rattle.judge.proofs.Judging.{cause-judged, stepped-by}
 use Rattle.judge.proofs.Loops.{seek-next, seek-all}
-
--- ---- 21: x is whether the sides are the same, as numbers of 32 bits
-
-pub differs-so : (s : Setting) (w : List ℕ) (a : ℤ) → a ≡ pos (getD w 1 0) → (x : Bool) → x ≡ sameZ (toZ w32 (ofZ w32 a)) (toZ w32 (ofZ w32 (s .«grid_size»)))
-    → toZ w32 (ofZ w32 a) ≡ a → toZ w32 (ofZ w32 (s .«grid_size»)) ≡ s .«grid_size» → (not (eqb (getD w 0 0) (s .«num_snakes»)) || not x) ≡ differs s w
-differs-so s w a pa x e p q = ap (λ (b : Bool). not (eqb (snakesIn w) (s .«num_snakes»)) || not b) (e ∙ ap₂ sameZ (p ∙ pa) q)
 
 -- ---- 25, by the image's words
 

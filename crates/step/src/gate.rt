@@ -5,17 +5,8 @@ ghost use mathlib.Core.Path.{_≡_};
 ghost use lib.ListN.{length};
 ghost use Rattle.rules.specs.Image.{snakesIn, stateOf};
 ghost use Rattle.rules.specs.Facts.{Sound};
-ghost use Rattle.rules.specs.Orders.{differs, badAction};
+ghost use Rattle.rules.specs.Orders.{badAction};
 ghost use Rattle.step.specs.Asked.{AsksImage, Asks};
-
-// 21: n or g differs from the setting.
-pub fn differs(setting: Setting, image: &[u16]) -> bool
-    requires { ⌜ Sound (now image) ⌝ }
-    ensures { λ r. ⌜ r ≡ differs setting (now (image .entry)) ⌝ }
-{
-    (image[0] as u64 != setting.num_snakes)
-        | !grid::equal(grid::signed(image[1]), setting.grid_size)
-}
 
 // 25: a living snake's action above 2.
 fn has_bad_action(image: &[u16], actions: &[u64]) -> bool
@@ -37,7 +28,7 @@ fn asked_in(setting: Setting, image: &[u16], actions: &[u64]) -> Verdict
     requires { ⌜ Sound (now image) ⌝ }
     ensures { λ r. ⌜ AsksImage setting (now (image .entry)) (now (actions .entry)) r ⌝ }
 {
-    if differs(setting, image) {
+    if setting::differs(setting, image) {
         return Verdict::Refused(refusals::by(21));
     }
     if 0 < image[2] {

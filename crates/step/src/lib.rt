@@ -9,7 +9,6 @@ pub use conclusion::apply;
 pub use conclusion::conclude;
 use events::no_events;
 pub use gate::asked;
-pub use gate::differs;
 use judge::judge;
 use rules::Answer;
 use rules::Refusal;

@@ -79,7 +79,7 @@ fn take_held(
 }
 
 // What came, up to the end of a line: the line is taken there, or held where no newline came.
-fn take_part(
+pub fn take_part(
     r: Progress,
     part: &[u8],
     line: &mut [u8],
@@ -143,7 +143,7 @@ pub fn take_all(
 }
 
 // The last line, where no newline ended it.
-fn take_last(
+pub fn take_last(
     r: Progress,
     line: &[u8],
     image: &mut [u16],

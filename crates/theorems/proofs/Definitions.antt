@@ -52,7 +52,7 @@ use Rattle.rules.proofs.Tables.{table-gives}
 use Rattle.theorems.specs.Answers.{StepIs, DrawIs}
 
 module _ {A : Type 0} where
-  lawful : (t : Table) (a : A) → noneHold t ≡ true → byTable t (gives a) ≡ gives a
+  pub lawful : (t : Table) (a : A) → noneHold t ≡ true → byTable t (gives a) ≡ gives a
   lawful t a h = table-gives t (gives a) h
 
 -- the action turns the heading

@@ -48,6 +48,12 @@ pub use Rattle.theorems.proofs.Longest.{longest-list}
 -- Demand 3: a birth chain with p due ends after exactly min(p, n + 1) draws
 pub use Rattle.rules.proofs.Births.{chain-count}
 pub use Rattle.rules.proofs.FairCalls.{birth-countable, chain-draw, chain-ended, chain-not-before}
+-- Document 02, wish 3: a living snake has lost exactly where another leads it; then the lead ended the match, and max_ticks did not
+pub use Rattle.theorems.specs.Lead.{LostToLead}
+pub use Rattle.theorems.proofs.Lead.{living-lost, lost-to-lead, lead-terminal, ticks-apart}
+-- Document 02, wish 3: exactly the matches that the lead ends have another `p` line, 1 for the winner and 2 for the other; the dead stand where they stood
+pub use Rattle.theorems.specs.Lead.{Reached, Ending, Placed}
+pub use Rattle.theorems.proofs.Placings.{replay-ends, places-by-lead}
 -- Tightness: two answers that meet one promise are equal, and so are the lent buffers
 pub use Rattle.rules.proofs.Answers.{one-turn, one-check, one-verdict, one-start, one-step, one-view, one-count, one-draw, one-rank, one-actor, one-legal, one-key, one-truncation, one-reward, one-space, one-action-space, one-body}
 -- Tightness: two parts that the body query may hand back have equal words at one address
@@ -60,3 +66,23 @@ pub use Rattle.rules.proofs.InitialFacts.{initial-again}
 pub use Rattle.rules.proofs.StepFacts.{step-again}
 pub use Rattle.rules.proofs.Again.{draw-again}
 pub use Rattle.rules.proofs.FairCalls.{written-again}
+-- Request 1, a match book: the tables have wish 1's numbers in its order, and a call is refused by k if and only if k is the number of its table's first row that holds
+pub use Rattle.theorems.proofs.Books.{find-order, read-order, write-order, find-refused, read-refused, write-refused}
+-- Request 1: a refusal leaves every lent word, the words after a book keep their values, and where no row holds the answer is the definition's
+pub use Rattle.theorems.proofs.Books.{write-untouched, write-after, find-is, read-is, write-is}
+-- Request 1: two answers that meet one promise are equal, and so is what is lent
+pub use Rattle.contents.proofs.Answers.{one-find}
+pub use Rattle.book.proofs.Answers.{one-write, one-page, one-read}
+-- Request 1: reading what was written gives the same pages, each at its place; then of the calls' buffers
+pub use Rattle.book.proofs.Theorems.{written-setting, written-pages, written-row, written-reads, written-words, write-gives, write-then-read}
+-- Request 1: a book has one form only; two settings, page counts or rows never share a book
+pub use Rattle.book.specs.Bindable.{Whole}
+pub use Rattle.book.proofs.Theorems.{whole-form, whole-written, read-whole, one-book}
+-- Request 1: a small book, word by word, and a setting whose fields have a number each
+pub use Rattle.book.proofs.Sample.{low-first, lowest-first, all-zero, in-order, sample-contents, sample-book}
+-- Request 1: at a place of a row at most one part is an image; an accepted setting's numbers fit their words
+pub use Rattle.book.proofs.Binding.{one-image}
+pub use Rattle.contents.proofs.Laying.{setting-wordy}
+-- Request 1: a damaged page elsewhere changes nothing of the page that is read; a page is found by the contents alone
+pub use Rattle.book.proofs.Separate.{page-alone}
+pub use Rattle.book.proofs.Theorems.{find-alone, find-then-read, find-refuses, find-reads}

@@ -53,10 +53,10 @@ use Rattle.rules.proofs.Answers.{answer-one, verdict-one, number-one, key-one, 
 use Rattle.theorems.specs.Answers.{RefusedBy}
 
 -- document 01's 'Order', and that each table has those numbers
-abbrev numbers : Table → List ℕ
+abbrev pub numbers : Table → List ℕ
 numbers t = map (λ (e : Refusal × Bool). e .0 .number) t
 
-abbrev settingNumbers : List ℕ
+abbrev pub settingNumbers : List ℕ
 settingNumbers = 1 ∷ 2 ∷ 3 ∷ 4 ∷ 5 ∷ 6 ∷ 7 ∷ 8 ∷ 9 ∷ 10 ∷ 11 ∷ 12 ∷ []
 
 pub setting-order : (s : Setting) → numbers (settingOrder s) ≡ settingNumbers
@@ -98,14 +98,14 @@ space-order g = refl
 
 -- by what an answer says: `refusal k` says that it refuses by k, and no other answer says that
 module _ {R A : Type 0} (said : R → Says A) (refusal : Refusal → R) (as-said : (k : Refusal) → said (refusal k) ≡ refuses k) (one : (r q : R) → said r ≡ said q → r ≡ q) where
-  by-rows : (t : Table) (a : A) (r : R) → said r ≡ byTable t (gives a) → RefusedBy refusal t r
+  pub by-rows : (t : Table) (a : A) (r : R) → said r ≡ byTable t (gives a) → RefusedBy refusal t r
   by-rows t a r e = record {
     number = λ k h. table-refuses t a k (sym e ∙ ap said h ∙ as-said k);
     refused = λ k h. one r (refusal k) (e ∙ table-first t (gives a) k h ∙ sym (as-said k));
   }
 
 -- of the calls that write, which say how many words
-by-words : {A : Type 0} (f : A → ℕ) (t : Table) (a : A) (r : Answer) → says r ≡ seen f (byTable t (gives a)) → RefusedBy RefusedAnswer t r
+pub by-words : {A : Type 0} (f : A → ℕ) (t : Table) (a : A) (r : Answer) → says r ≡ seen f (byTable t (gives a)) → RefusedBy RefusedAnswer t r
 by-words f t a r e = by-rows says RefusedAnswer (λ k. refl) answer-one t (f a) r (e ∙ table-seen f t a)
 
 by-number : (t : Table) (a : ℕ) (r : Number) → saysNumber r ≡ byTable t (gives a) → RefusedBy RefusedNumber t r
@@ -168,7 +168,7 @@ space-refused g r p = by-rows saysSpace RefusedSpace (λ k. refl) space-one (spa
 -- ---- a refusal leaves every lent word
 
 module _ {A B C : Type 0} (f : A → B) (g : A → List C) (old : List C) where
-  kept : (x : Says A) (k : Refusal) → seen f x ≡ refuses k → lent g old x ≡ old
+  pub kept : (x : Says A) (k : Refusal) → seen f x ≡ refuses k → lent g old x ≡ old
   kept (refuses n) k h = refl
   kept (gives a) k h = let z : _≡_ {A = ℕ} 0 1 = cc in absurd (omega arith)
 
@@ -197,7 +197,7 @@ module _ {A C : Type 0} (g : A → List C) (old : List C) where
   unfolding overFront
   after-front s n e = rw (sym e) (drop-append-seam s (drop (length s) old))
 
-  kept-after : (x : Says A) (n : ℕ) → seen (λ a. length (g a)) x ≡ gives n → drop n (lent g old x) ≡ drop n old
+  pub kept-after : (x : Says A) (n : ℕ) → seen (λ a. length (g a)) x ≡ gives n → drop n (lent g old x) ≡ drop n old
   kept-after (refuses k) n h = let z : _≡_ {A = ℕ} 0 1 = cc in absurd (omega arith)
   kept-after (gives a) n h = after-front (g a) n (cc)
 

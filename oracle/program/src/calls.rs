@@ -1,10 +1,12 @@
 //! Every public call: refused as the paper says, else answered by the published Rust. Where both know
-//! the answer they are held against each other, and a difference is a panic.
+//! the answer they are held against each other, and a difference is a panic. Books, which the Rust has not, are
+//! the paper's, and what is written is held against what is read.
 
 use reinfors_core::game::{Actor, ChanceDist, Game};
 use reinfors_core::{Reward, Space, StateEncoder};
 
 use crate::paper::{self, Number, Setting, State};
+use crate::paper_books::{self, Refused};
 use crate::paper_rules;
 use crate::rust;
 use crate::snake::{self, EgocentricSnake, StepEvent};
@@ -223,4 +225,83 @@ pub fn turn(heading: u16, action: usize) -> u16 {
     let turned = rust::heading_number(snake::relative_to_absolute(rust::heading(heading), relative));
     assert_eq!(turned, paper_rules::turn(heading, action as u64), "the paper and relative_to_absolute differ");
     turned
+}
+
+// ---- books
+
+/// The image at each place of a short row is the first part there that is well-formed.
+fn hold_row(row: &[u16]) {
+    let mut rest = row;
+    loop {
+        let length = paper_books::first_image(rest).map(|(_, length)| length);
+        let is_image = |&length: &usize| paper::read_image(&rest[..length]).is_some();
+        assert_eq!(length, (0..=rest.len()).find(is_image), "an image's own contents tell its length");
+        match length {
+            Some(length) => rest = &rest[length..],
+            None => break,
+        }
+    }
+}
+
+/// "Reading what was written gives the same pages": the setting, the images of the row one after another, and no more.
+fn hold_written(s: &Setting, pages: u64, row: &[u16], book: &[u16]) {
+    let contents = paper_books::read_contents(book).expect("written contents are accepted");
+    assert_eq!(contents.setting, *s, "a book says its setting");
+    let mut rest = row;
+    for i in 0..pages {
+        let (start, length) = paper_books::page(&contents, book, i).expect("a written page is accepted");
+        assert_eq!(book[start..start + length], rest[..length], "page {i} is image {i} of the row");
+        rest = &rest[length..];
+    }
+    assert!(rest.is_empty(), "the pages are the whole row");
+    assert_eq!(paper_books::read(book, pages), Err((41, "no such page")));
+}
+
+/// The book of the images in a row, in a lent buffer.
+pub fn write_book(s: &Setting, pages: u64, row: &[u16], room: u64) -> Result<Vec<u16>, Refused> {
+    let answer = paper_books::write(s, pages, row, room);
+    let refused = check_setting(s).map_err(|number| (number, "the setting's"));
+    assert!(refused.is_ok() || answer.as_ref().err() == refused.as_ref().err(), "a refused setting comes first");
+    if row.len() <= 100 {
+        hold_row(row);
+    }
+    if let Ok(book) = &answer {
+        hold_written(s, pages, row, book);
+    }
+    answer
+}
+
+/// Whether the writer gives these words for any setting and row. It could only be for those that they say, which are
+/// taken here without a test.
+fn is_written(book: &[u16]) -> bool {
+    let Some(fixed) = book.get(..paper_books::contents_length(0)) else { return false };
+    let limit = |at: usize| {
+        let four = fixed[at + 1..at + 5].iter().enumerate().map(|(i, &word)| u64::from(word) << (16 * i)).sum();
+        if fixed[at] == 0 {
+            None
+        } else {
+            Some(four)
+        }
+    };
+    let said = Setting {
+        num_snakes: u64::from(fixed[1]),
+        grid_size: i32::from(fixed[2]),
+        initial_length: u64::from(fixed[3]),
+        play_to_last: fixed[4] != 0,
+        win_food_lead: limit(5),
+        initial_food_count: u64::from(fixed[10]),
+        max_ticks: limit(11),
+    };
+    let pages = fixed[16];
+    let Some(row) = book.get(paper_books::contents_length(usize::from(pages))..) else { return false };
+    paper_books::write(&said, u64::from(pages), row, u64::MAX).as_deref() == Ok(book)
+}
+
+/// Start and length of a page in the lent book.
+pub fn read_page(book: &[u16], page: u64) -> Result<(usize, usize), Refused> {
+    let is_accepted = paper_books::read_contents(book).map_or(false, |contents| {
+        (0..contents.starts.len()).all(|i| paper_books::page(&contents, book, i as u64).is_ok())
+    });
+    assert_eq!(is_accepted, is_written(book), "a book has one form only");
+    paper_books::read(book, page)
 }

@@ -1,12 +1,20 @@
-//! Calls made from a seed: the probe's lines around every limit, rule and refusal of document 01.
+//! Calls made from a seed: the probe's lines around every limit, rule and refusal of documents 01 and 02.
 
+use crate::books::{self, Extent};
 use crate::calls;
 use crate::images::{self, Player};
 use crate::paper::{self, Setting, State};
+use crate::paper_books;
 use crate::random::Random;
 
-/// Letters drawn from when none are asked for; a letter comes as often as it stands here.
-pub const ALL: &str = "vvvissssssssccdddddkkkkkooobbtllzzuuwwwpqhxx";
+/// Letters of document 01; a letter comes as often as it stands here.
+pub const BASE: &str = "vvvissssssssccdddddkkkkkooobbtllzzuuwwwpqhxx";
+
+/// Letters of document 02.
+pub const LATER: &str = "BBPPP";
+
+/// As many words as a line with a book or a row may hold.
+const MOST_BOOK_WORDS: u64 = 262_144;
 
 /// How long a line may be and which images are wanted.
 #[derive(Clone, Copy, PartialEq)]
@@ -23,6 +31,9 @@ pub struct Generator {
     player: Player,
     letters: Vec<u8>,
     size: Size,
+    /// Calls with the single faults of one short row, and of one short book, that are still to come.
+    row_faults: Vec<String>,
+    book_faults: Vec<String>,
 }
 
 fn joined<T: ToString>(numbers: &[T]) -> String {
@@ -38,7 +49,8 @@ impl Generator {
     pub fn new(seed: u64, letters: &str, size: Size) -> Self {
         let mut rng = Random::new(seed);
         let player = Player::new(&mut rng);
-        Generator { rng, player, letters: letters.bytes().collect(), size }
+        let letters = letters.bytes().collect();
+        Generator { rng, player, letters, size, row_faults: Vec::new(), book_faults: Vec::new() }
     }
 
     /// The next line, without its newline.
@@ -75,6 +87,8 @@ impl Generator {
             b'q' => "q".to_string(),
             b'h' => self.turn(),
             b'x' => self.well_formed(),
+            b'B' => self.write_book(),
+            b'P' => self.read_page(),
             other => panic!("no call has the letter {}", char::from(other)),
         }
     }
@@ -350,6 +364,133 @@ impl Generator {
             5 if rng.once_in(40) => list.resize(rng.between(2_047, 2_049) as usize, 0),
             _ => rng.shuffle(list),
         }
+    }
+
+    // ---- books
+
+    fn extent(&self) -> Extent {
+        match self.size {
+            Size::Any => Extent::Any,
+            Size::UpTo(_) => Extent::Short,
+            Size::Full => Extent::Long,
+        }
+    }
+
+    /// Half of the calls go on with the single faults of a short row, in any order; a new row begins where one ends.
+    fn write_book(&mut self) -> String {
+        if self.size == Size::Full || self.rng.once_in(2) {
+            return self.any_writing();
+        }
+        if self.row_faults.is_empty() {
+            self.row_faults = self.sweep_row();
+        }
+        self.row_faults.pop().expect("a row has faults")
+    }
+
+    fn read_page(&mut self) -> String {
+        if self.size == Size::Full || self.rng.once_in(2) {
+            return self.any_reading();
+        }
+        if self.book_faults.is_empty() {
+            self.book_faults = self.sweep_book();
+        }
+        self.book_faults.pop().expect("a book has faults")
+    }
+
+    /// Every single fault of a short row, in a buffer of just the room that the words would need, and the row itself
+    /// with one page more and less and with each buffer that is too short by little.
+    fn sweep_row(&mut self) -> Vec<String> {
+        let pages = books::pages(&mut self.rng, Extent::Short);
+        let (setting, row, count) = (pages.setting.print(), pages.row(), pages.parts.len());
+        let needed = |words: &[u16]| paper_books::contents_length(count) + words.len();
+        let mut calls: Vec<String> = books::single_faults(&row)
+            .iter()
+            .map(|words| format!("B {setting} {} {count}{}", needed(words), listed(words)))
+            .collect();
+        for less in 0..4 {
+            calls.push(format!("B {setting} {} {count}{}", needed(&row) - less, listed(&row)));
+        }
+        for other in [count + 1, count.saturating_sub(1)] {
+            calls.push(format!("B {setting} {} {other}{}", needed(&row) + 2, listed(&row)));
+        }
+        self.rng.shuffle(&mut calls);
+        calls
+    }
+
+    /// Every single fault of a short book, each of its pages and the one after them asked for.
+    fn sweep_book(&mut self) -> Vec<String> {
+        let pages = books::pages(&mut self.rng, Extent::Short);
+        let mut calls = Vec::new();
+        for words in books::single_faults(&pages.bound()) {
+            for page in 0..=pages.parts.len() {
+                calls.push(format!("P {page}{}", listed(&words)));
+            }
+        }
+        self.rng.shuffle(&mut calls);
+        calls
+    }
+
+    /// Words as many as a line may hold, or one more; or their number alone above the limit.
+    fn listed_to_the_limit(&mut self, words: &[u16]) -> String {
+        if self.size == Size::Any && self.rng.once_in(4000) {
+            let mut words = words.to_vec();
+            let count = self.rng.between(MOST_BOOK_WORDS - 1, MOST_BOOK_WORDS + 1);
+            words.resize(count as usize, 1);
+            return listed(&words);
+        }
+        if self.rng.once_in(200) {
+            let count = *self.rng.pick(&[MOST_BOOK_WORDS, MOST_BOOK_WORDS + 1, u64::MAX]);
+            return format!(" {count}{}", joined(words));
+        }
+        listed(words)
+    }
+
+    fn any_writing(&mut self) -> String {
+        let extent = self.extent();
+        let mut pages = books::pages(&mut self.rng, extent);
+        let mut count = pages.parts.len() as u64;
+        if self.size != Size::Full && !self.rng.once_in(3) {
+            for _ in 0..self.rng.between(1, 3) {
+                books::spoil_writing(&mut self.rng, &mut pages, &mut count);
+            }
+            if self.rng.once_in(6) {
+                self.unsettle(&mut pages.setting);
+            }
+        }
+        let row = pages.row();
+        let needed = paper_books::contents_length(count.min(65_536) as usize) + row.len();
+        let room = self.room(needed, MOST_BOOK_WORDS);
+        let words = self.listed_to_the_limit(&row);
+        format!("B {} {room} {count}{words}", pages.setting.print())
+    }
+
+    fn any_reading(&mut self) -> String {
+        if self.size == Size::Any && self.rng.once_in(2000) {
+            let (pages, image) = books::most_pages(&mut self.rng);
+            let page = if self.rng.once_in(3) { books::page_near(&mut self.rng, 65_535) } else { image };
+            return format!("P {page}{}", listed(&pages.bound()));
+        }
+        let extent = self.extent();
+        let mut pages = books::pages(&mut self.rng, extent);
+        if self.size == Size::Full {
+            return format!("P {}{}", pages.parts.len() - 1, listed(&pages.bound()));
+        }
+        if self.rng.once_in(3) {
+            for _ in 0..self.rng.between(1, 2) {
+                books::spoil_part(&mut self.rng, &mut pages);
+            }
+        }
+        let mut book = pages.bound();
+        if !self.rng.once_in(3) {
+            for _ in 0..self.rng.between(1, 2) {
+                books::damage(&mut self.rng, &mut book);
+            }
+        } else if self.rng.once_in(40) {
+            let count = self.rng.below(60);
+            book = (0..count).map(|_| self.rng.below(20) as u16).collect();
+        }
+        let page = books::page_near(&mut self.rng, pages.parts.len() as u64);
+        format!("P {page}{}", self.listed_to_the_limit(&book))
     }
 
     // ---- the rest

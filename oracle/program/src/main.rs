@@ -1,5 +1,6 @@
 //! The oracle: the published rules of the arena behind the probe's lines and the replay's.
 
+mod books;
 mod calls;
 mod differ;
 mod differences;
@@ -9,6 +10,7 @@ mod images;
 mod match_stats;
 mod matches;
 mod paper;
+mod paper_books;
 mod paper_rules;
 mod probe;
 mod random;
@@ -48,8 +50,9 @@ fn number(text: &str) -> u64 {
 fn usage() -> ! {
     eprintln!(
         "usage: oracle                            answer the calls on standard input
-       oracle gen N SEED [OPS [SIZE]]    N calls; OPS is their letters or all; SIZE is the longest line in
-                                         bytes, or full for the largest image alone
+       oracle gen N SEED [OPS [SIZE]]    N calls; OPS is their letters, or all, or 01 for those of document 01;
+                                         SIZE is the longest line in bytes, or full for the largest image and
+                                         for books of more than 65,535 words alone
        oracle stats                      how often each answer comes to the calls on standard input
        oracle replay                     what the replay program prints for standard input
        oracle genreplay N SEED           N replay inputs, as a file of matches
@@ -65,8 +68,13 @@ fn usage() -> ! {
 }
 
 fn generate(count: u64, seed: u64, ops: &str, size: gen::Size) -> io::Result<()> {
-    let letters = if ops == "all" { gen::ALL } else { ops };
-    if letters.is_empty() || !letters.bytes().all(|b| gen::ALL.as_bytes().contains(&b)) {
+    let all = [gen::BASE, gen::LATER].concat();
+    let letters = match ops {
+        "all" => &all,
+        "01" => gen::BASE,
+        letters => letters,
+    };
+    if letters.is_empty() || !letters.chars().all(|letter| all.contains(letter)) {
         usage();
     }
     let mut generator = gen::Generator::new(seed, letters, size);

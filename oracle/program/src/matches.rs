@@ -73,15 +73,19 @@ impl Inputs {
         Inputs { rng: Random::new(seed), settings: Generator::new(seed, "v", Size::Any) }
     }
 
-    /// One input: a match played for a while or to its end, half of the time with something wrong.
+    /// One input: two in five are matches that the lead ends, one in eight of them with something wrong; the others are matches
+    /// played for a while or to their end, half of them with something wrong.
     pub fn next(&mut self) -> Vec<u8> {
-        let mut lines = if self.rng.once_in(8) {
+        let led = self.rng.below(5) < 2;
+        let mut lines = if led {
+            self.led()
+        } else if self.rng.once_in(8) {
             let setting = self.settings.any_setting();
             vec![setting.print().into_bytes()]
         } else {
             self.played()
         };
-        if self.rng.once_in(2) {
+        if self.rng.once_in(if led { 8 } else { 2 }) {
             self.spoil(&mut lines);
         }
         let mut input = lines.join(&b'\n');
@@ -95,7 +99,21 @@ impl Inputs {
         let rng = &mut self.rng;
         let setting = images::accepted(rng);
         let most = if rng.once_in(3) { rng.below(12) } else { 80 };
-        played(rng, setting, most, images::sensible)
+        played(rng, setting, most, images::sensible).0
+    }
+
+    /// A match that the lead ends.
+    fn led(&mut self) -> Vec<Vec<u8>> {
+        let rng = &mut self.rng;
+        loop {
+            let side = rng.between(3, 12) as u16;
+            let setting = images::setting_for(rng, 2, side).filter(|s| s.win_food_lead.is_some());
+            let Some(setting) = setting else { continue };
+            let (lines, game) = played(rng, setting, 200, images::sensible);
+            if game.led() {
+                return lines;
+            }
+        }
     }
 
     fn spoil(&mut self, lines: &mut Vec<Vec<u8>>) {
@@ -155,13 +173,13 @@ impl Inputs {
     }
 }
 
-/// The lines of a match, its draws and moves as they come: at most so many after the first.
+/// The lines of a match, its draws and moves as they come, at most so many after the first; and the match.
 fn played(
     rng: &mut Random,
     setting: Setting,
     most: u64,
     choose: fn(&mut Random, &State) -> Vec<u64>,
-) -> Vec<Vec<u8>> {
+) -> (Vec<Vec<u8>>, Match) {
     let mut lines = vec![setting.print().into_bytes()];
     let (mut game, _) = Match::start(setting).expect("accepted");
     for _ in 0..most {
@@ -179,7 +197,7 @@ fn played(
             move_line(&actions)
         });
     }
-    lines
+    (lines, game)
 }
 
 fn whole(name: String, lines: &[Vec<u8>]) -> Entry {
@@ -195,7 +213,7 @@ pub fn wide_and_long(seed: u64) -> Vec<Entry> {
     for side in 3..=32 {
         for n in 2..=8 {
             if let Some(setting) = images::setting_for(&mut rng, n, side) {
-                let lines = played(&mut rng, setting, 24, images::sensible);
+                let (lines, _) = played(&mut rng, setting, 24, images::sensible);
                 entries.push(whole(format!("side-{side}-snakes-{n}"), &lines));
             }
         }
@@ -221,7 +239,7 @@ pub fn wide_and_long(seed: u64) -> Vec<Entry> {
             initial_food_count,
             max_ticks,
         };
-        let lines = played(&mut rng, setting, most, images::careful);
+        let (lines, _) = played(&mut rng, setting, most, images::careful);
         entries.push(whole(format!("long-snakes-{num_snakes}"), &lines));
     }
     entries

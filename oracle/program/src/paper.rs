@@ -315,18 +315,24 @@ pub fn rank(state: &State, list: &[u16]) -> Result<u64, Number> {
 
 // ---- the order of refusals
 
+/// 21 where n or g differs from the setting.
+pub fn check_board(s: &Setting, state: &State) -> Result<(), Number> {
+    if state.snakes.len() as u64 == s.num_snakes && i32::from(state.side) == s.grid_size {
+        Ok(())
+    } else {
+        Err(21)
+    }
+}
+
 /// Step: setting, 20, 21, 22, 24, 25; 29 needs the answer and is last.
 pub fn check_step(s: &Setting, words: &[u16], actions: &[u64]) -> Result<State, Number> {
     check_setting(s)?;
     let state = read_image(words).ok_or(20)?;
-    let n = state.snakes.len();
-    if n as u64 != s.num_snakes || i32::from(state.side) != s.grid_size {
-        return Err(21);
-    }
+    check_board(s, &state)?;
     if state.due > 0 {
         return Err(22);
     }
-    if actions.len() != n {
+    if actions.len() != state.snakes.len() {
         return Err(24);
     }
     let beyond = |(snake, &action): (&Snake, &u64)| snake.alive && action > 2;

@@ -5,6 +5,7 @@ use std::fmt::Display;
 use crate::calls;
 use crate::fields::{self, Fields};
 use crate::paper::{self, Number, Setting};
+use crate::paper_books::Refused;
 use crate::rust;
 use crate::snake::StepEvent;
 
@@ -12,6 +13,7 @@ const MOST_WORDS: u64 = 16_384;
 const MOST_NUMBERS: u64 = 8_192;
 const MOST_ACTIONS: u64 = 64;
 const MOST_RANKED: u64 = 2_048;
+const MOST_BOOK_WORDS: u64 = 262_144;
 
 /// An answer's text after `a`, or a refusal.
 type Answer = Result<String, Number>;
@@ -41,7 +43,12 @@ fn texted(numbers: &[u64]) -> String {
 
 /// **W**: a count and so many words, at the end of every call that has it.
 fn words(fields: &mut Fields) -> Option<Vec<u16>> {
-    let list = counted(fields, MOST_WORDS, u64::from(u16::MAX))?;
+    words_up_to(fields, MOST_WORDS)
+}
+
+/// **W** of at most `most` words.
+fn words_up_to(fields: &mut Fields, most: u64) -> Option<Vec<u16>> {
+    let list = counted(fields, most, u64::from(u16::MAX))?;
     fields.end()?;
     Some(list.into_iter().map(|w| w as u16).collect())
 }
@@ -206,6 +213,51 @@ fn well_formed(f: &mut Fields) -> Option<Answer> {
     Some(paper::read_image(&image).map(|_| String::new()).ok_or(20))
 }
 
+/// `B`: the book.
+fn written(f: &mut Fields) -> Option<Result<Vec<u16>, Refused>> {
+    let s = Setting::read(f)?;
+    let room = f.up_to(MOST_BOOK_WORDS)?;
+    let pages = f.number()?;
+    let row = words_up_to(f, MOST_BOOK_WORDS)?;
+    Some(calls::write_book(&s, pages, &row, room))
+}
+
+fn write_book(f: &mut Fields) -> Option<Answer> {
+    let answer = written(f)?;
+    Some(answer.map_err(|(number, _)| number).map(|book| {
+        let mut text = String::new();
+        put_list(&mut text, &book);
+        text
+    }))
+}
+
+/// `P`: the page's start, and its words.
+fn page(f: &mut Fields) -> Option<Result<(usize, Vec<u16>), Refused>> {
+    let page = f.number()?;
+    let book = words_up_to(f, MOST_BOOK_WORDS)?;
+    let place = calls::read_page(&book, page);
+    Some(place.map(|(start, length)| (start, book[start..start + length].to_vec())))
+}
+
+fn read_page(f: &mut Fields) -> Option<Answer> {
+    let answer = page(f)?;
+    Some(answer.map_err(|(number, _)| number).map(|(start, words)| {
+        let mut text = texted(&[start as u64]);
+        put_list(&mut text, &words);
+        text
+    }))
+}
+
+/// The refusal of a book's call with the paper's words for it; none for any other line.
+pub fn book_refusal(line: &[u8]) -> Option<Refused> {
+    let mut f = Fields::of(line);
+    match f.next()? {
+        b"B" => written(&mut f)?.err(),
+        b"P" => page(&mut f)?.err(),
+        _ => None,
+    }
+}
+
 /// The answer to a call; none for a line that is no call.
 fn call(line: &[u8]) -> Option<Answer> {
     let mut f = Fields::of(line);
@@ -227,6 +279,8 @@ fn call(line: &[u8]) -> Option<Answer> {
         b"q" => action_space(&mut f),
         b"h" => turn(&mut f),
         b"x" => well_formed(&mut f),
+        b"B" => write_book(&mut f),
+        b"P" => read_page(&mut f),
         _ => None,
     }
 }

@@ -1,10 +1,10 @@
-//! The replay of document 01: its lines, order and placings are the paper's, each move and draw is the Rust's.
+//! The replay of document 01: its lines, order and placings are the papers' (02 for a food lead), each move and draw is the Rust's.
 
 use reinfors_core::game::Game;
 
 use crate::calls::{self, Stepped};
 use crate::fields::{lines, Fields};
-use crate::paper::{self, Number, Setting, State};
+use crate::paper::{self, Number, Setting, Snake, State};
 use crate::rust;
 use crate::snake::{DeathCause, StepEvent};
 
@@ -74,6 +74,8 @@ pub struct Match {
     pub setting: Setting,
     pub state: State,
     pub over: bool,
+    /// Whether the last move was terminal: the rules ended the match, and not max_ticks.
+    terminal: bool,
     moves: u64,
     /// The move on which each snake died; none for the living.
     died: Vec<Option<u64>>,
@@ -83,7 +85,7 @@ impl Match {
     pub fn start(setting: Setting) -> Result<(Match, String), Number> {
         let state = calls::initial(&setting)?;
         let died = vec![None; state.snakes.len()];
-        let started = Match { setting, state, over: false, moves: 0, died };
+        let started = Match { setting, state, over: false, terminal: false, moves: 0, died };
         let text = started.line('i', false, &[]);
         Ok((started, text))
     }
@@ -120,6 +122,7 @@ impl Match {
             events = self.truncated(events);
         }
         self.over = terminal || cut;
+        self.terminal = terminal;
         Ok(self.line('m', terminal, &events))
     }
 
@@ -140,9 +143,25 @@ impl Match {
         }
     }
 
+    /// Whether the lead ended the match: a terminal state has two living snakes for no other reason.
+    pub fn led(&self) -> bool {
+        self.terminal && self.state.snakes.iter().filter(|s| s.alive).count() == 2
+    }
+
+    /// Whether a snake lost by the lead: the other living one is longer.
+    fn is_behind(&self, i: usize) -> bool {
+        let own = &self.state.snakes[i];
+        let is_ahead = |other: &Snake| other.alive && other.body.len() > own.body.len();
+        self.led() && own.alive && self.state.snakes.iter().any(is_ahead)
+    }
+
     fn placings(&self) -> String {
         let mut text = "p".to_string();
-        for own in &self.died {
+        for (i, own) in self.died.iter().enumerate() {
+            if self.is_behind(i) {
+                text += " 2";
+                continue;
+            }
             let later = |other: &&Option<u64>| match (own, other) {
                 (None, _) => false,
                 (Some(_), None) => true,

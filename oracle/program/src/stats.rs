@@ -1,6 +1,9 @@
-//! How often each answer comes: by call, by refusal, by cause, flag and count of the dead.
+//! How often each answer comes: by call, by refusal, by cause, flag and count of the dead; for books also by the
+//! paper's words for each refusal, by the number of pages, and how far from the front.
 
 use std::collections::BTreeMap;
+
+use crate::probe;
 
 #[derive(Default)]
 pub struct Stats {
@@ -8,10 +11,24 @@ pub struct Stats {
     kinds: BTreeMap<String, u64>,
     refusals: BTreeMap<u64, u64>,
     events: BTreeMap<&'static str, u64>,
+    books: BTreeMap<String, u64>,
 }
 
 const FLAGS: [&str; 8] = ["ate", "died", "", "kill", "won", "lost", "drew", "survived"];
 const CAUSES: [&str; 5] = ["", "Wall", "SelfBody", "OppBody", "HeadOn"];
+
+/// A number of pages as it is counted.
+fn pages_counted(pages: usize) -> &'static str {
+    match pages {
+        0 => "0 pages",
+        1 => "1 page",
+        2..=9 => "2 to 9 pages",
+        10..=99 => "10 to 99 pages",
+        100..=999 => "100 to 999 pages",
+        1000..=65_534 => "1,000 pages or more",
+        _ => "65,535 pages",
+    }
+}
 
 impl Stats {
     pub fn add(&mut self, line: &[u8], answer: &str) {
@@ -27,6 +44,30 @@ impl Stats {
             *self.refusals.entry(number.parse().expect("a number")).or_default() += 1;
         } else if letter == 's' {
             self.add_step(answer);
+        }
+        if "BP".contains(letter) {
+            self.add_book(letter, line, answer);
+        }
+    }
+
+    fn add_book(&mut self, letter: char, line: &[u8], answer: &str) {
+        if let Some((number, why)) = probe::book_refusal(line) {
+            *self.books.entry(format!("{letter} r {number:>2}, {why}:")).or_default() += 1;
+            return;
+        }
+        let number = |text: &str, field: usize| -> usize {
+            text.split(' ').nth(field).expect("a field").parse().expect("a number")
+        };
+        // a book's 17th word: in the answer after `a` and the count, in the line after `P`, the page and the count
+        let (pages, far) = if letter == 'B' {
+            let is_far = number(answer, 1) > 65_536;
+            (number(answer, 18), is_far.then_some("more than 65,536 words"))
+        } else {
+            let is_far = number(answer, 1) > 65_535;
+            (number(&String::from_utf8_lossy(line), 19), is_far.then_some("a start above 65,535"))
+        };
+        for what in [Some(pages_counted(pages)), far].into_iter().flatten() {
+            *self.books.entry(format!("{letter} a, {what}:")).or_default() += 1;
         }
     }
 
@@ -54,6 +95,9 @@ impl Stats {
         }
         for (event, count) in &self.events {
             text += &format!("step {event} {count}\n");
+        }
+        for (what, count) in &self.books {
+            text += &format!("book {what} {count}\n");
         }
         text
     }

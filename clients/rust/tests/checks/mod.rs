@@ -1,4 +1,5 @@
 // What the calls answer, as functions that panic where one does not: run by `cargo test` (calls.rs) and by a plain program (plain.rs).
+use lundaspro::Action::*;
 use lundaspro::*;
 
 pub const ALL: &[(&str, fn())] = &[
@@ -17,7 +18,15 @@ pub const ALL: &[(&str, fn())] = &[
     ("turns", turns),
     ("events_as_bytes", events_as_bytes),
     ("spaces", spaces),
+    ("books", books),
+    ("refused_books", refused_books),
+    ("lent_books", lent_books),
     ("sentences", sentences),
+    ("boards", boards),
+    ("what_an_image_shows", what_an_image_shows),
+    ("events_as_letters", events_as_letters),
+    ("actions_by_number", actions_by_number),
+    ("settings_as_keys", settings_as_keys),
 ];
 
 struct Snake<'a> {
@@ -90,49 +99,15 @@ fn setting(
     }
 }
 
-fn letters(e: Event) -> String {
-    let cause = match e.death_cause {
-        None => "",
-        Some(Cause::Wall) => "W",
-        Some(Cause::SelfBody) => "S",
-        Some(Cause::OppBody) => "O",
-        Some(Cause::HeadOn) => "H",
-    };
-    let mut text = String::new();
-    for (flag, letter) in [
-        (e.ate_food, "a"),
-        (true, cause),
-        (e.killed_opponent, "k"),
-        (e.won, "w"),
-        (e.lost, "l"),
-        (e.drew, "x"),
-        (e.survived_to_max_ticks, "y"),
-    ] {
-        if flag {
-            text += letter;
-        }
-    }
-    if text.is_empty() {
-        "-".into()
-    } else {
-        text
-    }
-}
-
 // A line as the replay prints it.
 fn line(letter: char, terminal: bool, image: &Image, events: &[Event]) -> String {
-    let w = image.words();
-    let mut text = format!("{letter} {} {} {}", u8::from(terminal), w[2], w[4]);
-    for i in 0..usize::from(w[0]) {
-        let body = image.body(i as u64);
-        let first = body.first().map_or("-".into(), |cell| cell.to_string());
-        let shown = events.get(i).copied().unwrap_or_default();
-        text += &format!(
-            " {}:{}:{first}:{}",
-            w[8 + 4 * i],
-            body.len(),
-            letters(shown)
-        );
+    let (due, food) = (image.due(), image.food().len());
+    let mut text = format!("{letter} {} {due} {food}", u8::from(terminal));
+    for i in 0..u64::from(image.snakes()) {
+        let (alive, length) = (u8::from(image.alive(i)), image.body(i).len());
+        let head = image.head(i).map_or("-".into(), |cell| cell.to_string());
+        let event = events.get(i as usize).copied().unwrap_or_default();
+        text += &format!(" {alive}:{length}:{head}:{event}");
     }
     text
 }
@@ -141,12 +116,13 @@ fn sample_match() {
     let setting = setting(2, 3, 1, 1);
     let mut image = setting.initial_state().unwrap();
     assert_eq!(line('i', false, &image, &[]), "i 0 1 0 1:1:4:- 1:1:5:-");
-    let lines: [(Option<u64>, [u64; 2], &str); 5] = [
-        (Some(2), [0, 0], "d 0 0 1 1:1:4:- 1:1:5:-"),
-        (None, [0, 0], "m 0 0 1 1:1:5:- 1:1:4:-"),
-        (None, [1, 0], "m 0 1 0 1:2:2:a 1:1:3:-"),
-        (Some(0), [0, 0], "d 0 0 1 1:2:2:- 1:1:3:-"),
-        (None, [0, 0], "m 1 0 1 0:1:2:Wx 0:0:-:Wx"),
+    let both = [Forward, Forward];
+    let lines: [(Option<u64>, [Action; 2], &str); 5] = [
+        (Some(2), both, "d 0 0 1 1:1:4:- 1:1:5:-"),
+        (None, both, "m 0 0 1 1:1:5:- 1:1:4:-"),
+        (None, [TurnLeft, Forward], "m 0 1 0 1:2:2:a 1:1:3:-"),
+        (Some(0), both, "d 0 0 1 1:2:2:- 1:1:3:-"),
+        (None, both, "m 1 0 1 0:1:2:Wx 0:0:-:Wx"),
     ];
     for (index, actions, due) in lines {
         let (next, text) = match index {
@@ -271,7 +247,7 @@ fn turned_picture() {
 fn facing_neighbours() {
     let setting = setting(2, 5, 1, 0);
     let both = image(5, 0, 0, &[alive(1, &[7, 6]), alive(3, &[8, 9])], &[])
-        .step(&setting, &[0, 0])
+        .step(&setting, &[Forward, Forward])
         .unwrap();
     let drew = Event {
         died: true,
@@ -281,7 +257,7 @@ fn facing_neighbours() {
     };
     assert_eq!((both.terminal, both.events), (true, vec![drew, drew]));
     let one = image(5, 0, 0, &[alive(1, &[7]), alive(3, &[8, 9])], &[])
-        .step(&setting, &[0, 0])
+        .step(&setting, &[Forward, Forward])
         .unwrap();
     let lost = Event {
         died: true,
@@ -319,7 +295,7 @@ fn refused_images() {
     let bad = Image::unchecked(vec![2, 3, 0]);
     assert_eq!(number(Image::checked(vec![])), 20);
     assert!(bad.body(0).is_empty());
-    assert_eq!(number(bad.step(&setting(2, 3, 1, 1), &[0, 0])), 20);
+    assert_eq!(number(bad.step(&setting(2, 3, 1, 1), &[Forward; 2])), 20);
     assert_eq!(number(bad.count()), 20);
     assert_eq!(number(bad.draw(0)), 20);
     assert_eq!(number(bad.rank(&[])), 20);
@@ -342,10 +318,16 @@ fn refused_steps() {
     assert_eq!(number(good.step(&setting(2, 3, 0, 0), &[])), 2);
     assert_eq!(number(good.step(&setting(2, 4, 1, 0), &[])), 21);
     assert_eq!(number(due.step(&set, &[])), 22);
-    assert_eq!(number(good.step(&set, &[0])), 24);
-    assert_eq!(number(good.step(&set, &[3, 0])), 25);
+    assert_eq!(number(good.step(&set, &[Forward])), 24);
     // a dead snake's action may be any number
-    assert!(good.step(&set, &[0, u64::MAX]).is_ok());
+    let mut out = [0; 20];
+    let step = |actions: &[u64], out: &mut [u16]| lend::step(&set, good.words(), actions, out);
+    assert_eq!(number(step(&[3, 0], &mut out)), 25);
+    let stepped = step(&[0, u64::MAX], &mut out).unwrap();
+    assert_eq!(
+        good.step(&set, &[Forward, TurnRight]).unwrap().next.words(),
+        &out[..stepped.words]
+    );
 }
 
 fn refused_draws() {
@@ -462,7 +444,6 @@ fn rewards() {
 }
 
 fn turns() {
-    use Action::*;
     use Heading::*;
     let ring = [Up, Right, Down, Left];
     for (i, &heading) in ring.iter().enumerate() {
@@ -475,7 +456,10 @@ fn turns() {
     assert_eq!(due.legal_actions(0), Ok(&[][..]));
     let next = due.draw(0).unwrap().next;
     assert_eq!(next.actor(), Ok(Actor::Simultaneous));
-    assert_eq!(next.legal_actions(0), Ok(&[0, 1, 2][..]));
+    assert_eq!(
+        next.legal_actions(0),
+        Ok(&[Forward, TurnLeft, TurnRight][..])
+    );
 }
 
 // Every event goes out as a number and comes back with the survival flag of a living and of a dead agent.
@@ -519,8 +503,226 @@ fn spaces() {
     assert_eq!(action_space(), Ok(Space::Discrete(3)));
 }
 
+// A match's setting and the images of its states.
+fn played() -> (Setting, Vec<Image>) {
+    let set = Setting {
+        max_ticks: Some(u64::MAX - 1),
+        ..setting(2, 3, 1, 1)
+    };
+    let start = set.initial_state().unwrap();
+    let drawn = start.draw(2).unwrap().next;
+    let moved = drawn.step(&set, &[Forward, Forward]).unwrap().next;
+    (set, vec![start, drawn, moved])
+}
+
+fn books() {
+    let (set, images) = played();
+    let book = set.write_book(&images).unwrap();
+    let all: usize = images.iter().map(|image| image.words().len()).sum();
+    assert_eq!((book.len(), book.words().len()), (3, book_words(3, all)));
+    // max_ticks: a flag and four words, lowest first; three pages, the first right after the contents
+    assert_eq!(
+        book.words()[11..19],
+        [1, 65534, 65535, 65535, 65535, 3, 23, 0]
+    );
+    for (i, image) in images.iter().enumerate() {
+        assert_eq!(book.page(i as u64), Ok(image.words()));
+    }
+    let there: Vec<&[u16]> = book.pages().map(Result::unwrap).collect();
+    let words: Vec<&[u16]> = images.iter().map(Image::words).collect();
+    assert_eq!(there, words);
+    let mut pages = book.pages();
+    assert_eq!((pages.len(), pages.next_back()), (3, Some(Ok(words[2]))));
+    assert_eq!((pages.nth(1), pages.next()), (Some(Ok(words[1])), None));
+    let opened = Book::open(book.words().to_vec()).unwrap();
+    assert_eq!((opened.page(2), opened == book), (Ok(words[2]), true));
+    let mut steps = 0;
+    for page in &opened {
+        steps += usize::from(lend::step(&set, page.unwrap(), &[0, 0], &mut [0; 30]).is_ok());
+    }
+    assert_eq!(steps, 2);
+    let none = set.write_book(&[]).unwrap();
+    assert_eq!((none.is_empty(), none.words().len()), (true, 17));
+    assert_eq!((none.pages().count(), number(none.page(0))), (0, 41));
+}
+
+fn refused_books() {
+    let (set, images) = played();
+    let other = image(4, 0, 0, &[alive(0, &[2]), alive(0, &[3])], &[]);
+    let bad = Image::unchecked(vec![2, 3, 0]);
+    let with = |more: &[&Image]| -> Vec<Image> {
+        images.iter().chain(more.iter().copied()).cloned().collect()
+    };
+    assert_eq!(number(setting(2, 3, 0, 1).write_book(&with(&[&bad]))), 2);
+    assert_eq!(number(set.write_book(&vec![bad.clone(); 65536])), 42);
+    assert_eq!(number(set.write_book(&with(&[&other, &bad]))), 21);
+    assert_eq!(number(set.write_book(&with(&[&bad, &other]))), 20);
+    // two parts that only together are an image
+    let (front, back) = images[0].words().split_at(7);
+    let parts = [front, back].map(|words| Image::unchecked(words.to_vec()));
+    assert_eq!(number(set.write_book(&parts)), 20);
+    let book = set.write_book(&images).unwrap();
+    assert_eq!(number(book.page(3)), 41);
+    assert_eq!(number(book.page(u64::MAX)), 41);
+    // every word of the contents at its limit, and every length that cuts them or the last page's start
+    for i in 0..23 {
+        let mut words = book.words().to_vec();
+        words[i] = 65535;
+        // a set limit's own words may be any
+        assert_eq!(Book::open(words).is_ok(), (12..16).contains(&i), "word {i}");
+    }
+    let last = book.words().len() - images[2].words().len();
+    for cut in 0..book.words().len() {
+        let opened = Book::open(book.words()[..cut].to_vec());
+        assert_eq!(opened.as_ref().is_ok(), last < cut, "cut at {cut}");
+        assert_eq!(
+            opened.map_or(40, |book| number(book.page(2))),
+            if last < cut { 20 } else { 40 }
+        );
+    }
+    // a damaged page is refused alone
+    let mut words = book.words().to_vec();
+    words[last - 1] = 9;
+    let pages: Vec<u8> = Book::open(words)
+        .unwrap()
+        .pages()
+        .map(|page| page.map_or_else(Refusal::number, |_| 0))
+        .collect();
+    assert_eq!(pages, [0, 20, 0]);
+    let mut words = book.words().to_vec();
+    words[2] = 4;
+    assert_eq!(number(Book::open(words).unwrap().page(0)), 21);
+}
+
+// 29 one word short of the book; nothing is written, and words past it stay. A page is the lent book's own words.
+fn lent_books() {
+    let (set, images) = played();
+    let row: Vec<u16> = images.iter().flat_map(Image::words).copied().collect();
+    let need = book_words(3, row.len());
+    let mut out = vec![9; need + 2];
+    assert_eq!(
+        number(lend::write_book(&set, 3, &row, &mut out[..need - 1])),
+        29
+    );
+    assert!(out.iter().all(|&word| word == 9));
+    assert_eq!(lend::write_book(&set, 3, &row, &mut out), Ok(need));
+    assert_eq!(out[need..], [9; 2]);
+    assert_eq!(&out[..need], set.write_book(&images).unwrap().words());
+    let page = lend::page(&out[..need], 1).unwrap();
+    let start = 23 + images[0].words().len();
+    assert_eq!(page.as_ptr(), out[start..].as_ptr());
+    assert_eq!(page, images[1].words());
+    assert_eq!(number(lend::write_book(&set, 2, &row, &mut out)), 20);
+    assert_eq!(number(lend::write_book(&set, 4, &row, &mut out)), 20);
+    assert_eq!(number(lend::page(&[], 0)), 40);
+}
+
 fn sentences() {
     let refusal = setting(2, 3, 4, 2).validate().unwrap_err();
+    assert_eq!(refusal, Refusal::FoodFree);
     assert_eq!(refusal.to_string(), "refusal 12: food above the free cells");
     let _: &dyn std::error::Error = &refusal;
+    for number in 1..=u8::MAX {
+        let refusal = Refusal::from_number(number).expect("not 0");
+        let named = [1..=12, 20..=31, 40..=42]
+            .iter()
+            .any(|numbers| numbers.contains(&number));
+        assert_eq!(refusal.number(), number);
+        assert_eq!(Refusal::ALL.contains(&refusal), named);
+        assert_eq!(refusal == Refusal::Unnamed(number), !named);
+    }
+    assert_eq!((Refusal::from_number(0), Refusal::ALL.len()), (None, 27));
+}
+
+fn boards() {
+    let start = setting(2, 3, 1, 1).initial_state().unwrap();
+    assert_eq!(start.to_string(), "...\n.AB\n...");
+    let drawn = start.draw(2).unwrap().next;
+    assert_eq!(drawn.to_string(), "..*\n.AB\n...");
+    // several on a cell: D's head over C's body, C's head over a corpse and food, a corpse over food and over the next
+    let corpse = |body| Snake {
+        heading: 0,
+        alive: 0,
+        body,
+    };
+    let heap = [
+        corpse(&[4, 5, 8]),
+        corpse(&[3, 4]),
+        alive(0, &[8, 7]),
+        alive(0, &[7]),
+    ];
+    let heap = image(3, 0, 0, &heap, &[0, 5, 8]);
+    assert_eq!(heap.to_string(), "*..\n100\n.DC");
+    let eight: Vec<Snake> = [[0], [1], [2], [3], [4], [5], [6], [7]]
+        .iter()
+        .map(|body| alive(0, body))
+        .collect();
+    assert_eq!(image(3, 0, 0, &eight, &[]).to_string(), "ABC\nDEF\nGH.");
+}
+
+fn what_an_image_shows() {
+    let shown = image(4, 2, 0, &[alive(1, &[6, 5]), alive(0, &[9])], &[0, 15]);
+    assert_eq!((shown.grid(), shown.snakes(), shown.due()), (4, 2, 2));
+    assert_eq!(shown.food(), [0, 15]);
+    assert!(shown.alive(0) && shown.alive(1));
+    assert!(!shown.alive(2) && !shown.alive(u64::MAX));
+    assert_eq!([0, 1, 2].map(|i| shown.head(i)), [Some(6), Some(9), None]);
+    let dead = one_dead();
+    assert!(dead.alive(0) && !dead.alive(1));
+    assert_eq!((dead.head(1), dead.food()), (None, &[][..]));
+    // of words that are no image they show nothing
+    for words in [vec![], vec![2, 3, 0], vec![u16::MAX; 40]] {
+        let bad = Image::unchecked(words);
+        assert_eq!((bad.grid(), bad.snakes(), bad.due()), (0, 0, 0));
+        assert_eq!((bad.food(), bad.head(0)), (&[][..], None));
+        assert!(!bad.alive(0));
+        assert_eq!(bad.to_string(), "no board: image not well-formed");
+    }
+}
+
+fn events_as_letters() {
+    let blank = Event::default();
+    let all = Event {
+        ate_food: true,
+        died: true,
+        death_cause: Some(Cause::Wall),
+        killed_opponent: true,
+        won: true,
+        lost: true,
+        drew: true,
+        survived_to_max_ticks: true,
+    };
+    assert_eq!(
+        (blank.to_string(), all.to_string()),
+        ("-".into(), "aWkwlxy".into())
+    );
+    assert_eq!(format!("{blank:>3}|"), "  -|");
+    let died = |cause| Event {
+        died: true,
+        death_cause: Some(cause),
+        ..blank
+    };
+    let causes = [Cause::Wall, Cause::SelfBody, Cause::OppBody, Cause::HeadOn];
+    assert_eq!(
+        causes.map(|cause| died(cause).to_string()),
+        ["W", "S", "O", "H"]
+    );
+}
+
+fn actions_by_number() {
+    for (number, action) in (0..).zip(Action::ALL) {
+        assert_eq!(action.number(), number);
+        assert_eq!(Action::from_number(number), Some(action));
+    }
+    assert_eq!(Action::from_number(3), None);
+    assert_eq!(Action::from_number(u64::MAX), None);
+}
+
+fn settings_as_keys() {
+    let mut matches = std::collections::HashMap::new();
+    for (place, length) in [1, 2, 1].into_iter().enumerate() {
+        matches.insert(setting(2, 5, length, 0), place);
+    }
+    assert_eq!(matches.len(), 2);
+    assert_eq!(matches[&setting(2, 5, 1, 0)], 2);
 }

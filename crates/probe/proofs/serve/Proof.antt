@@ -6,11 +6,11 @@ use Rattle.probe.proofs.serve.Statement.{statement}
 use Rattle.probe.proofs.serve.Tie as tie
 
 abbrev Inv-loop : tie.InvT-loop
-Inv-loop input₀ line₀ values₀ answers₀ held₀ turns₀ input line values answers held turns =
-    (length input ≡ length input₀) × (length line ≡ length line₀) × (length values ≡ length values₀) × (length answers ≡ length answers₀)
+Inv-loop input₀ line₀ words₀ answers₀ held₀ turns₀ input line words answers held turns =
+    (length input ≡ length input₀) × (length line ≡ length line₀) × (length words ≡ length words₀) × (length answers ≡ length answers₀)
 
 abbrev μ-loop : tie.MeasureT-loop
-μ-loop input₀ line₀ values₀ answers₀ held₀ turns₀ input line values answers held turns = turns
+μ-loop input₀ line₀ words₀ answers₀ held₀ turns₀ input line words answers held turns = turns
 
 pub serve-spec : {M : Type 1} → statement M
 serve-spec =

@@ -7,11 +7,11 @@ use Rattle.probe.proofs.take_all.Statement.{statement}
 use Rattle.probe.proofs.take_all.Tie as tie
 
 abbrev Inv-loop : tie.InvT-loop
-Inv-loop input begun line₀ values₀ answers₀ held₀ at₀ i₀ line values answers held at i =
-    (i ≤ length input) × (length line ≡ length line₀) × (length values ≡ length values₀) × (length answers ≡ length answers₀)
+Inv-loop input begun line₀ words₀ answers₀ held₀ at₀ i₀ line words answers held at i =
+    (i ≤ length input) × (length line ≡ length line₀) × (length words ≡ length words₀) × (length answers ≡ length answers₀)
 
 abbrev μ-loop : tie.MeasureT-loop
-μ-loop input begun line₀ values₀ answers₀ held₀ at₀ i₀ line values answers held at i = length input - i
+μ-loop input begun line₀ words₀ answers₀ held₀ at₀ i₀ line words answers held at i = length input - i
 
 pub take-all-spec : {M : Type 1} → statement M
 take-all-spec =

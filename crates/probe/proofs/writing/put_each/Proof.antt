@@ -1,3 +1,4 @@
+-- Every turn puts one word. The text keeps its length.
 use lib.ListN.{length}
 use mathlib.Core.Path.{_≡_}
 use Prim.Native.Nat.{_-_, _≤_}
@@ -23,7 +24,7 @@ put-each-spec =
     (tie.spec
     Inv-loop
     μ-loop
-    (λ c. search needs) (λ c. search needs) (λ c. search needs)
+    (λ c. search needs) (λ c κs. search needs) (λ c. search needs) (λ c. search needs)
     cast-put-number
     (λ c κs. search needs) (λ c. search needs) (λ c. search needs) (λ c. search needs) (λ c. search needs)
     (λ c. search needs))

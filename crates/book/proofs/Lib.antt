@@ -1,0 +1,12 @@
+pub mod Paging
+pub mod RowLaws
+pub mod Laying
+pub mod Booked
+pub mod Turns
+pub mod Bound
+pub mod Binding
+pub mod OneForm
+pub mod Separate
+pub mod Theorems
+pub mod Answers
+pub mod Sample

@@ -1,0 +1,9 @@
+pub mod Book
+pub mod Rows
+pub mod Orders
+pub mod Read
+pub mod Writing
+pub mod Bindable
+pub mod Calls
+pub mod Promises
+pub mod Turning

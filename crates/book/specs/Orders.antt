@@ -1,0 +1,40 @@
+-- Wish 1's refusals as tables: a row is a refusal's number and when it is given. Assumes nothing.
+use Prim.Native.Nat.{ℕ}
+use mathlib.Core.Bool.{not}
+use mathlib.Core.List.{List, [], _∷_, _++_}
+use lib.Dec.{ltb}
+use lib.ListN.{length}
+use Rattle.lists.specs.Below.{concatBelow}
+use Rattle.rules.specs.Tables.{Table, by}
+use Rattle.rules.specs.Image.{wellFormed}
+use Rattle.rules.specs.Orders.{differs}
+use Rattle.rules.specs.Setting.{settingOrder}
+use Rattle.rules.specs.declared.Setting.{Setting}
+use Rattle.contents.specs.Settings.{settingIn}
+use Rattle.contents.specs.Orders.{findOrder}
+use Rattle.book.specs.Book.{bookOf, pageIn}
+use Rattle.book.specs.Rows.{rowStart, rowPage}
+
+-- '20 and 21 for the page'
+abbrev pub pageRows : Setting → List ℕ → Table
+pageRows s w = (by 20, not (wellFormed w)) ∷ (by 21, differs s w) ∷ []
+
+-- ---- reading
+
+-- 'reading, 40 ..; then 41 no such page, then 20 and 21 for the page'
+unfoldable pub readOrder : List ℕ → ℕ → Table
+readOrder b i = findOrder b (length b) i ++ pageRows (settingIn b) (pageIn b i)
+
+-- ---- writing
+
+-- '20 and 21 page by page'; 'words after the last, tested after its 21, are 20 too'
+unfoldable pub rowOrder : Setting → ℕ → List ℕ → Table
+rowOrder s p row = concatBelow p (λ i. pageRows s (rowPage row i)) ++ ((by 20, ltb (rowStart row p) (length row)) ∷ [])
+
+-- 'writing, the setting's, then 42 above 65,535 pages, then 20 and 21 page by page'
+unfoldable pub askedOrder : Setting → ℕ → List ℕ → Table
+askedOrder s p row = settingOrder s ++ ((by 42, ltb 65535 p) ∷ rowOrder s p row)
+
+-- 'then 29'; room is the length of the lent buffer
+unfoldable pub writeOrder : Setting → ℕ → List ℕ → ℕ → Table
+writeOrder s p row room = askedOrder s p row ++ ((by 29, ltb room (length (bookOf s p (rowPage row)))) ∷ [])

@@ -1,0 +1,121 @@
+// The words below the board, and what is wrong, in one line on standard error. A refusal's line begins with `r` and its number.
+use crate::Fault;
+use crate::line::Shown;
+use crate::moves::moves_to;
+use libc::STDERR_FILENO;
+use libc::STDOUT_FILENO;
+use lists::word_at;
+
+// Pages are numbered from 0.
+fn last_of(pages: u64) -> u64 {
+    if pages == 0 {
+        return 0;
+    }
+    pages - 1
+}
+
+// ---- on standard output
+
+fn write(text: &[u8]) -> bool {
+    io::write_all(STDOUT_FILENO, text)
+}
+
+fn put_moves(moves: u64) -> bool {
+    if moves == 0 {
+        return write(b", before the first move\n");
+    }
+    write(b", after move ") & io::print_decimal(STDOUT_FILENO, moves) & write(b"\n")
+}
+
+fn put_number(page: u64, pages: u64) -> bool {
+    write(b"page ")
+        & io::print_decimal(STDOUT_FILENO, page)
+        & write(b" of 0 to ")
+        & io::print_decimal(STDOUT_FILENO, last_of(pages))
+}
+
+fn put_place(contents: &[u16], page: u64, state: Shown) -> bool {
+    let number = put_number(page, word_at(contents, 16));
+    if state.known {
+        return number & put_moves(moves_to(contents, page));
+    }
+    number & write(b", which no line of a match leads to\n")
+}
+
+fn put_legend() -> bool {
+    write(b"A to H: heads, a to h: bodies of the living; 0 to 7: corpses; *: food; .: free\n")
+}
+
+// Below the board.
+pub(crate) fn put_foot(contents: &[u16], page: u64, state: Shown) -> bool {
+    let place = put_place(contents, page, state);
+    place & put_legend()
+}
+
+// ---- on standard error
+
+fn say(text: &[u8]) {
+    io::write_all(STDERR_FILENO, text);
+}
+
+fn say_number(n: u64) {
+    io::print_decimal(STDERR_FILENO, n);
+}
+
+fn say_pages(pages: u64) {
+    if pages == 0 {
+        say(b"r 41: the book has no page\n");
+        return;
+    }
+    if pages == 1 {
+        say(b"r 41: the book has page 0 alone\n");
+        return;
+    }
+    say(b"r 41: the book has ");
+    say_number(pages);
+    say(b" pages, 0 to ");
+    say_number(last_of(pages));
+    say(b"\n");
+}
+
+fn say_page(front: &[u8], page: u64, back: &[u8]) {
+    say(front);
+    say_number(page);
+    say(back);
+}
+
+pub(crate) fn tell_refused(number: u8, page: u64, contents: &[u16]) {
+    if number == 40 {
+        say(b"r 40: this is no match book, or its contents are damaged\n");
+        return;
+    }
+    if number == 41 {
+        say_pages(word_at(contents, 16));
+        return;
+    }
+    if number == 20 {
+        say_page(
+            b"r 20: page ",
+            page,
+            b" is damaged: it is no state of a match\n",
+        );
+        return;
+    }
+    say_page(
+        b"r 21: page ",
+        page,
+        b" has other snakes or another grid than its book\n",
+    );
+}
+
+pub(crate) fn tell(fault: Fault) {
+    match fault {
+        Fault::NoFault => {}
+        Fault::Refused => {}
+        Fault::NoPage => say(b"name one page by its number, counted from 0\n"),
+        Fault::NoFile => say(b"standard input is no file\n"),
+        Fault::OddFile => say(b"the file has an odd number of bytes: it is no match book\n"),
+        Fault::NotRead => say(b"standard input cannot be read\n"),
+        Fault::NotWritten => say(b"the page could not be written whole\n"),
+    }
+}
