@@ -31,6 +31,7 @@ try {
     let image = arena.initial_state(setting);
     let moves = 0n;
     const death = []; // by snake, the move on which it died
+    let behind = []; // by snake, whether it lost and lives
     show('i', image, false);
     for (const turn of turns) {
         const [letter, ...numbers] = turn.split(' ');
@@ -45,10 +46,11 @@ try {
         image = step.next;
         const truncated = !step.terminal && moves === max_ticks;
         for (const i of snakes(image)) if (alive(before, i) && !alive(image, i)) death[i] = moves;
+        behind = step.events.map((e, i) => e.lost && alive(image, i));
         show('m', image, step.terminal, truncated ? step.events.map((e, i) => arena.truncation(image, i, e)) : step.events);
     }
     const later = (i) => snakes(image).filter((j) => death[i] !== undefined && (death[j] === undefined || death[j] > death[i])).length;
-    console.log('p', ...snakes(image).map((i) => 1 + later(i)));
+    console.log('p', ...snakes(image).map((i) => (behind[i] ? 2 : 1 + later(i))));
 } catch (error) {
     if (!(error instanceof Refusal)) throw error;
     console.log('r', error.number);
