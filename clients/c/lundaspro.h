@@ -100,6 +100,7 @@ uint64_t lundaspro_flat_count(const uint16_t *image, uint64_t image_len, uint64_
 uint64_t lundaspro_flat_draw(const uint16_t *image, uint64_t image_len, uint64_t index, uint16_t *out, uint64_t out_len, uint16_t *list, uint64_t list_len,
     uint64_t drawn[2]); /* words, cells */
 uint64_t lundaspro_flat_rank(const uint16_t *image, uint64_t image_len, const uint16_t *list, uint64_t list_len, uint64_t index[1]);
+uint64_t lundaspro_flat_outcome_of(uint64_t count, double u, uint64_t index[1]);
 uint64_t lundaspro_flat_observe(const uint16_t *image, uint64_t image_len, uint64_t agent, float *obs, uint64_t obs_len, uint64_t written[1]);
 uint64_t lundaspro_flat_observation_space(uint64_t grid, uint64_t sizes[5], float bounds[2]);
 uint64_t lundaspro_flat_action_space(uint64_t sizes[5], float bounds[2]);
@@ -288,6 +289,14 @@ static inline lundaspro_drawn lundaspro_draw(const uint16_t *image, size_t image
 static inline lundaspro_number lundaspro_rank(const uint16_t *image, size_t image_len, const uint16_t *list, size_t list_len) {
     uint64_t index[1] = {0};
     uint64_t r = lundaspro_flat_rank(image, image_len, list, list_len, index);
+    lundaspro_number a = {lundaspro_refusal(r), index[0]};
+    return a;
+}
+
+/* The index below that count which a unit number gives, one that is at least 0 and below 1: the rounded product, cut. Refusals 80, 81. */
+static inline lundaspro_number lundaspro_outcome_of(uint64_t count, double u) {
+    uint64_t index[1] = {0};
+    uint64_t r = lundaspro_flat_outcome_of(count, u, index);
     lundaspro_number a = {lundaspro_refusal(r), index[0]};
     return a;
 }
