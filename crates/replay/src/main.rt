@@ -17,11 +17,17 @@ fn read_some(r: Progress, line: &mut [u8], image: &mut [u16]) -> Reading
     let mut part = io::large_buffer();
     let got = libc::read(STDIN_FILENO, &mut part);
     let n = io::count(got, &part);
+    if n == 0 {
+        return Reading {
+            progress: r,
+            more: false,
+        };
+    }
     let progress = stream::take_all(r, &part[..n], line, image);
     let heard = progress.heard;
     Reading {
         progress,
-        more: 0 < n && heard,
+        more: heard,
     }
 }
 
