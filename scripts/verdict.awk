@@ -82,7 +82,6 @@ function sentence(no,    s) {
     s[4] = "food lead set, snakes not 2"
     s[5] = "grid above 32"
     s[6] = "food above g*g (0 when g < 0)"
-    s[7] = "food above 10,000"
     s[8] = "g*g(g*g-1).. of min(snakes, food) factors above 2^53"
     s[9] = "some body cannot be traced to its length"
     s[10] = "first bad cell: outside"
@@ -116,7 +115,7 @@ function detail(no,    f, s, i) {
 
 # the fields of the first line that a refusal of the setting speaks of
 function settings(no,    of, n, k, f, i, names, said) {
-    of[1] = "1"; of[2] = "3"; of[3] = "5"; of[4] = "5 1"; of[5] = "2"; of[6] = "6 2"; of[7] = "6"; of[8] = "2 1 6"
+    of[1] = "1"; of[2] = "3"; of[3] = "5"; of[4] = "5 1"; of[5] = "2"; of[6] = "6 2"; of[8] = "2 1 6"
     of[9] = of[10] = of[11] = "2 1 3"; of[12] = "6 2 1 3"
     fields(names)
     split(text(1, len), f, " ")

@@ -71,6 +71,7 @@ static void refused_others(void) {
     CHECK(lundaspro_flat_legal_actions(image, 14, 2, two) == 26 && lundaspro_flat_truncation(image, 14, 2, event, marked) == 26);
     CHECK(lundaspro_flat_write_book(setting, 65536, image, 14, words, 20, two) == 42 && lundaspro_flat_page(image, 14, 0, two) == 40);
     CHECK(lundaspro_flat_observation_space(33, five, bounds) == 5 && lundaspro_flat_reward(weights, event, &sum) == 31);
+    CHECK(lundaspro_flat_outcome_of(0, 0.5, two) == 80 && lundaspro_flat_outcome_of(3, 1.0, two) == 81 && lundaspro_flat_outcome_of(0, NAN, two) == 80);
     CHECK(untouched(two, sizeof two) && untouched(five, sizeof five) && untouched(words, sizeof words) && untouched(marked, sizeof marked));
     CHECK(untouched(planes, sizeof planes) && untouched(bounds, sizeof bounds) && untouched(&sum, sizeof sum));
 }
@@ -128,6 +129,15 @@ static void nan_weights(void) {
         lundaspro_sum a = lundaspro_reward(weights, (lundaspro_event){0});
         CHECK(a.refusal == 31 && a.sum == 0.0);
     }
+}
+
+/* Unit numbers: -0.0 counts as 0; no NaN and no infinity is one. A third of 3 rounds up to 1. */
+static void unit_numbers(void) {
+    static const double outside[] = {NAN, -NAN, INFINITY, -INFINITY, 1.0, -0.5, -5e-324};
+    for (int i = 0; i < 7; i++) CHECK(lundaspro_outcome_of(3, outside[i]).refusal == 81);
+    lundaspro_number third = lundaspro_outcome_of(3, 1.0 / 3.0), last = lundaspro_outcome_of((uint64_t)1 << 53, nextafter(1.0, 0.0)), first = lundaspro_outcome_of(3, -0.0);
+    CHECK(third.refusal == 0 && third.value == 1 && last.refusal == 0 && last.value == ((uint64_t)1 << 53) - 1 && first.refusal == 0 && first.value == 0);
+    CHECK(lundaspro_outcome_of(((uint64_t)1 << 53) + 1, 0.5).refusal == 80 && lundaspro_outcome_of(0, NAN).refusal == 80);
 }
 
 static void bodies(void) {
@@ -218,6 +228,7 @@ int main(void) {
     flags();
     grids();
     nan_weights();
+    unit_numbers();
     bodies();
     every_other_call();
     books();

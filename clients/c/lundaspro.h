@@ -31,14 +31,13 @@ extern "C" {
 #define LUNDASPRO_PLANE_NUMBERS 5120 /* an observation: obs */
 #define LUNDASPRO_BOOK_WORDS(pages, row_len) (17 + 2 * (pages) + (row_len)) /* a book: out, exactly what writing it needs */
 
-/* Refusals; lundaspro_sentence says these sentences by the number. */
+/* Refusals; lundaspro_sentence says these sentences by the number. No call gives 7. */
 #define LUNDASPRO_SNAKES 1          /* snakes not 2..8 */
 #define LUNDASPRO_LENGTH_ZERO 2     /* initial length 0 */
 #define LUNDASPRO_LEAD_ZERO 3       /* food lead 0 */
 #define LUNDASPRO_LEAD_NOT_TWO 4    /* food lead set, snakes not 2 */
 #define LUNDASPRO_GRID 5            /* grid above 32 (space query: or below 1) */
 #define LUNDASPRO_FOOD_AREA 6       /* food above g*g (0 when g < 0) */
-#define LUNDASPRO_FOOD_CHAIN 7      /* food above 10,000 */
 #define LUNDASPRO_PRODUCT 8         /* g*g(g*g-1).. of min(snakes, food) factors above 2^53 */
 #define LUNDASPRO_UNTRACEABLE 9     /* some body cannot be traced to its length */
 #define LUNDASPRO_CELL_OUTSIDE 10   /* first bad cell: outside */
@@ -59,6 +58,8 @@ extern "C" {
 #define LUNDASPRO_CONTENTS 40       /* a book's contents: cut short, off their layout, a refused setting, starts out of line, words left in a book of no pages */
 #define LUNDASPRO_PAGE 41           /* no such page */
 #define LUNDASPRO_PAGES 42          /* above 65,535 pages */
+#define LUNDASPRO_UNIT_COUNT 80     /* unit number: count not 1 to 2^53 */
+#define LUNDASPRO_UNIT_NUMBER 81    /* unit number: not at least 0 and below 1 */
 
 /* Causes of death. */
 #define LUNDASPRO_NO_CAUSE 0
@@ -99,6 +100,7 @@ uint64_t lundaspro_flat_count(const uint16_t *image, uint64_t image_len, uint64_
 uint64_t lundaspro_flat_draw(const uint16_t *image, uint64_t image_len, uint64_t index, uint16_t *out, uint64_t out_len, uint16_t *list, uint64_t list_len,
     uint64_t drawn[2]); /* words, cells */
 uint64_t lundaspro_flat_rank(const uint16_t *image, uint64_t image_len, const uint16_t *list, uint64_t list_len, uint64_t index[1]);
+uint64_t lundaspro_flat_outcome_of(uint64_t count, double u, uint64_t index[1]);
 uint64_t lundaspro_flat_observe(const uint16_t *image, uint64_t image_len, uint64_t agent, float *obs, uint64_t obs_len, uint64_t written[1]);
 uint64_t lundaspro_flat_observation_space(uint64_t grid, uint64_t sizes[5], float bounds[2]);
 uint64_t lundaspro_flat_action_space(uint64_t sizes[5], float bounds[2]);
@@ -287,6 +289,14 @@ static inline lundaspro_drawn lundaspro_draw(const uint16_t *image, size_t image
 static inline lundaspro_number lundaspro_rank(const uint16_t *image, size_t image_len, const uint16_t *list, size_t list_len) {
     uint64_t index[1] = {0};
     uint64_t r = lundaspro_flat_rank(image, image_len, list, list_len, index);
+    lundaspro_number a = {lundaspro_refusal(r), index[0]};
+    return a;
+}
+
+/* The index below that count which a unit number gives, one that is at least 0 and below 1: the rounded product, cut. Refusals 80, 81. */
+static inline lundaspro_number lundaspro_outcome_of(uint64_t count, double u) {
+    uint64_t index[1] = {0};
+    uint64_t r = lundaspro_flat_outcome_of(count, u, index);
     lundaspro_number a = {lundaspro_refusal(r), index[0]};
     return a;
 }

@@ -292,6 +292,16 @@ static void reward(void) {
     ended(true);
 }
 
+static void outcome_of(void) {
+    uint64_t count_of = number();
+    double u = weight();
+    end();
+    if (!fine) return;
+    lundaspro_number a = lundaspro_outcome_of(count_of, u);
+    if (begun(a.refusal)) put(a.value);
+    ended(true);
+}
+
 static void observation_space(void) {
     int32_t side = grid();
     end();
@@ -341,7 +351,7 @@ static const struct {
     char letter;
     void (*call)(void);
 } calls[] = {{'v', validate}, {'i', initial_state}, {'s', step}, {'c', count}, {'d', draw}, {'k', rank}, {'o', observe}, {'b', body}, {'t', actor}, {'l', legal_actions},
-    {'z', length_cell}, {'u', truncation}, {'w', reward}, {'p', observation_space}, {'q', action_space}, {'h', turn}, {'x', well_formed}, {'B', write_book}, {'P', page}};
+    {'z', length_cell}, {'u', truncation}, {'w', reward}, {'n', outcome_of}, {'p', observation_space}, {'q', action_space}, {'h', turn}, {'x', well_formed}, {'B', write_book}, {'P', page}};
 
 /* A line ends at its newline; it may hold any byte, of which 0 is no call's. */
 static void answer(char *line, size_t length) {

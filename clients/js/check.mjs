@@ -73,6 +73,7 @@ const due = Uint16Array.from(image, (word, i) => (i === 2 ? 1 : word));
     const { next, cells } = arena.draw(start, 2);
     same(cells, Uint16Array.of(2));
     same(arena.rank(start, cells), 2n);
+    same([arena.outcome_of(3, 1 / 3), arena.outcome_of(3n, -0), arena.outcome_of(2 ** 52, 0.5), arena.outcome_of(2n ** 53n, 1 - 2 ** -53)], [1n, 0n, 2n ** 51n, 2n ** 53n - 1n]);
     same(arena.body(next, 1), Uint16Array.of(5));
     same(arena.body(next, 1).buffer, next.buffer);
     same([arena.body(next, 2).length, arena.body(next, 2n ** 64n - 1n).length, arena.body(next.subarray(1), 0).length], [0, 0, 0]);
@@ -123,6 +124,8 @@ const due = Uint16Array.from(image, (word, i) => (i === 2 ? 1 : word));
     refused(26, () => arena.truncation(image, 2, blank));
     refused(20, () => arena.length_cell(new Uint16Array(0)));
     refused(20, () => arena.actor(new Uint16Array(0)));
+    for (const u of [1, -0.5, -Number.MIN_VALUE, Infinity, -Infinity, NaN]) refused(81, () => arena.outcome_of(3, u)), refused(80, () => arena.outcome_of(0, u));
+    refused(80, () => arena.outcome_of(2n ** 53n + 1n, 0.5));
     for (const step of [Infinity, -Infinity, NaN]) refused(31, () => arena.reward({ ...zero, step }, blank));
     wrong(RangeError, () => arena.draw(due, -1, words, list));
     wrong(TypeError, () => arena.step(setting, image, [0, 0.5], words));
@@ -168,6 +171,8 @@ wrong(TypeError, () => arena.reward(zero, { ...blank, death_cause: 1 }));
 wrong(TypeError, () => arena.relative_to_absolute('up', 'Forward'));
 wrong(TypeError, () => arena.relative_to_absolute(0, 0));
 wrong(TypeError, () => arena.rank(due, [0]));
+for (const u of ['0.5', 0n, null, undefined]) wrong(TypeError, () => arena.outcome_of(3, u));
+wrong(RangeError, () => arena.outcome_of(-1, 0.5));
 wrong(TypeError, () => arena.count(new Int16Array(image)));
 
 // ---- the largest answers fit what is lent where the caller lends nothing

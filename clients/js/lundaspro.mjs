@@ -58,6 +58,11 @@ function flag(value, name) {
     throw new TypeError(`${name}: true or false is wanted`);
 }
 
+function double(value, name) {
+    if (typeof value === 'number') return value;
+    throw new TypeError(`${name}: a number is wanted`);
+}
+
 function record(value, name) {
     if (typeof value === 'object' && value !== null) return value;
     throw new TypeError(`${name}: an object is wanted`);
@@ -84,10 +89,7 @@ function eventBytes(event) {
 
 function weightNumbers(weights) {
     const w = record(weights, 'weights');
-    return WEIGHTS.map((name) => {
-        if (typeof w[name] === 'number') return w[name];
-        throw new TypeError(`${name}: a number is wanted`);
-    });
+    return WEIGHTS.map((name) => double(w[name], name));
 }
 
 function actionNumbers(actions) {
@@ -339,6 +341,16 @@ export class Arena {
         const l = this.#putWords(cells);
         const index = this.#lendLongs(1);
         this.#check(this.#exports.lundaspro_flat_rank(w, length, l, count, index));
+        return this.#long(index, 0);
+    }
+
+    // The index below that count, a BigInt, which a unit number gives, one that is at least 0 and below 1: the rounded product, cut. Refusals 80, 81.
+    outcome_of(count, u) {
+        const number = unsigned(count, 'count');
+        const unit = double(u, 'u');
+        this.#begin();
+        const index = this.#lendLongs(1);
+        this.#check(this.#exports.lundaspro_flat_outcome_of(number, unit, index));
         return this.#long(index, 0);
     }
 

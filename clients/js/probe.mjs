@@ -207,6 +207,12 @@ const calls = {
         bits.setFloat64(0, arena.reward(weights, event));
         return [bits.getBigUint64(0)];
     },
+    n(f) {
+        const count = f.number();
+        const u = f.double();
+        f.end();
+        return [arena.outcome_of(count, u)];
+    },
     p(f) {
         const side = f.grid();
         f.end();

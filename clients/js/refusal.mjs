@@ -8,7 +8,6 @@ export const SENTENCES = Object.freeze({
     4: 'food lead set, snakes not 2',
     5: 'grid above 32 (space query: or below 1)',
     6: 'food above g*g (0 when g < 0)',
-    7: 'food above 10,000',
     8: 'g*g(g*g-1).. of min(snakes, food) factors above 2^53',
     9: 'some body cannot be traced to its length',
     10: 'first bad cell: outside',
@@ -29,6 +28,8 @@ export const SENTENCES = Object.freeze({
     40: "a book's contents: cut short, off their layout, a refused setting, starts out of line, words left in a book of no pages",
     41: 'no such page',
     42: 'above 65,535 pages',
+    80: 'unit number: count not 1 to 2^53',
+    81: 'unit number: not at least 0 and below 1',
 });
 
 // Why a call refused: its number, and what that says.

@@ -12,6 +12,7 @@ const LENT = {
     count: { arrays: [[2, 8]], buffers: [] },
     draw: { arrays: [[7, 16]], buffers: [[3, 4, 2, 7, 0], [5, 6, 2, 7, 1]] },
     rank: { arrays: [[4, 8]], buffers: [] },
+    outcome_of: { arrays: [[2, 8]], buffers: [] },
     write_book: { arrays: [[6, 8]], buffers: [[4, 5, 2, 6, 0]] },
     page: { arrays: [[3, 16]], buffers: [] },
     observe: { arrays: [[5, 8]], buffers: [[3, 4, 4, 5, 0]] },

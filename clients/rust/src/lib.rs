@@ -325,6 +325,13 @@ pub fn reward(weights: &Weights, event: Event) -> Result<f64, Refusal> {
     Ok(sum[0])
 }
 
+/// The index below that count which a unit number gives, one that is at least 0 and below 1: the rounded product, cut. Refusals 80, 81.
+pub fn outcome_of(count: u64, u: f64) -> Result<u64, Refusal> {
+    let mut index = [0];
+    Refusal::check(unsafe { raw::lundaspro_flat_outcome_of(count, u, &mut index) })?;
+    Ok(index[0])
+}
+
 /// The shape of what is seen or done.
 #[derive(Clone, Copy, Debug, PartialEq)]
 pub enum Space {

@@ -52,6 +52,7 @@ extern "C" {
         list_len: usize,
         index: &mut [u64; 1],
     ) -> u64;
+    pub fn lundaspro_flat_outcome_of(count: u64, u: f64, index: &mut [u64; 1]) -> u64;
     pub fn lundaspro_flat_observe(
         image: *const u16,
         image_len: usize,

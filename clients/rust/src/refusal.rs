@@ -53,7 +53,6 @@ refusals! {
     4 LeadNotTwo "food lead set, snakes not 2"
     5 Grid "grid above 32 (space query: or below 1)"
     6 FoodArea "food above g*g (0 when g < 0)"
-    7 FoodChain "food above 10,000"
     8 Product "g*g(g*g-1).. of min(snakes, food) factors above 2^53"
     9 Untraceable "some body cannot be traced to its length"
     10 CellOutside "first bad cell: outside"
@@ -74,6 +73,8 @@ refusals! {
     40 Contents "a book's contents: cut short, off their layout, a refused setting, starts out of line, words left in a book of no pages"
     41 Page "no such page"
     42 Pages "above 65,535 pages"
+    80 UnitCount "unit number: count not 1 to 2^53"
+    81 UnitNumber "unit number: not at least 0 and below 1"
 }
 
 impl Refusal {

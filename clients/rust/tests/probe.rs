@@ -262,6 +262,13 @@ fn reward(f: &mut Fields) -> Option<Answer> {
     ))
 }
 
+fn outcome_of(f: &mut Fields) -> Option<Answer> {
+    let count = f.number()?;
+    let u = f.weight()?;
+    f.end()?;
+    Some(plain(lundaspro::outcome_of(count, u).map(|n| vec![n])))
+}
+
 fn turn(f: &mut Fields) -> Option<Answer> {
     let heading = [Heading::Up, Heading::Right, Heading::Down, Heading::Left][f.up_to(3)? as usize];
     let action = [Action::Forward, Action::TurnLeft, Action::TurnRight][f.up_to(2)? as usize];
@@ -328,6 +335,7 @@ fn call(line: &str) -> Option<Answer> {
             ))
         }
         "w" => reward(f),
+        "n" => outcome_of(f),
         "p" => {
             let side = f.grid()?;
             f.end()?;

@@ -5,4 +5,6 @@ pub use Rattle.rules.specs.Says.{Says, refuses, gives, seen, beside, lent, says
 pub use Rattle.rules.specs.Headings.{turned}
 pub use Rattle.rules.specs.Events.{blank, eight}
 pub use Rattle.rules.specs.Image.{imageOf, wellFormed}
+pub use Rattle.unit.specs.Promises.{Chooses}
+pub use Rattle.unit.specs.Calls.{outcomeSays}
 pub use Rattle.image.specs.Memory.{wordPlace, startAsked}

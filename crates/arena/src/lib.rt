@@ -34,4 +34,5 @@ pub use score::reward;
 pub use setting::initial_state;
 pub use setting::validate;
 pub use step::step;
+pub use unit::outcome_of;
 pub use view::observe;

@@ -31,6 +31,9 @@ use Rattle.rules.specs.Setting.{settingOrder, sideOf, initialState}
 use Rattle.rules.specs.Says.{Says, refuses, gives, byTable, lent, Shape, box, discrete}
 use Rattle.rules.specs.Calls.{settingSays, initialSays, stepSays, observeSays, countSays, Draw, drawSays, rankSays, actorSays, legalSays, keySays, truncationSays, rewardSays, spaceSays}
 use Rattle.rules.specs.Orders.{initialOrder, stepOrder, observeOrder, countOrder, drawOrder, rankOrder, imageOrder, agentOrder, rewardOrder, spaceOrder}
+use Rattle.unit.specs.UnitNumber.{outcomeOf}
+use Rattle.unit.specs.Orders.{outcomeOrder}
+use Rattle.unit.specs.Calls.{outcomeSays}
 use Rattle.rules.specs.declared.Setting.{Setting}
 use Rattle.rules.specs.declared.Weights.{Weights}
 use Rattle.rules.specs.declared.Event.{Event}
@@ -102,6 +105,10 @@ module _ (s : Setting) where
 pub reward-named : (w : Weights) (e : Event) → named (rewardSays w e) ≡ true
 unfolding rewardSays all
 reward-named w e = table-named (rewardOrder w) (rewardOf w e) refl
+
+pub outcome-named : (c : ℕ) (u : Float) → named (outcomeSays c u) ≡ true
+unfolding outcomeSays all
+outcome-named c u = table-named (outcomeOrder c u) (outcomeOf c u) refl
 
 pub space-named : (g : ℤ) → named (spaceSays g) ≡ true
 unfolding spaceSays all

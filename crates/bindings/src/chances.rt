@@ -1,9 +1,10 @@
-// The calls on chance: count, draw, rank.
+// The calls on chance: count, draw, rank, the index of a unit number.
 use crate::tells::tell_number;
 use flat::refusal_number;
 use rules::Answer;
 ghost use lib.ListN.{length};
 ghost use Rattle.rules.specs.Calls.{countSays, drawSays, rankSays};
+ghost use Rattle.unit.specs.Calls.{outcomeSays};
 ghost use Rattle.bindings.specs.Exports.{one, Tells, FlatDraws};
 
 // How many outcomes. Refusals 20, 23, 28.
@@ -43,5 +44,14 @@ pub extern "C" fn lundaspro_flat_rank(image: &[u16], list: &[u16], index: &mut [
     ensures { λ r. ⌜ Tells one (rankSays (now (image .entry)) (now (list .entry))) (now (index .entry)) (now (index .exit)) r ⌝ }
 {
     let a = arena::rank(image, list);
+    tell_number(a, index)
+}
+
+// The index. Refusals 80, 81.
+#[no_mangle]
+pub extern "C" fn lundaspro_flat_outcome_of(count: u64, u: f64, index: &mut [u64; 1]) -> u64
+    ensures { λ r. ⌜ Tells one (outcomeSays count u) (now (index .entry)) (now (index .exit)) r ⌝ }
+{
+    let a = arena::outcome_of(count, u);
     tell_number(a, index)
 }

@@ -11,6 +11,7 @@ pub use books::lundaspro_flat_page;
 pub use books::lundaspro_flat_write_book;
 pub use chances::lundaspro_flat_count;
 pub use chances::lundaspro_flat_draw;
+pub use chances::lundaspro_flat_outcome_of;
 pub use chances::lundaspro_flat_rank;
 pub use matches::lundaspro_flat_body;
 pub use matches::lundaspro_flat_initial_state;

@@ -14,6 +14,7 @@ fn reply(letter: u8, s: &[u8], words: &mut [u16]) -> Reply {
         b'k' => replies::rank(s, words),
         b'p' => replies::observation_space(s),
         b'w' => replies::reward(s),
+        b'n' => replies::outcome_of(s),
         b'h' => replies::turn(s),
         _ => replies::image_reply(letter, s, words),
     }

@@ -42,7 +42,7 @@ initial-fits s room t e =
     let out = given-out (initialOrder s room) (initialState s) t e in
     let f = ltb-false 8 (s .«num_snakes») (or-false-right (ltb (s .«num_snakes») 2) (ltb 8 (s .«num_snakes»)) (out 0)) in
     let l = each-long (s .«num_snakes») (startSnake s) in
-    rw (← given-is (initialOrder s room) (initialState s) t e) (record { few = omega (arith, f, l); short = ltb-false room (length (imageOf (initialState s))) (out 12) })
+    rw (← given-is (initialOrder s room) (initialState s) t e) (record { few = omega (arith, f, l); short = ltb-false room (length (imageOf (initialState s))) (out 11) })
 
 -- a step keeps the snakes
 pub snakes-kept : (s : Setting) (t : State) (acts : List ℕ) → count (stepped s t acts .next) ≡ count t
@@ -57,9 +57,9 @@ unfolding stepSays
 step-fits s w acts room o e =
     let n = stepped s (stateOf w) acts in
     let out = given-out (stepOrder s w acts room) n o e in
-    let k = well-few w (not-false (wellFormed w) (out 12)) in
+    let k = well-few w (not-false (wellFormed w) (out 11)) in
     let l = snakes-kept s (stateOf w) acts in
-    rw (← given-is (stepOrder s w acts room) n o e) (record { few = omega (arith, k, l); short = ltb-false room (length (imageOf (n .next))) (out 17) })
+    rw (← given-is (stepOrder s w acts room) n o e) (record { few = omega (arith, k, l); short = ltb-false room (length (imageOf (n .next))) (out 16) })
 
 pub draw-fits : (w : List ℕ) (i room cells : ℕ) (d : Draw) → drawSays w i room cells ≡ gives d → Fits (d .next) room
 unfolding drawSays afterDraw

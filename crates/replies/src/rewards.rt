@@ -9,8 +9,9 @@ use crate::reply::refused;
 use rules::Reward;
 use rules::Weights;
 
-// The float of that pattern. A NaN's pattern has none: it is read as an infinity, which the reward refuses by 31 too.
-fn float_of(bits: u64) -> f64 {
+// The float of that pattern. A NaN's pattern has none: it is read as an infinity, which the reward refuses by 31 too, and the outcome of a unit
+// number by 81.
+pub fn float_of(bits: u64) -> f64 {
     if 9218868437227405312 < bits % 9223372036854775808 {
         return 1.0 / 0.0;
     }

@@ -28,3 +28,4 @@ pub mod InitialFacts
 pub mod TakenWords
 pub mod FairCalls
 pub mod Tables
+pub mod ChainLimit

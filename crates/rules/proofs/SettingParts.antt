@@ -32,7 +32,7 @@ module _ (s : Setting) (e : limitsCheck s ≡ 0) where
   unfolding limitsCheck all
   none = fault-none (limitsOrder s) refl e
 
-  -- the test of number k + 1 does not hold
+  -- the test of row k, from 0, does not hold
   out : (k : ℕ) → getD (limitsOrder s) k (by 0, false) .1 ≡ false
   out k = row-out (limitsOrder s) k none
 
@@ -55,7 +55,7 @@ module _ (s : Setting) (e : limitsCheck s ≡ 0) where
   lead-two-or = out 3
 
   pub worst-most : worst (s .«num_snakes») (sideOf (s .«grid_size»)) (s .«initial_food_count») ≤ 2 ^ 53
-  worst-most = ltb-false (2 ^ 53) (worst (s .«num_snakes») (sideOf (s .«grid_size»)) (s .«initial_food_count»)) (out 7)
+  worst-most = ltb-false (2 ^ 53) (worst (s .«num_snakes») (sideOf (s .«grid_size»)) (s .«initial_food_count»)) (out 6)
 
 -- the first half found nothing
 pub limited-by : (s : Setting) (k : ℕ) → k ≡ limitsCheck s → k ≡ 0 → Limited s

@@ -2,14 +2,14 @@
 use Prim.Native.Nat.{ℕ, zero, suc}
 use native.Mathlib.Nat.{suc-ne-zero}
 use native.Mathlib.Omega.{arith}
-use borrow.Author.Tests.{not-true}
+use borrow.Author.Tests.{not-true, eq-eqb}
 use mathlib.Core.Path.{_≡_, refl, sym, ap, _∙_}
-use mathlib.Core.Bool.{Bool, true, false, not, _&&_, false≢true}
+use mathlib.Core.Bool.{Bool, true, false, not, _&&_, _||_, or-true, false≢true}
 use mathlib.Core.List.{[], _∷_, _++_, append-nil}
-use lib.Dec.{ltb}
+use lib.Dec.{ltb, eqb}
 use lib.ListN.{length, getD}
 use Rattle.lists.specs.Choice.{_if_else_, firstOf}
-use Rattle.lists.specs.Lists.{all}
+use Rattle.lists.specs.Lists.{all, any}
 use Rattle.lists.proofs.Tests.{and-left, and-right}
 use Rattle.rules.specs.Tables.{Table, by, fault, noneHold, FirstRow}
 use Rattle.rules.specs.State.{State}
@@ -107,6 +107,30 @@ module _ {A : Type 0} where
   table-first t r k f =
       let u : Table = (k, true) ∷ f .after in
       ap (λ (l : Table). byTable l r) (f .here) ∙ table-both (f .before) u r ∙ table-gives (f .before) (byTable u r) (f .none)
+
+  -- a row that does not hold where those before it do not may be left out
+  pub table-without : (t u : Table) (e : Refusal × Bool) (r : Says A) → (noneHold t ≡ true → e .1 ≡ false) → byTable (t ++ (e ∷ u)) r ≡ byTable (t ++ u) r
+  unfolding byTable all
+  table-without [] u e r h = rw (h refl)
+  table-without (x ∷ xs) u e r h = go (x .1) (table-without xs u e r) h
+    where
+      go : (b : Bool) → ((noneHold xs ≡ true → e .1 ≡ false) → byTable (xs ++ (e ∷ u)) r ≡ byTable (xs ++ u) r) → ((not b && noneHold xs) ≡ true → e .1 ≡ false)
+          → (refuses (x .0) if b else byTable (xs ++ (e ∷ u)) r) ≡ (refuses (x .0) if b else byTable (xs ++ u) r)
+      go true later q = refl
+      go false later q = later q
+
+  -- a refusal has the number of one of the rows
+  pub table-listed : (t : Table) (a : A) (k : Refusal) → byTable t (gives a) ≡ refuses k → any (λ (e : Refusal × Bool). eqb (e .0 .number) (k .number)) t ≡ true
+  unfolding byTable any
+  table-listed [] a k h = let z : _≡_ {A = ℕ} 0 1 = cc in absurd (omega arith)
+  table-listed (e ∷ es) a k h = go (e .0) (e .1) (λ q. table-listed es a k q) h
+    where
+      rest : Bool
+      rest = any (λ (e : Refusal × Bool). eqb (e .0 .number) (k .number)) es
+
+      go : (n : Refusal) (b : Bool) → (byTable es (gives a) ≡ refuses k → rest ≡ true) → (refuses n if b else byTable es (gives a)) ≡ refuses k → (eqb (n .number) (k .number) || rest) ≡ true
+      go n true later q = let z : n ≡ k = cc in rw (eq-eqb (n .number) (k .number) (ap (λ (m : Refusal). m .number) z))
+      go n false later q = rw (later q) (or-true (eqb (n .number) (k .number)))
 
   -- where a call gives, no row holds, and what it gives is what comes otherwise
   pub table-given : (t : Table) (a b : A) → byTable t (gives a) ≡ gives b → (noneHold t ≡ true) × (a ≡ b)

@@ -1,9 +1,9 @@
--- The check of a setting, refusals 1 to 12, and the initial state (01, 'Numbers a refusal gives' and 'Modules' 2). Assumes nothing.
+-- The check of a setting, refusals 1 to 12 without 7, and the initial state (01, 'Numbers a refusal gives' and 'Modules' 2). Assumes nothing.
 use Prim.Native.Nat.{ℕ, _+_, _*_, _-_, _^_, min}
 use mathlib.Core.Bool.{Bool, true, false, not, cond, _&&_, _||_}
 use mathlib.Core.List.{List, [], _∷_, _++_, map}
 use lib.Dec.{ltb, eqb}
-use lib.ListN.{length}
+use lib.ListN.{length, take, drop}
 use lib.IntN.{ℤ, pos, negsuc}
 use lib.Signed.{ltZ}
 use Rattle.lists.specs.Below.{someBelow, eachBelow, concatBelow}
@@ -52,11 +52,11 @@ unfoldable pub badCell : ℤ → List Place → List Place → ℕ
 badCell g before [] = 0
 badCell g before (p ∷ ps) = let r = badCell g (p ∷ before) ps in cond (inside g p) (cond (any (same p) before) 11 r) 10
 
--- 6 'food above g² (0 when g < 0)', 7 'food above 10,000', 8 'product .. above 2^53': f food for n snakes on side g
+-- 6 'food above g² (0 when g < 0)', 8 'product .. above 2^53': f food for n snakes on side g
 abbrev pub crowdOrder : ℕ → ℕ → ℕ → Table
-crowdOrder n g f = (by 6, ltb (g * g) f) ∷ (by 7, ltb 10000 f) ∷ (by 8, ltb (2 ^ 53) (worst n g f)) ∷ []
+crowdOrder n g f = (by 6, ltb (g * g) f) ∷ (by 8, ltb (2 ^ 53) (worst n g f)) ∷ []
 
--- 1 'snakes not 2..8', 2 'initial length 0', 3 'food lead 0', 4 'food lead set, snakes not 2', 5 'grid above 32', and 6 to 8: the numbers of a setting
+-- 1 'snakes not 2..8', 2 'initial length 0', 3 'food lead 0', 4 'food lead set, snakes not 2', 5 'grid above 32', then 6 and 8: the numbers of a setting
 abbrev pub limitsOrder : Setting → Table
 limitsOrder s =
     (by 1, ltb (s .«num_snakes») 2 || ltb 8 (s .«num_snakes»))
@@ -75,9 +75,13 @@ placesOrder g n k f =
     ∷ (by 12, ltb (sideOf g * sideOf g - length (allPlaced g n k)) f)
     ∷ []
 
--- 'Setting: 1 to 12 as listed'
+-- 'Setting: 1 to 12 as listed', but for 7
 abbrev pub settingOrder : Setting → Table
 settingOrder s = limitsOrder s ++ placesOrder (s .«grid_size») (s .«num_snakes») (s .«initial_length») (s .«initial_food_count»)
+
+-- 01's own table: 7 'food above 10,000' stands between 6 and 8. It is never given (02), so that no call asks it, and its number stays unused
+abbrev pub chainOrder : Setting → Table
+chainOrder s = take 6 (settingOrder s) ++ ((by 7, ltb 10000 (s .«initial_food_count»)) ∷ drop 6 (settingOrder s))
 
 -- the number, and 0 for an accepted setting
 unfoldable pub settingCheck : Setting → ℕ

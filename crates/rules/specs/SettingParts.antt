@@ -16,7 +16,7 @@ use Rattle.rules.specs.Placement.{startHeading, placed}
 use Rattle.rules.specs.Setting.{sideOf, areaOf, limitsOrder, placesOrder}
 use Rattle.rules.specs.declared.Setting.{Setting}
 
--- 1 to 8
+-- 1 to 6 and 8
 unfoldable pub limitsCheck : Setting → ℕ
 limitsCheck s = fault (limitsOrder s)
 
@@ -24,7 +24,7 @@ limitsCheck s = fault (limitsOrder s)
 unfoldable pub placeCheck : ℤ → ℕ → ℕ → ℕ → ℕ
 placeCheck g n k f = fault (placesOrder g n k f)
 
--- what a setting without a fault in 1 to 8 tells the second half
+-- what a setting without a fault in 1 to 6 and 8 tells the second half
 pub record Limited (s : Setting) : Type 0 where
   pub snakes-min : 2 ≤ s .«num_snakes»
   pub snakes-max : s .«num_snakes» ≤ 8

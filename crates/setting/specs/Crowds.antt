@@ -1,4 +1,4 @@
--- Refusals 6 to 8 over just what they depend on. Assumes nothing.
+-- Refusals 6 and 8 over just what they depend on. Assumes nothing.
 use Prim.Native.Nat.{ℕ}
 use Rattle.rules.specs.Tables.{fault}
 use Rattle.rules.specs.Setting.{crowdOrder}

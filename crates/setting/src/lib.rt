@@ -1,4 +1,4 @@
-// The check of a setting (refusals 1 to 12), whether an image is of another one (21), and the initial state.
+// The check of a setting (refusals 1 to 12 without 7), whether an image is of another one (21), and the initial state.
 mod images;
 mod limits;
 mod place;

@@ -1,4 +1,4 @@
-// Refusals 1 to 8: what a setting's numbers tell before any snake is placed.
+// Refusals 1 to 6 and 8: what a setting's numbers tell before any snake is placed.
 use rules::Limit;
 use rules::Setting;
 ghost use mathlib.Core.Path.{_≡_};
@@ -46,7 +46,7 @@ fn too_many(area: usize, k: usize) -> bool
     (product == 0) | (9007199254740992 < product)
 }
 
-// Refusals 6, 7 and 8.
+// Refusals 6 and 8.
 fn crowded(n: u64, side: u64, food: u64) -> u8
     requires { ⌜ side ≤ 32 ⌝ }
     ensures { λ r. ⌜ r ≡ crowdCheck n side food ⌝ }
@@ -54,9 +54,6 @@ fn crowded(n: u64, side: u64, food: u64) -> u8
     let area = side * side;
     if area < food {
         return 6;
-    }
-    if 10000 < food {
-        return 7;
     }
     if too_many(area as usize, lists::smaller(n as usize, food as usize)) {
         return 8;

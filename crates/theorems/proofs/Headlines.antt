@@ -1,7 +1,10 @@
 -- The headline theorems by name, each under the demand that it answers; the file named has the statement. Assumes nothing.
 
--- Demand 1: each call says what its table of refusals says (rules/specs/Calls), and the tables have document 01's numbers in its order
+-- Demand 1: each call says what its table of refusals says (rules/specs/Calls), and the tables have document 01's numbers in its order, but for 7
 pub use Rattle.theorems.proofs.Refusals.{setting-order, initial-order, step-order, observe-order, count-order, draw-order, rank-order, image-order, agent-order, reward-order, space-order}
+-- Demand 1 and request 14: 01's own table of the setting has 7, its row changes no answer, and 7 is never given
+pub use Rattle.theorems.proofs.Refusals.{chain-order}
+pub use Rattle.rules.proofs.ChainLimit.{without-7, never-7}
 -- Demand 1: a table refuses by the number of its first row that holds, and by no other
 pub use Rattle.rules.proofs.Tables.{table-gives, table-refuses, table-first}
 -- Demand 1: so a call is refused by k if and only if k is the number of its table's first row that holds
@@ -86,3 +89,12 @@ pub use Rattle.contents.proofs.Laying.{setting-wordy}
 -- Request 1: a damaged page elsewhere changes nothing of the page that is read; a page is found by the contents alone
 pub use Rattle.book.proofs.Separate.{page-alone}
 pub use Rattle.book.proofs.Theorems.{find-alone, find-then-read, find-refuses, find-reads}
+-- Request 14, the outcome of a unit number: its table has wish 14's numbers in its order, exactly those are given, and where no row holds the answer is the definition's
+pub use Rattle.theorems.proofs.Units.{outcome-order, outcome-refused, outcome-is}
+-- Request 14: two answers that meet its promise are equal
+pub use Rattle.unit.proofs.Answers.{one-outcome}
+-- Request 14: for counts 1 to 2^53 a legal index, the whole part of the exact product or one more, and the count loses nothing; a draw of it is never refused by 27
+pub use Rattle.unit.specs.Chosen.{Choosable, Chosen, NeverAbove}
+pub use Rattle.unit.proofs.Theorems.{outcome-chosen, chosen-draws}
+-- Request 14: a product that rounds up to a whole number
+pub use Rattle.unit.proofs.Theorems.{rounds-up}

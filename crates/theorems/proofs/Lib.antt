@@ -5,4 +5,5 @@ pub mod Placings
 pub mod Longest
 pub mod Definitions
 pub mod Books
+pub mod Units
 pub mod Headlines

@@ -13,7 +13,7 @@ use Rattle.lists.specs.Lists.{overFront}
 use Rattle.rules.specs.Tables.{Table}
 use Rattle.rules.specs.State.{snakeOf}
 use Rattle.rules.specs.Image.{imageOf, stateOf}
-use Rattle.rules.specs.Setting.{sideOf, settingOrder, initialState}
+use Rattle.rules.specs.Setting.{sideOf, settingOrder, chainOrder, initialState}
 use Rattle.rules.specs.Step.{Transition, stepped}
 use Rattle.rules.specs.Chance.{outcomes, drawn, afterDraw, rankOf}
 use Rattle.rules.specs.View.{view, lit}
@@ -57,10 +57,14 @@ abbrev pub numbers : Table → List ℕ
 numbers t = map (λ (e : Refusal × Bool). e .0 .number) t
 
 abbrev pub settingNumbers : List ℕ
-settingNumbers = 1 ∷ 2 ∷ 3 ∷ 4 ∷ 5 ∷ 6 ∷ 7 ∷ 8 ∷ 9 ∷ 10 ∷ 11 ∷ 12 ∷ []
+settingNumbers = 1 ∷ 2 ∷ 3 ∷ 4 ∷ 5 ∷ 6 ∷ 8 ∷ 9 ∷ 10 ∷ 11 ∷ 12 ∷ []
 
 pub setting-order : (s : Setting) → numbers (settingOrder s) ≡ settingNumbers
 setting-order s = refl
+
+-- 01's own, with the 7 that is never given
+pub chain-order : (s : Setting) → numbers (chainOrder s) ≡ 1 ∷ 2 ∷ 3 ∷ 4 ∷ 5 ∷ 6 ∷ 7 ∷ 8 ∷ 9 ∷ 10 ∷ 11 ∷ 12 ∷ []
+chain-order s = refl
 
 pub initial-order : (s : Setting) (room : ℕ) → numbers (initialOrder s room) ≡ settingNumbers ++ (29 ∷ [])
 initial-order s room = refl
@@ -108,7 +112,7 @@ module _ {R A : Type 0} (said : R → Says A) (refusal : Refusal → R) (as-said
 pub by-words : {A : Type 0} (f : A → ℕ) (t : Table) (a : A) (r : Answer) → says r ≡ seen f (byTable t (gives a)) → RefusedBy RefusedAnswer t r
 by-words f t a r e = by-rows says RefusedAnswer (λ k. refl) answer-one t (f a) r (e ∙ table-seen f t a)
 
-by-number : (t : Table) (a : ℕ) (r : Number) → saysNumber r ≡ byTable t (gives a) → RefusedBy RefusedNumber t r
+pub by-number : (t : Table) (a : ℕ) (r : Number) → saysNumber r ≡ byTable t (gives a) → RefusedBy RefusedNumber t r
 by-number = by-rows saysNumber RefusedNumber (λ k. refl) number-one
 
 pub validate-refused : (s : Setting) (r : Verdict) → Validates s r → RefusedBy RefusedVerdict (settingOrder s) r

@@ -2,7 +2,7 @@
 //! the answer they are held against each other, and a difference is a panic. Books, which the Rust has not, are
 //! the paper's, and what is written is held against what is read.
 
-use reinfors_core::game::{Actor, ChanceDist, Game};
+use reinfors_core::game::{Actor, ChanceDist, Game, Rng};
 use reinfors_core::{Reward, Space, StateEncoder};
 
 use crate::paper::{self, Number, Setting, State};
@@ -17,7 +17,7 @@ fn rows_fit(s: &Setting) -> bool {
     i32::try_from(factor * i64::from(s.grid_size)).is_ok()
 }
 
-/// Setting check: 1 to 12. On the domain the Rust's own message must mean the paper's number.
+/// Setting check: 1 to 12 without 7. On the domain the Rust's own message must mean the paper's number.
 pub fn check_setting(s: &Setting) -> Result<(), Number> {
     let answer = paper::check_setting(s);
     if s.grid_size <= 32 && rows_fit(s) {
@@ -190,6 +190,28 @@ pub fn reward(weights: &[f64], event: &StepEvent) -> Result<f64, Number> {
     let read = paper_rules::reward(weights, &rust::event_numbers(event));
     assert_eq!(sum.to_bits(), read.to_bits(), "the paper and step_reward differ");
     Ok(sum)
+}
+
+/// A source that has one unit number.
+pub struct OneUnit(pub Option<f64>);
+
+impl Rng for OneUnit {
+    fn below(&mut self, _n: usize) -> usize {
+        unreachable!("a uniform draw asks for a unit number alone")
+    }
+
+    fn unit(&mut self) -> f64 {
+        self.0.take().expect("a uniform draw asks for one unit number")
+    }
+}
+
+/// The outcome that the Rust's uniform draw makes of a unit number: the whole part of the exact product or one more, below the count.
+pub fn outcome_of(count: u64, u: f64) -> Result<u64, Number> {
+    paper::check_unit(count, u)?;
+    let index = ChanceDist::Uniform(count as usize).draw(&mut OneUnit(Some(u))) as u64;
+    let whole = paper::whole_part(count, u);
+    assert!(index < count && (index == whole || index == whole + 1), "{index} of {count} and {u:e}, whole part {whole}");
+    Ok(index)
 }
 
 /// The three sizes of the observation space, whose bounds must be 0.0 and 1.0.

@@ -4,6 +4,7 @@
 use reinfors_core::game::{ChanceDist, Game};
 use reinfors_core::{Reward, StateEncoder};
 
+use crate::calls::OneUnit;
 use crate::fields::Fields;
 use crate::paper::{self, Setting, Snake, State};
 use crate::probe;
@@ -132,6 +133,11 @@ fn reward(step: f64) -> Call {
     let weights = [step, 0.0, 0.0, 0.0, 0.0, 0.0, 0.0];
     let does = caught(|| rust::reward_of(&weights).step_reward(&StepEvent::default(), 0).to_string());
     Call { line: format!("w {} 0 0 0 0 0 0 0 0 0 0 0 0 0 0", step.to_bits()), does }
+}
+
+fn outcome(count: u64, u: f64) -> Call {
+    let does = caught(|| ChanceDist::Uniform(count as usize).draw(&mut OneUnit(Some(u))).to_string());
+    Call { line: format!("n {count} {}", u.to_bits()), does }
 }
 
 fn space(grid: i32) -> Call {
@@ -291,6 +297,16 @@ impl Table {
         self.row(31, "`step_reward`, infinite below", reward(f64::NEG_INFINITY));
         self.row(31, "`step_reward`, no number", reward(f64::from_bits(0x7ff8_0000_0000_0000)));
     }
+
+    fn units(&mut self) {
+        self.row(80, "`ChanceDist::draw`, count 0", outcome(0, 0.0));
+        self.row(80, "`ChanceDist::draw`, first count that binary64 rounds", outcome((1 << 53) + 1, 0.5));
+        self.row(80, "`ChanceDist::draw`, the largest count", outcome(u64::MAX, 0.5));
+        self.row(81, "`ChanceDist::draw`, u = 1: the last index", outcome(3, 1.0));
+        self.row(81, "`ChanceDist::draw`, u above: the same", outcome(3, f64::INFINITY));
+        self.row(81, "`ChanceDist::draw`, u below 0: the first", outcome(3, -0.5));
+        self.row(81, "`ChanceDist::draw`, no number: the same", outcome(3, f64::from_bits(0x7ff8_0000_0000_0000)));
+    }
 }
 
 /// All rows, as a table.
@@ -303,5 +319,6 @@ pub fn print() -> String {
     table.chance();
     table.agents();
     table.weights();
+    table.units();
     format!("No. | call of the Rust | the port's call | the Rust\n--- | --- | --- | ---\n{}", table.text)
 }

@@ -11,7 +11,7 @@ use crate::random::Random;
 pub const BASE: &str = "vvvissssssssccdddddkkkkkooobbtllzzuuwwwpqhxx";
 
 /// Letters of document 02.
-pub const LATER: &str = "BBPPP";
+pub const LATER: &str = "BBPPPnn";
 
 /// As many words as a line with a book or a row may hold.
 const MOST_BOOK_WORDS: u64 = 262_144;
@@ -83,6 +83,7 @@ impl Generator {
             b'z' => self.length_cell(),
             b'u' => self.truncation(),
             b'w' => self.reward(),
+            b'n' => self.outcome_of(),
             b'p' => format!("p {}", self.any_grid()),
             b'q' => "q".to_string(),
             b'h' => self.turn(),
@@ -557,6 +558,52 @@ impl Generator {
         };
         let event = self.event();
         format!("w{}{}", joined(&weights), joined(&event))
+    }
+
+    /// A count: small, as a draw has it, or near a power of two up to 2^53; seldom outside the range.
+    fn unit_count(&mut self) -> u64 {
+        let rng = &mut self.rng;
+        let power = rng.below(54);
+        match rng.below(24) {
+            0..=7 => rng.between(1, 1_100),
+            8..=11 => rng.between(1, 1 << power),
+            12..=14 => ((1 << power) + rng.below(5)).saturating_sub(2).clamp(1, 1 << 53),
+            15..=17 => (1 << 53) - rng.below(1 << power),
+            18 => 1,
+            19 | 20 => 1 << 53,
+            21 => 7_503_063_898_176_000,
+            22 => *rng.pick(&[0, (1 << 53) + 1, (1 << 53) + 2, 1 << 54, 1 << 63, u64::MAX]),
+            _ => rng.word() >> rng.below(64),
+        }
+    }
+
+    /// The bits of a unit number: where a product is near a whole number, at both ends of the range, as a source makes it; seldom outside the range.
+    fn unit_bits(&mut self, count: u64) -> u64 {
+        let rng = &mut self.rng;
+        let one = 1.0f64.to_bits();
+        match rng.below(24) {
+            // near k / count, a step or two of the last bit above or below: products that round up to a whole number
+            0..=9 => {
+                let bits = (rng.below(count.max(1)) as f64 / count.max(1) as f64).to_bits();
+                (bits + rng.below(5)).saturating_sub(2).min(one)
+            }
+            // the largest numbers below 1, and 1 itself
+            10..=12 => one - rng.below(4),
+            // subnormal, of either sign
+            13 | 14 => (u64::from(rng.once_in(8)) << 63) | (rng.word() >> (12 + rng.below(52))),
+            // 53 bits, as the Rust's source makes a unit number
+            15..=18 => ((rng.word() >> 11) as f64 / (1u64 << 53) as f64).to_bits(),
+            // any number below 1
+            19 | 20 => rng.below(one),
+            21 => *rng.pick(&[0, 1 << 63, 1, (1 << 63) + 1, 0.5f64.to_bits(), f64::MIN_POSITIVE.to_bits()]),
+            22 => self.weight(),
+            _ => rng.word(),
+        }
+    }
+
+    fn outcome_of(&mut self) -> String {
+        let count = self.unit_count();
+        format!("n {count} {}", self.unit_bits(count))
     }
 
     fn turn(&mut self) -> String {

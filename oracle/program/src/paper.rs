@@ -95,7 +95,7 @@ pub fn falling(n: u64, k: u64) -> Option<u64> {
     (0..k).try_fold(1u64, |product, i| product.checked_mul(n - i))
 }
 
-/// 1 to 12 as listed.
+/// 1 to 12 as listed, but for 7, which document 02 takes out: on a grid of at most 32 it never comes.
 pub fn check_setting(s: &Setting) -> Result<(), Number> {
     if !(2..=8).contains(&s.num_snakes) {
         return Err(1);
@@ -116,9 +116,6 @@ pub fn check_setting(s: &Setting) -> Result<(), Number> {
     let cells = if g < 0 { 0 } else { (g * g) as u64 };
     if s.initial_food_count > cells {
         return Err(6);
-    }
-    if s.initial_food_count > 10_000 {
-        return Err(7);
     }
     match falling(cells, s.num_snakes.min(s.initial_food_count)) {
         Some(product) if product <= 1 << 53 => {}
@@ -378,6 +375,26 @@ pub fn check_space(grid: i32) -> Result<(), Number> {
     } else {
         Err(5)
     }
+}
+
+/// Outcome of a unit number: 80 count outside 1 to 2^53, then 81 a number that is not at least 0 and below 1.
+pub fn check_unit(count: u64, u: f64) -> Result<(), Number> {
+    if !(1..=1 << 53).contains(&count) {
+        return Err(80);
+    }
+    if !(0.0..1.0).contains(&u) {
+        return Err(81);
+    }
+    Ok(())
+}
+
+/// The whole part of the exact product of a count of at most 2^53 and a number from 0 to below 1.
+pub fn whole_part(count: u64, u: f64) -> u64 {
+    let (exponent, fraction) = ((u.to_bits() >> 52) & 0x7ff, u.to_bits() & ((1 << 52) - 1));
+    // u is `mantissa` times 2^-`shift`
+    let (mantissa, shift) = if exponent == 0 { (fraction, 1074) } else { (fraction | 1 << 52, 1075 - exponent) };
+    let product = u128::from(count) * u128::from(mantissa);
+    if shift < 128 { (product >> shift) as u64 } else { 0 }
 }
 
 /// Reward: 31 where a weight is not finite.

@@ -186,6 +186,13 @@ fn reward(f: &mut Fields) -> Option<Answer> {
     Some(calls::reward(&weights, &event).map(|sum| texted(&[sum.to_bits()])))
 }
 
+fn outcome_of(f: &mut Fields) -> Option<Answer> {
+    let count = f.number()?;
+    let u = f64::from_bits(f.number()?);
+    f.end()?;
+    Some(calls::outcome_of(count, u).map(|index| texted(&[index])))
+}
+
 fn observation_space(f: &mut Fields) -> Option<Answer> {
     let grid = fields::grid(f.next()?)?;
     f.end()?;
@@ -275,6 +282,7 @@ fn call(line: &[u8]) -> Option<Answer> {
         b"z" => length_cell(&mut f),
         b"u" => truncation(&mut f),
         b"w" => reward(&mut f),
+        b"n" => outcome_of(&mut f),
         b"p" => observation_space(&mut f),
         b"q" => action_space(&mut f),
         b"h" => turn(&mut f),

@@ -17,10 +17,10 @@ pub use game::{ChanceDist, Rng};
 pub use reward::Reward;
 pub use space::Space;
 
-/// Stand-in: only `ChanceDist::draw` names it, and the oracle draws by index.
+/// Stand-in: only the weighted draws of `ChanceDist::draw` ask it, and every draw of the rules is uniform.
 pub mod rng {
     pub fn weighted_index(_rng: &mut dyn crate::game::Rng, _weights: &[f64]) -> usize {
-        unreachable!("the rules draw by index alone")
+        unreachable!("the rules draw uniformly")
     }
 }
 

@@ -15,6 +15,7 @@ pub const ALL: &[(&str, fn())] = &[
     ("refused_draws", refused_draws),
     ("short_buffers", short_buffers),
     ("rewards", rewards),
+    ("unit_numbers", unit_numbers),
     ("turns", turns),
     ("events_as_bytes", events_as_bytes),
     ("spaces", spaces),
@@ -154,7 +155,7 @@ fn settings() {
     assert_eq!(number(setting(2, 3, 5, 1).validate()), 11);
     assert_eq!(number(setting(2, 3, 7, 1).validate()), 9);
     assert_eq!(number(setting(2, 2, 1, 1).validate()), 10);
-    // the other numbers; none reaches 7 on grids up to 32
+    // the other numbers
     assert_eq!(number(setting(1, 3, 1, 1).validate()), 1);
     assert_eq!(number(setting(9, 3, 1, 1).validate()), 1);
     assert_eq!(number(setting(2, 3, 0, 1).validate()), 2);
@@ -443,6 +444,36 @@ fn rewards() {
     }
 }
 
+// Unit numbers: -0.0 counts as 0, a third of 3 rounds up to 1; 80 comes before 81.
+fn unit_numbers() {
+    let below_one = f64::from_bits(1.0f64.to_bits() - 1);
+    for (count, u, index) in [
+        (3, 0.0, 0),
+        (3, -0.0, 0),
+        (3, 1.0 / 3.0, 1),
+        (1, below_one, 0),
+        (1 << 53, below_one, (1 << 53) - 1),
+        (1 << 53, f64::from_bits(1), 0),
+    ] {
+        assert_eq!(outcome_of(count, u), Ok(index));
+    }
+    for u in [
+        1.0,
+        -0.5,
+        -f64::from_bits(1),
+        f64::NAN,
+        f64::INFINITY,
+        f64::NEG_INFINITY,
+    ] {
+        assert_eq!(outcome_of(3, u), Err(Refusal::UnitNumber));
+        assert_eq!(outcome_of(0, u), Err(Refusal::UnitCount));
+        assert_eq!(outcome_of((1 << 53) + 1, u), Err(Refusal::UnitCount));
+    }
+    let due = setting(2, 3, 1, 1).initial_state().unwrap();
+    let index = outcome_of(due.count().unwrap(), 0.9).unwrap();
+    assert!(due.draw(index).is_ok());
+}
+
 fn turns() {
     use Heading::*;
     let ring = [Up, Right, Down, Left];
@@ -633,14 +664,14 @@ fn sentences() {
     let _: &dyn std::error::Error = &refusal;
     for number in 1..=u8::MAX {
         let refusal = Refusal::from_number(number).expect("not 0");
-        let named = [1..=12, 20..=31, 40..=42]
+        let named = [1..=6, 8..=12, 20..=31, 40..=42, 80..=81]
             .iter()
             .any(|numbers| numbers.contains(&number));
         assert_eq!(refusal.number(), number);
         assert_eq!(Refusal::ALL.contains(&refusal), named);
         assert_eq!(refusal == Refusal::Unnamed(number), !named);
     }
-    assert_eq!((Refusal::from_number(0), Refusal::ALL.len()), (None, 27));
+    assert_eq!((Refusal::from_number(0), Refusal::ALL.len()), (None, 28));
 }
 
 fn boards() {

@@ -18,10 +18,6 @@ returns : tie.Need-returns
 unfolding fault
 returns c = simp (lt-ltb _ _ (c .if1 .taken))
 
-returns-2 : tie.Need-returns-2
-unfolding fault
-returns-2 c = simp (le-ltb _ _ (c .before .if1 .left), lt-ltb _ _ (c .if2 .taken))
-
 too-many-requires : tie.Need-too-many-requires
 too-many-requires c κs =
     let else1 : tie.Else1 = search in
@@ -30,21 +26,21 @@ too-many-requires c κs =
     let m : c .smaller .result ≤ a .food = rw (c .smaller .ensures) (min-le-right (a .n) (a .food)) in
     le-trans m (else1 .if1 .left)
 
+returns-2 : tie.Need-returns-2
+unfolding fault
+returns-2 c =
+    let after-smaller : tie.After-smaller = search in
+    let b : tie.Else1 = search in
+    let t = sym (c .before .too-many .ensures ∙ ap (λ (k : ℕ). ltb 9007199254740992 (falling (b .before .args .side * b .before .args .side) k)) (after-smaller .smaller .ensures)) ∙ c .if2 .taken in
+    simp (le-ltb _ _ (b .if1 .left), t)
+
 returns-3 : tie.Need-returns-3
 unfolding fault
 returns-3 c =
     let after-smaller : tie.After-smaller = search in
-    let b : tie.Else2 = search in
-    let t = sym (c .before .too-many .ensures ∙ ap (λ (k : ℕ). ltb 9007199254740992 (falling (b .before .before .args .side * b .before .before .args .side) k)) (after-smaller .smaller .ensures)) ∙ c .if3 .taken in
-    simp (le-ltb _ _ (b .before .if1 .left), le-ltb _ _ (b .if2 .left), t)
-
-returns-4 : tie.Need-returns-4
-unfolding fault
-returns-4 c =
-    let after-smaller : tie.After-smaller = search in
-    let b : tie.Else2 = search in
-    let t = sym (c .before .too-many .ensures ∙ ap (λ (k : ℕ). ltb 9007199254740992 (falling (b .before .before .args .side * b .before .before .args .side) k)) (after-smaller .smaller .ensures)) ∙ c .if3 .left in
-    simp (le-ltb _ _ (b .before .if1 .left), le-ltb _ _ (b .if2 .left), t)
+    let b : tie.Else1 = search in
+    let t = sym (c .before .too-many .ensures ∙ ap (λ (k : ℕ). ltb 9007199254740992 (falling (b .before .args .side * b .before .args .side) k)) (after-smaller .smaller .ensures)) ∙ c .if2 .left in
+    simp (le-ltb _ _ (b .if1 .left), t)
 
 pub crowded-spec : {M : Type 1} → statement M
 crowded-spec =
@@ -52,8 +48,7 @@ crowded-spec =
     (tie.spec
     mul-area
     returns
-    returns-2
     (λ c κs. search needs)
     too-many-requires
-    returns-3
-    returns-4)
+    returns-2
+    returns-3)

@@ -1,0 +1,4 @@
+pub mod Products
+pub mod Choosing
+pub mod Answers
+pub mod Theorems
