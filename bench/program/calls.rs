@@ -62,8 +62,8 @@ fn of_port(call: &str, name: &str, times: u64) {
     if call == "validate" || call == "initial" {
         let setting = port::setting(&setting_named(name));
         return match call {
-            "validate" => repeat(times, || port::validate(black_box(setting))),
-            _ => repeat(times, || port::initial_state(black_box(setting), &mut out)),
+            "validate" => repeat(times, || port::validate(black_box(&setting))),
+            _ => repeat(times, || port::initial_state(black_box(&setting), &mut out)),
         };
     }
     if name == "overlong" {
@@ -74,17 +74,17 @@ fn of_port(call: &str, name: &str, times: u64) {
     let due = due(call, s);
     let (image, setting, index) = (s.image(due), port::setting(&s.setting), s.outcome(due.max(1)));
     let actions = actions(call, s);
-    let (mut list, mut events) = (vec![0; port::LIST_WORDS], vec![0; 8]);
+    let (mut list, mut events) = (vec![0; port::LIST_WORDS], [[0; 8]; 8]);
     let mut obs = vec![0.0; port::PLANE_NUMBERS];
     match call {
         "well" => repeat(times, || port::well_formed(black_box(&image))),
         "step" | "step2" => {
-            repeat(times, || port::step(black_box(setting), black_box(&image), &actions, &mut out, &mut events))
+            repeat(times, || port::step(black_box(&setting), black_box(&image), &actions, &mut out, &mut events))
         }
         "count1" | "countk" => repeat(times, || port::count(black_box(&image))),
         "draw1" | "drawk" => repeat(times, || port::draw(black_box(&image), index, &mut out, &mut list)),
         "rank1" | "rankk" => {
-            let cells = port::draw(&image, index, &mut out, &mut list).cells;
+            let [_, cells] = port::draw(&image, index, &mut out, &mut list);
             repeat(times, || port::rank(black_box(&image), &list[..cells]))
         }
         "see0" => repeat(times, || port::observe(black_box(&image), 0, &mut obs)),
@@ -128,7 +128,7 @@ fn of_book(call: &str, book: &books::Book, times: u64) {
     let (setting, row, made) = (port::setting(&book.setting), book.row(), book.made());
     let mut out = vec![0; book.words()];
     match call {
-        "bind" => repeat(times, || port::write_book(black_box(setting), book.pages as u64, black_box(&row), &mut out)),
+        "bind" => repeat(times, || port::write_book(black_box(&setting), book.pages as u64, black_box(&row), &mut out)),
         "page" => repeat(times, || port::page(black_box(&made), black_box(book.middle()))),
         _ => panic!("no call {call}"),
     }
