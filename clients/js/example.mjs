@@ -1,7 +1,7 @@
 // node clients/js/example.mjs [MATCH]: a match replayed through the WebAssembly file, each line as ./play prints it; examples/first-match.txt where none is
 // named. Its lines are taken to be readable and none to follow the match's end.
 import { readFileSync } from 'node:fs';
-import { load, Refusal } from './lundaspro.mjs';
+import { load, new_match, Refusal } from './lundaspro.mjs';
 
 const arena = await load();
 const match = process.argv[2] ?? new URL('../../examples/first-match.txt', import.meta.url);
@@ -29,28 +29,22 @@ function show(letter, image, terminal, events) {
 
 try {
     let image = arena.initial_state(setting);
-    let moves = 0n;
-    const death = []; // by snake, the move on which it died
-    let behind = []; // by snake, whether it lost and lives
+    let game = new_match();
     show('i', image, false);
     for (const turn of turns) {
+        if (game.over) throw new Refusal(33);
         const [letter, ...numbers] = turn.split(' ');
         if (letter === 'd') {
             image = arena.draw(image, BigInt(numbers[0])).next;
             show('d', image, false);
             continue;
         }
-        const before = image;
         const step = arena.step(setting, image, numbers.map(BigInt));
-        moves++;
-        image = step.next;
-        const truncated = !step.terminal && moves === max_ticks;
-        for (const i of snakes(image)) if (alive(before, i) && !alive(image, i)) death[i] = moves;
-        behind = step.events.map((e, i) => e.lost && alive(image, i));
-        show('m', image, step.terminal, truncated ? step.events.map((e, i) => arena.truncation(image, i, e)) : step.events);
+        const taken = arena.take_move(setting, game, step);
+        [image, game] = [step.next, taken.match];
+        show('m', image, step.terminal, taken.events);
     }
-    const later = (i) => snakes(image).filter((j) => death[i] !== undefined && (death[j] === undefined || death[j] > death[i])).length;
-    console.log('p', ...snakes(image).map((i) => (behind[i] ? 2 : 1 + later(i))));
+    console.log('p', ...arena.places(setting, game));
 } catch (error) {
     if (!(error instanceof Refusal)) throw error;
     console.log('r', error.number);
