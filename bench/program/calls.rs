@@ -1,6 +1,8 @@
 //! The calls that are counted: each is repeated on one state, by the port, by the Rust, or as a floor.
 
 use std::hint::black_box;
+use std::sync::OnceLock;
+use std::time::{Duration, Instant};
 
 use crate::snake::{egocentric_parts, SnakeState};
 use crate::states::{self, Setting, State};
@@ -17,8 +19,9 @@ pub struct Case {
 
 /// All states stay: freed blocks between them would change what the Rust's own allocations cost.
 pub fn state_named(name: &str) -> &'static State {
-    let all: Vec<State> = states::five().into_iter().chain(states::growth()).chain([states::thirty()]).collect();
-    all.leak().iter().find(|s| s.name == name).unwrap_or_else(|| panic!("no state {name}"))
+    static ALL: OnceLock<Vec<State>> = OnceLock::new();
+    let all = ALL.get_or_init(|| states::five().into_iter().chain(states::growth()).chain([states::thirty()]).collect());
+    all.iter().find(|s| s.name == name).unwrap_or_else(|| panic!("no state {name}"))
 }
 
 fn setting_named(name: &str) -> Setting {
@@ -36,10 +39,13 @@ fn overlong() -> Vec<u16> {
     image
 }
 
-fn repeat<T>(times: u64, mut call: impl FnMut() -> T) {
+/// What the calls took; where they are counted, nobody asks.
+fn repeat<T>(times: u64, mut call: impl FnMut() -> T) -> Duration {
+    let start = Instant::now();
     for _ in 0..times {
         drop(black_box(call()));
     }
+    start.elapsed()
 }
 
 fn due(call: &str, s: &State) -> u16 {
@@ -57,7 +63,7 @@ fn actions(call: &str, s: &State) -> Vec<u64> {
     vec![0; s.snakes.len()]
 }
 
-fn of_port(call: &str, name: &str, times: u64) {
+fn of_port(call: &str, name: &str, times: u64) -> Duration {
     let mut out = vec![0; port::IMAGE_WORDS];
     if call == "validate" || call == "initial" {
         let setting = port::setting(&setting_named(name));
@@ -97,7 +103,7 @@ fn of_port(call: &str, name: &str, times: u64) {
     }
 }
 
-fn of_rust(call: &str, name: &str, times: u64) {
+fn of_rust(call: &str, name: &str, times: u64) -> Duration {
     let game = rust::game(&setting_named(name));
     match call {
         "validate" => return repeat(times, || black_box(&game).validate()),
@@ -124,7 +130,7 @@ fn of_rust(call: &str, name: &str, times: u64) {
     }
 }
 
-fn of_book(call: &str, book: &books::Book, times: u64) {
+fn of_book(call: &str, book: &books::Book, times: u64) -> Duration {
     let (setting, row, made) = (port::setting(&book.setting), book.row(), book.made());
     let mut out = vec![0; book.words()];
     match call {
@@ -135,7 +141,7 @@ fn of_book(call: &str, book: &books::Book, times: u64) {
 }
 
 /// What no call that reads or copies the image, or the row of a book, can go below.
-fn floor(call: &str, name: &str, times: u64) {
+fn floor(call: &str, name: &str, times: u64) -> Duration {
     let image = books::named(name).map_or_else(|| state_named(name).image(0), |book| book.row());
     let mut out = image.clone();
     match call {
@@ -157,14 +163,14 @@ const WARM_UP: u64 = 32;
 /// No allocator is warmed for a book.
 const BOOK_WARM_UP: u64 = 2;
 
-/// A warm-up, then so many calls.
-pub fn run(case: &Case, times: u64) {
+/// A warm-up, then so many calls; how long they took.
+pub fn run(case: &Case, times: u64) -> Duration {
     let book = books::named(&case.state);
     let all = if book.is_some() { BOOK_WARM_UP } else { WARM_UP } + times;
-    match case.side.as_str() {
-        "port" if book.is_some() => book.iter().for_each(|book| of_book(&case.call, book, all)),
-        "port" => of_port(&case.call, &case.state, all),
-        "rust" => of_rust(&case.call, &case.state, all),
+    match (case.side.as_str(), &book) {
+        ("port", Some(book)) => of_book(&case.call, book, all),
+        ("port", None) => of_port(&case.call, &case.state, all),
+        ("rust", _) => of_rust(&case.call, &case.state, all),
         _ => floor(&case.call, &case.state, all),
     }
 }

@@ -55,7 +55,7 @@ pub fn image(s: &SnakeState, side: u16) -> Vec<u16> {
     words
 }
 
-/// An event as the header's one number.
+/// An event as the header's bytes.
 pub fn event(e: &StepEvent) -> [u8; 8] {
     let cause = match e.death_cause {
         None => 0,

@@ -7,15 +7,13 @@ use crate::pages::stop;
 use libc::STDIN_FILENO;
 use rules::Setting;
 use stream::Progress;
-ghost use Prim.Native.Nat.{_<_, _≤_};
-ghost use lib.ListN.{length};
+ghost use Prim.Native.Nat.{_≤_};
 ghost use Rattle.stream.specs.Room.{Ready};
 
-// How far the replay is, what the pass has done, where to go on in what came, and whether more may come.
+// How far the replay is, what the pass has done, and whether more may come.
 pub struct Pass {
     pub progress: Progress,
     pub tally: Tally,
-    pub at: usize,
     pub more: bool,
 }
 
@@ -24,62 +22,36 @@ pub struct Passed {
     pub tally: Tally,
 }
 
-// What came, up to the end of a line.
-fn take_some(
-    p: Pass,
-    part: &[u8],
-    line: &mut [u8],
-    image: &mut [u16],
-    next: &mut [u16],
-    list: &mut [u16],
-    out: &mut [u8],
-    lengths: &mut [u16; 65535],
-    bytes: &mut [u8],
-) -> Pass
-    requires { ⌜ Ready (p .progress) (now line) (now image) (now next) (now list) (now out) ⌝ }
-    requires { ⌜ (p .tally .pages ≤ 65535) × (p .at < length (now part)) ⌝ }
-    ensures { λ q. ⌜ Ready (q .progress) (now (line .exit)) (now (image .exit)) (now (next .exit)) (now (list .exit)) (now (out .exit)) ⌝ }
-    ensures { λ q. ⌜ (q .tally .pages ≤ 65535) × (p .at < q .at) ⌝ }
-{
-    let mut r = p.progress;
-    r.at = p.at;
-    let progress = stream::take_part(r, part, line, image, next, list, out);
-    let t = p.tally;
-    let tally = see(t, progress, image, lengths, bytes);
-    let at = progress.at;
-    Pass {
-        progress,
-        tally,
-        at,
-        more: p.more,
-    }
-}
-
-// All that came, up to the first fault.
+// All that came, up to the first fault. As in `stream`, the buffers that serve one line are made here.
 fn take_part(
     first: Pass,
     part: &[u8],
     line: &mut [u8],
     image: &mut [u16],
-    next: &mut [u16],
-    list: &mut [u16],
-    out: &mut [u8],
     lengths: &mut [u16; 65535],
     bytes: &mut [u8],
 ) -> Pass
-    requires { ⌜ Ready (first .progress) (now line) (now image) (now next) (now list) (now out) ⌝ }
+    requires { ⌜ Ready (first .progress) (now line) (now image) ⌝ }
     requires { ⌜ first .tally .pages ≤ 65535 ⌝ }
-    ensures { λ q. ⌜ Ready (q .progress) (now (line .exit)) (now (image .exit)) (now (next .exit)) (now (list .exit)) (now (out .exit)) ⌝ }
+    ensures { λ q. ⌜ Ready (q .progress) (now (line .exit)) (now (image .exit)) ⌝ }
     ensures { λ q. ⌜ q .tally .pages ≤ 65535 ⌝ }
 {
-    let mut p = first;
-    while p.at < part.len() {
-        if !p.tally.on {
-            return p;
-        }
-        p = take_some(p, part, line, image, next, list, out, lengths, bytes);
+    let mut next = [0u16; 9253];
+    let mut list = [0u16; 1024];
+    let mut out = [0u8; 512];
+    let mut r = first.progress;
+    let mut t = first.tally;
+    r.at = 0;
+    while t.on && r.at < part.len() {
+        r = stream::take_part(r, part, line, image, &mut next, &mut list, &mut out);
+        t = see(t, r, image, lengths, bytes);
     }
-    p
+    tell_line(t, &out, r.text);
+    Pass {
+        progress: r,
+        tally: t,
+        more: first.more,
+    }
 }
 
 // One read.
@@ -87,15 +59,12 @@ fn read_some(
     p: Pass,
     line: &mut [u8],
     image: &mut [u16],
-    next: &mut [u16],
-    list: &mut [u16],
-    out: &mut [u8],
     lengths: &mut [u16; 65535],
     bytes: &mut [u8],
 ) -> Pass
-    requires { ⌜ Ready (p .progress) (now line) (now image) (now next) (now list) (now out) ⌝ }
+    requires { ⌜ Ready (p .progress) (now line) (now image) ⌝ }
     requires { ⌜ p .tally .pages ≤ 65535 ⌝ }
-    ensures { λ q. ⌜ Ready (q .progress) (now (line .exit)) (now (image .exit)) (now (next .exit)) (now (list .exit)) (now (out .exit)) ⌝ }
+    ensures { λ q. ⌜ Ready (q .progress) (now (line .exit)) (now (image .exit)) ⌝ }
     ensures { λ q. ⌜ q .tally .pages ≤ 65535 ⌝ }
 {
     let mut part = io::large_buffer();
@@ -106,7 +75,6 @@ fn read_some(
         return Pass {
             progress,
             tally: stop(tally, Fault::NotRead),
-            at: 0,
             more: false,
         };
     }
@@ -114,20 +82,9 @@ fn read_some(
     let came = Pass {
         progress,
         tally,
-        at: 0,
         more: 0 < n,
     };
-    take_part(
-        came,
-        &part[..n],
-        line,
-        image,
-        next,
-        list,
-        out,
-        lengths,
-        bytes,
-    )
+    take_part(came, &part[..n], line, image, lengths, bytes)
 }
 
 // The last line, where no newline ended it; nothing after a fault.
@@ -135,27 +92,27 @@ fn finish(
     p: Pass,
     line: &[u8],
     image: &mut [u16],
-    next: &mut [u16],
-    list: &mut [u16],
-    out: &mut [u8],
     lengths: &mut [u16; 65535],
     bytes: &mut [u8],
 ) -> Pass
-    requires { ⌜ Ready (p .progress) (now line) (now image) (now next) (now list) (now out) ⌝ }
+    requires { ⌜ Ready (p .progress) (now line) (now image) ⌝ }
     requires { ⌜ p .tally .pages ≤ 65535 ⌝ }
     ensures { λ q. ⌜ q .tally .pages ≤ 65535 ⌝ }
 {
     if !p.tally.on {
         return p;
     }
+    let mut next = [0u16; 9253];
+    let mut list = [0u16; 1024];
+    let mut out = [0u8; 512];
     let r = p.progress;
-    let progress = stream::take_last(r, line, image, next, list, out);
+    let progress = stream::take_last(r, line, image, &mut next, &mut list, &mut out);
     let t = p.tally;
     let tally = see(t, progress, image, lengths, bytes);
+    tell_line(tally, &out, progress.text);
     Pass {
         progress,
         tally,
-        at: 0,
         more: false,
     }
 }
@@ -165,23 +122,20 @@ fn walk(
     first: Pass,
     line: &mut [u8],
     image: &mut [u16],
-    next: &mut [u16],
-    list: &mut [u16],
-    out: &mut [u8],
     lengths: &mut [u16; 65535],
     bytes: &mut [u8],
 ) -> Pass
-    requires { ⌜ Ready (first .progress) (now line) (now image) (now next) (now list) (now out) ⌝ }
+    requires { ⌜ Ready (first .progress) (now line) (now image) ⌝ }
     requires { ⌜ first .tally .pages ≤ 65535 ⌝ }
     ensures { λ q. ⌜ q .tally .pages ≤ 65535 ⌝ }
 {
     let mut p = first;
     let mut turns = u64::MAX;
     while turns > 0 && p.more && p.tally.on {
-        p = read_some(p, line, image, next, list, out, lengths, bytes);
+        p = read_some(p, line, image, lengths, bytes);
         turns -= 1;
     }
-    finish(p, line, image, next, list, out, lengths, bytes)
+    finish(p, line, image, lengths, bytes)
 }
 
 pub(crate) fn go_over(writes: bool, lengths: &mut [u16; 65535], bytes: &mut [u8]) -> Passed
@@ -189,9 +143,6 @@ pub(crate) fn go_over(writes: bool, lengths: &mut [u16; 65535], bytes: &mut [u8]
 {
     let mut line = [0u8; 256];
     let mut image = [0u16; 9253];
-    let mut next = [0u16; 9253];
-    let mut list = [0u16; 1024];
-    let mut out = [0u8; 512];
     let tally = Tally {
         writes,
         pages: 0,
@@ -202,24 +153,13 @@ pub(crate) fn go_over(writes: bool, lengths: &mut [u16; 65535], bytes: &mut [u8]
     let first = Pass {
         progress,
         tally,
-        at: 0,
         more: true,
     };
-    let last = walk(
-        first,
-        &mut line,
-        &mut image,
-        &mut next,
-        &mut list,
-        &mut out,
-        lengths,
-        bytes,
-    );
+    let last = walk(first, &mut line, &mut image, lengths, bytes);
     let r = last.progress;
-    let t = last.tally;
-    tell_line(t, &out, r.text);
     let desk = r.desk;
     let game = desk.game;
     let setting = game.setting;
-    Passed { setting, tally: t }
+    let tally = last.tally;
+    Passed { setting, tally }
 }

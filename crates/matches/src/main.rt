@@ -34,61 +34,38 @@ fn idle() -> Progress
 }
 
 // The end of a match, and the start of the next.
-fn begin(
-    old: Progress,
-    line: &[u8],
-    image: &mut [u16],
-    next: &mut [u16],
-    list: &mut [u16],
-    out: &mut [u8],
-) -> Progress
-    requires { ⌜ Ready old (now line) (now image) (now next) (now list) (now out) ⌝ }
-    ensures { λ q. ⌜ Ready q (now (line .entry)) (now (image .exit)) (now (next .exit)) (now (list .exit)) (now (out .exit)) ⌝ }
+fn begin(old: Progress, line: &[u8], image: &mut [u16]) -> Progress
+    requires { ⌜ Ready old (now line) (now image) ⌝ }
+    ensures { λ q. ⌜ Ready q (now (line .entry)) (now (image .exit)) ⌝ }
 {
-    stream::finish(old, line, image, next, list, out);
+    stream::finish(old, line, image);
     io::write_all(STDOUT_FILENO, b"= ");
     stream::start()
 }
 
 // A byte of a line's front: the mark, then a space.
-fn take_front(
-    f: Frame,
-    byte: u8,
-    line: &[u8],
-    image: &mut [u16],
-    next: &mut [u16],
-    list: &mut [u16],
-    out: &mut [u8],
-) -> Progress
-    requires { ⌜ Ready (f .progress) (now line) (now image) (now next) (now list) (now out) ⌝ }
-    ensures { λ q. ⌜ Ready q (now (line .entry)) (now (image .exit)) (now (next .exit)) (now (list .exit)) (now (out .exit)) ⌝ }
+fn take_front(f: Frame, byte: u8, line: &[u8], image: &mut [u16]) -> Progress
+    requires { ⌜ Ready (f .progress) (now line) (now image) ⌝ }
+    ensures { λ q. ⌜ Ready q (now (line .entry)) (now (image .exit)) ⌝ }
 {
     let r = f.progress;
     if f.column == 0 && byte == b'=' {
-        return begin(r, line, image, next, list, out);
+        return begin(r, line, image);
     }
     r
 }
 
 // Text of a line: a name is printed, all else goes to the match.
-fn take_text(
-    f: Frame,
-    text: &[u8],
-    line: &mut [u8],
-    image: &mut [u16],
-    next: &mut [u16],
-    list: &mut [u16],
-    out: &mut [u8],
-) -> Progress
-    requires { ⌜ Ready (f .progress) (now line) (now image) (now next) (now list) (now out) ⌝ }
-    ensures { λ q. ⌜ Ready q (now (line .exit)) (now (image .exit)) (now (next .exit)) (now (list .exit)) (now (out .exit)) ⌝ }
+fn take_text(f: Frame, text: &[u8], line: &mut [u8], image: &mut [u16]) -> Progress
+    requires { ⌜ Ready (f .progress) (now line) (now image) ⌝ }
+    ensures { λ q. ⌜ Ready q (now (line .exit)) (now (image .exit)) ⌝ }
 {
     let r = f.progress;
     if f.mark == b'=' {
         io::write_all(STDOUT_FILENO, text);
         return r;
     }
-    stream::take_all(r, text, line, image, next, list, out)
+    stream::take_all(r, text, line, image)
 }
 
 // Where the text of a line ends that has its newline at `end`: the match gets the newline too, but for a last line without one.
@@ -107,18 +84,10 @@ fn mark_of(f: Frame, byte: u8) -> u8 {
 }
 
 // The next byte of a line's front, or the line's text as far as it came.
-fn take_some(
-    f: Frame,
-    part: &[u8],
-    line: &mut [u8],
-    image: &mut [u16],
-    next: &mut [u16],
-    list: &mut [u16],
-    out: &mut [u8],
-) -> Frame
-    requires { ⌜ Ready (f .progress) (now line) (now image) (now next) (now list) (now out) ⌝ }
+fn take_some(f: Frame, part: &[u8], line: &mut [u8], image: &mut [u16]) -> Frame
+    requires { ⌜ Ready (f .progress) (now line) (now image) ⌝ }
     requires { ⌜ f .at < length (now part) ⌝ }
-    ensures { λ q. ⌜ (Ready (q .progress) (now (line .exit)) (now (image .exit)) (now (next .exit)) (now (list .exit)) (now (out .exit))) × (f .at < q .at) ⌝ }
+    ensures { λ q. ⌜ (Ready (q .progress) (now (line .exit)) (now (image .exit))) × (f .at < q .at) ⌝ }
 {
     let at = f.at;
     let column = f.column;
@@ -126,7 +95,7 @@ fn take_some(
         let after = at + 1;
         let byte = part[at];
         let mark = mark_of(f, byte);
-        let progress = take_front(f, byte, line, image, next, list, out);
+        let progress = take_front(f, byte, line, image);
         return Frame {
             progress,
             column: column + 1,
@@ -139,7 +108,7 @@ fn take_some(
     let end = parsing::line_end(part, at);
     let after = end + 1;
     if end == part.len() {
-        let progress = take_text(f, &part[at..end], line, image, next, list, out);
+        let progress = take_text(f, &part[at..end], line, image);
         return Frame {
             progress,
             column,
@@ -149,7 +118,7 @@ fn take_some(
         };
     }
     let last = text_end(mark, end, part.len());
-    let progress = take_text(f, &part[at..last], line, image, next, list, out);
+    let progress = take_text(f, &part[at..last], line, image);
     Frame {
         progress,
         column: 0,
@@ -160,36 +129,21 @@ fn take_some(
 }
 
 // All that came.
-fn take_part(
-    first: Frame,
-    part: &[u8],
-    line: &mut [u8],
-    image: &mut [u16],
-    next: &mut [u16],
-    list: &mut [u16],
-    out: &mut [u8],
-) -> Frame
-    requires { ⌜ Ready (first .progress) (now line) (now image) (now next) (now list) (now out) ⌝ }
-    ensures { λ q. ⌜ Ready (q .progress) (now (line .exit)) (now (image .exit)) (now (next .exit)) (now (list .exit)) (now (out .exit)) ⌝ }
+fn take_part(first: Frame, part: &[u8], line: &mut [u8], image: &mut [u16]) -> Frame
+    requires { ⌜ Ready (first .progress) (now line) (now image) ⌝ }
+    ensures { λ q. ⌜ Ready (q .progress) (now (line .exit)) (now (image .exit)) ⌝ }
 {
     let mut f = first;
     while f.at < part.len() {
-        f = take_some(f, part, line, image, next, list, out);
+        f = take_some(f, part, line, image);
     }
     f
 }
 
 // One read.
-fn read_some(
-    f: Frame,
-    line: &mut [u8],
-    image: &mut [u16],
-    next: &mut [u16],
-    list: &mut [u16],
-    out: &mut [u8],
-) -> Frame
-    requires { ⌜ Ready (f .progress) (now line) (now image) (now next) (now list) (now out) ⌝ }
-    ensures { λ q. ⌜ Ready (q .progress) (now (line .exit)) (now (image .exit)) (now (next .exit)) (now (list .exit)) (now (out .exit)) ⌝ }
+fn read_some(f: Frame, line: &mut [u8], image: &mut [u16]) -> Frame
+    requires { ⌜ Ready (f .progress) (now line) (now image) ⌝ }
+    ensures { λ q. ⌜ Ready (q .progress) (now (line .exit)) (now (image .exit)) ⌝ }
 {
     let mut part = io::large_buffer();
     let got = libc::read(STDIN_FILENO, &mut part);
@@ -202,36 +156,26 @@ fn read_some(
         at: 0,
         more: 0 < n,
     };
-    take_part(start, &part[..n], line, image, next, list, out)
+    take_part(start, &part[..n], line, image)
 }
 
 // As in `replay`, the loop counts its turns down, from a number that no run uses up.
-fn replay_all(
-    first: Frame,
-    line: &mut [u8],
-    image: &mut [u16],
-    next: &mut [u16],
-    list: &mut [u16],
-    out: &mut [u8],
-)
-    requires { ⌜ Ready (first .progress) (now line) (now image) (now next) (now list) (now out) ⌝ }
+fn replay_all(first: Frame, line: &mut [u8], image: &mut [u16])
+    requires { ⌜ Ready (first .progress) (now line) (now image) ⌝ }
 {
     let mut f = first;
     let mut turns = u64::MAX;
     while turns > 0 && f.more {
-        f = read_some(f, line, image, next, list, out);
+        f = read_some(f, line, image);
         turns -= 1;
     }
     let progress = f.progress;
-    stream::finish(progress, line, image, next, list, out);
+    stream::finish(progress, line, image);
 }
 
 fn main() {
     let mut line = [0u8; 256];
     let mut image = [0u16; 9253];
-    let mut next = [0u16; 9253];
-    let mut list = [0u16; 1024];
-    let mut out = [0u8; 512];
     let progress = idle();
     let first = Frame {
         progress,
@@ -240,5 +184,5 @@ fn main() {
         at: 0,
         more: true,
     };
-    replay_all(first, &mut line, &mut image, &mut next, &mut list, &mut out);
+    replay_all(first, &mut line, &mut image);
 }

@@ -1,25 +1,21 @@
 // The answer to one line: the call by its letter.
 use crate::books;
-use crate::chances;
-use crate::fields::NOWHERE;
-use crate::reply::NO_CALL;
-use crate::reply::Reply;
-use crate::reply::put_reply;
-use crate::rewards;
-use crate::spaces;
 use crate::steps;
-use crate::with_image;
-use crate::writing::flush;
+use replies::NO_CALL;
+use replies::NOWHERE;
+use replies::Reply;
+use replies::flush;
+use replies::put_reply;
 
 // The calls that say few numbers.
 fn reply(letter: u8, s: &[u8], words: &mut [u16]) -> Reply {
     match letter {
         b'v' => steps::validate(s),
-        b'k' => chances::rank(s, words),
-        b'p' => spaces::observation_space(s),
-        b'w' => rewards::reward(s),
-        b'h' => spaces::turn(s),
-        _ => with_image::image_reply(letter, s, words),
+        b'k' => replies::rank(s, words),
+        b'p' => replies::observation_space(s),
+        b'w' => replies::reward(s),
+        b'h' => replies::turn(s),
+        _ => replies::image_reply(letter, s, words),
     }
 }
 
@@ -27,7 +23,7 @@ fn reply(letter: u8, s: &[u8], words: &mut [u16]) -> Reply {
 fn call(letter: u8, s: &[u8], words: &mut [u16], text: &mut [u8], at: usize) -> usize {
     match letter {
         b'i' | b's' | b'B' => steps::setting_line(letter, s, words, text, at),
-        b'd' | b'o' | b'b' => with_image::image_line(letter, s, words, text, at),
+        b'd' | b'o' | b'b' => replies::image_line(letter, s, words, text, at),
         b'P' => books::page_line(s, words, text, at),
         _ => put_reply(text, at, reply(letter, s, words)),
     }
@@ -39,7 +35,7 @@ fn answer(s: &[u8], words: &mut [u16], text: &mut [u8], at: usize) -> usize {
         return NOWHERE;
     }
     if s.len() == 1 {
-        return put_reply(text, at, spaces::action_space(s[0]));
+        return put_reply(text, at, replies::action_space(s[0]));
     }
     if s[1] != b' ' {
         return NOWHERE;

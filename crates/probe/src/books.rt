@@ -1,17 +1,17 @@
 // The calls on books: `B` writes one, `P` reads a page.
-use crate::buffers::PATTERN;
-use crate::buffers::book_room;
-use crate::fields::NOWHERE;
-use crate::fields::last_words;
-use crate::fields::numbers_in;
-use crate::writing::put;
-use crate::writing::put_each;
-use crate::writing::put_number;
-use crate::writing::put_written;
-use crate::writing::refuse;
 use contents::PageFound;
 use parsing::First;
 use parsing::read_first;
+use replies::NOWHERE;
+use replies::PATTERN;
+use replies::book_room;
+use replies::last_words;
+use replies::numbers_in;
+use replies::put;
+use replies::put_each;
+use replies::put_number;
+use replies::put_written;
+use replies::refuse;
 
 fn write_long(
     setting: &[u8],

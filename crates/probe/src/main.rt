@@ -1,24 +1,13 @@
 // Reads one call a line and answers each with a line, as docs/PROBE.md says. The buffers are made once, and lent on.
 mod answer;
 mod books;
-mod buffers;
-mod chances;
-mod fields;
-mod images;
-mod marks;
-mod reply;
-mod rewards;
-mod spaces;
 mod steps;
-mod views;
-mod with_image;
-mod writing;
 
 use crate::answer::answer_line;
-use crate::buffers::book_room;
-use crate::writing::flush;
-use crate::writing::put;
 use libc::STDIN_FILENO;
+use replies::book_room;
+use replies::flush;
+use replies::put;
 
 // Takes the bytes that were read, after the `begun` that are held; each newline ends a line, and its answer follows. The
 // answers are written at the end, so that whoever waits for them gets them before the next read.

@@ -45,7 +45,7 @@ initial-fits s room t e =
     rw (← given-is (initialOrder s room) (initialState s) t e) (record { few = omega (arith, f, l); short = ltb-false room (length (imageOf (initialState s))) (out 12) })
 
 -- a step keeps the snakes
-snakes-kept : (s : Setting) (t : State) (acts : List ℕ) → count (stepped s t acts .next) ≡ count t
+pub snakes-kept : (s : Setting) (t : State) (acts : List ℕ) → count (stepped s t acts .next) ≡ count t
 unfolding stepped transitionOf
 snakes-kept s t acts = each-long (count t) _
 

@@ -10,57 +10,46 @@ pub struct Reading {
 }
 
 // One read.
-fn read_some(
-    r: Progress,
-    line: &mut [u8],
-    image: &mut [u16],
-    next: &mut [u16],
-    list: &mut [u16],
-    out: &mut [u8],
-) -> Reading
-    requires { ⌜ Ready r (now line) (now image) (now next) (now list) (now out) ⌝ }
-    ensures { λ q. ⌜ Ready (q .progress) (now (line .exit)) (now (image .exit)) (now (next .exit)) (now (list .exit)) (now (out .exit)) ⌝ }
+fn read_some(r: Progress, line: &mut [u8], image: &mut [u16]) -> Reading
+    requires { ⌜ Ready r (now line) (now image) ⌝ }
+    ensures { λ q. ⌜ Ready (q .progress) (now (line .exit)) (now (image .exit)) ⌝ }
 {
     let mut part = io::large_buffer();
     let got = libc::read(STDIN_FILENO, &mut part);
     let n = io::count(got, &part);
-    let progress = stream::take_all(r, &part[..n], line, image, next, list, out);
+    if n == 0 {
+        return Reading {
+            progress: r,
+            more: false,
+        };
+    }
+    let progress = stream::take_all(r, &part[..n], line, image);
     let heard = progress.heard;
     Reading {
         progress,
-        more: 0 < n && heard,
+        more: heard,
     }
 }
 
 // A proved loop has to end, and nothing says that the input does: the loop counts its turns down, from a number that no run uses up.
-fn replay(
-    first: Progress,
-    line: &mut [u8],
-    image: &mut [u16],
-    next: &mut [u16],
-    list: &mut [u16],
-    out: &mut [u8],
-)
-    requires { ⌜ Ready first (now line) (now image) (now next) (now list) (now out) ⌝ }
+fn replay(first: Progress, line: &mut [u8], image: &mut [u16])
+    requires { ⌜ Ready first (now line) (now image) ⌝ }
 {
     let mut r = first;
     let mut more = true;
     let mut turns = u64::MAX;
     while turns > 0 && r.on && more {
-        let q = read_some(r, line, image, next, list, out);
+        let q = read_some(r, line, image);
         r = q.progress;
         more = q.more;
         turns -= 1;
     }
-    stream::finish(r, line, image, next, list, out);
+    stream::finish(r, line, image);
 }
 
 fn main() {
     let mut line = [0u8; 256];
     let mut image = [0u16; 9253];
-    let mut next = [0u16; 9253];
-    let mut list = [0u16; 1024];
-    let mut out = [0u8; 512];
     let first = stream::start();
-    replay(first, &mut line, &mut image, &mut next, &mut list, &mut out);
+    replay(first, &mut line, &mut image);
 }

@@ -1,10 +1,10 @@
 // The line that the replay prints for a page's state. A book holds no events: they are those of the move that leads from the page before to this one.
-use crate::entry::put_entry;
-use crate::moves::moves_to;
-use crate::pages::load;
 use events::no_events;
 use libc::STDOUT_FILENO;
 use lists::word_at;
+use page_file::load;
+use page_file::moves_to;
+use page_file::put_entry;
 use referee::Desk;
 use rules::Answer;
 use rules::Setting;

@@ -1,22 +1,17 @@
 // A page of a match book, as a person reads it. The first argument is the page's number, standard input the book, a file. What is wrong is said on
 // standard error, in one line.
-mod board;
-mod entry;
-mod file;
 mod line;
 mod messages;
-mod moves;
-mod pages;
 
-use board::put_board;
-use file::Size;
-use file::file_size;
-use file::read_words;
 use line::put_state;
 use messages::put_foot;
 use messages::tell;
 use messages::tell_refused;
-use pages::load;
+use page_file::Size;
+use page_file::file_size;
+use page_file::load;
+use page_file::put_board;
+use page_file::read_words;
 use parsing::Num;
 
 // What is wrong.

@@ -1,10 +1,10 @@
 // The words below the board, and what is wrong, in one line on standard error. A refusal's line begins with `r` and its number.
 use crate::Fault;
 use crate::line::Shown;
-use crate::moves::moves_to;
 use libc::STDERR_FILENO;
 use libc::STDOUT_FILENO;
 use lists::word_at;
+use page_file::moves_to;
 
 // Pages are numbered from 0.
 fn last_of(pages: u64) -> u64 {

@@ -130,15 +130,15 @@ silent e (reads part all rest) =
     let p = stays-off e (all .steps) in
     let q = silent (p .0) rest in
     rw (p .1, q)
-silent e (finishes {r = r} {n = n} {line = line} {old = old} {new = new} {out = out} i f) = end-off r (f .after) n line old new (f .lent) out (f .ends) e (f .last)
+silent e (finishes {r = r} {n = n} {line = line} {old = old} {new = new} i f) = end-off r (f .after) n line old new (f .lent) (f .out) (f .ends) e (f .last)
 
 run-of : {r : Progress} {line image input printed : List ℕ} (s : List ℕ) → Holds line (r .fill) s → r .on ≡ true → Replay r line image input printed → Run (r .desk) image s input printed
 run-of s h e (reads {r = r} {q = q} {before = before} {after = after} {old = old} {new = new} {input = input} {printed = printed} part all rest) = elim (leads part (front r) before old s h e (all .steps)) [
   | on t o k f ↦ let a = run-of t k o rest in f input printed (like refl refl (ap (λ (l : List ℕ). l ++ input) (sym (all .past o))) refl a)
   | off o f ↦ like refl refl refl (sym (append-nil (all .said)) ∙ ap (λ (l : List ℕ). all .said ++ l) (sym (silent o rest))) (f input)
 ]
-run-of s h e (finishes {r = r} {n = n} {line = line} {old = old} {new = new} {input = input} {out = out} i f) =
-    like refl refl (sym (i e)) refl (end-runs r (f .after) n line old new (f .lent) out (f .ends) s h e (f .last))
+run-of s h e (finishes {r = r} {n = n} {line = line} {old = old} {new = new} {input = input} i f) =
+    like refl refl (sym (i e)) refl (end-runs r (f .after) n line old new (f .lent) (f .out) (f .ends) s h e (f .last))
 
 -- whatever stands in the buffers before
 pub stream-prints : (r : Progress) (line image input printed : List ℕ) → Fresh r → Replay r line image input printed → printed ≡ replayOf input

@@ -16,7 +16,7 @@ use Rattle.parsing.proofs.Cutting.{piece-front}
 use Rattle.referee.specs.Match.{lineSays, Plays}
 use Rattle.referee.specs.Run.{Took}
 use Rattle.referee.specs.declared.Turned.{Turned}
-use Rattle.stream.specs.Room.{Ready}
+use Rattle.stream.specs.Room.{Ready, Spare}
 use Rattle.stream.specs.Steps.{Takes, Step, waits, takes, Steps}
 use Rattle.stream.specs.declared.Progress.{Progress}
 
@@ -40,11 +40,11 @@ below a b h e = elim (ordered a b) [ less l t ↦ l | more l t ↦ absurd (e (om
 
 -- ---- the line that is held
 
-pub took-held : (r : Progress) (line image new next list out exit : List ℕ) (t : Turned) → Ready r line image next list out
+pub took-held : (r : Progress) (line image new next list out exit : List ℕ) (t : Turned) → Ready r line image → Spare next list out
     → Plays (lineSays (r .desk) (take (r .desk .words) image) (take (r .fill - 0) (drop 0 line)) (length next) (length list)) (r .desk .game) image new out exit t
     → (s : List ℕ) → Holds line (r .fill) s → Took (r .desk) image (s ++ []) new (take (t .text) exit) t
-took-held r line image new next list out exit t e p s h =
-    let q : Plays (lineSays (r .desk) (take (r .desk .words) image) (take (r .fill) line) 9253 1024) (r .desk .game) image new out exit t = rw (sub-zero (r .fill), e .room, e .cells) at p in
+took-held r line image new next list out exit t e b p s h =
+    let q : Plays (lineSays (r .desk) (take (r .desk .words) image) (take (r .fill) line) 9253 1024) (r .desk .game) image new out exit t = rw (sub-zero (r .fill), b .room, b .cells) at p in
     let k : Took (r .desk) image s new (take (t .text) exit) t = record { buffer = line; fill = r .fill; long = e .wide; held = h; out = out; exit = exit; plays = q; prints = refl } in
     rw (append-nil s) k
 

@@ -72,10 +72,11 @@ pub record Ends (r : Progress) (n : ℕ) (out : List ℕ) : Type 0 where
   pub closed : r .on ≡ true → Closed (r .desk) (take n out)
   pub stopped : r .on ≡ false → n ≡ 0
 
--- both; `lent` is `out` in between
-pub record Finishes (r : Progress) (n : ℕ) (line old new out : List ℕ) : Type 0 where
+-- both; the last line's text stands at the front of `lent`, the placings at the front of `out`
+pub record Finishes (r : Progress) (n : ℕ) (line old new : List ℕ) : Type 0 where
   pub after : Progress
   pub lent : List ℕ
+  pub out : List ℕ
   pub last : Last r after line old new lent
   pub ends : Ends after n out
 
@@ -85,5 +86,5 @@ pub data Replay : Progress → List ℕ → List ℕ → List ℕ → List ℕ �
   reads : {r q : Progress} {before after old new input printed : List ℕ} (part : List ℕ) (all : TakesAll r q part before after old new) → Replay q after new input printed
       → Replay r before old (part ++ input) (all .said ++ printed)
   -- nothing more comes, or it is not read
-  finishes : {r : Progress} {n : ℕ} {line old new input out : List ℕ} → (r .on ≡ true → input ≡ []) → (f : Finishes r n line old new out)
-      → Replay r line old input (take (f .after .text) (f .lent) ++ take n out)
+  finishes : {r : Progress} {n : ℕ} {line old new input : List ℕ} → (r .on ≡ true → input ≡ []) → (f : Finishes r n line old new)
+      → Replay r line old input (take (f .after .text) (f .lent) ++ take n (f .out))

@@ -7,7 +7,7 @@ ghost use mathlib.Core.Path.{_≡_};
 ghost use mathlib.Core.List.{[]};
 ghost use Prim.Native.Nat.{_<_, _≤_};
 ghost use lib.ListN.{length};
-ghost use Rattle.stream.specs.Room.{Ready};
+ghost use Rattle.stream.specs.Room.{Ready, Spare};
 ghost use Rattle.stream.specs.Steps.{Fresh, Takes, Step, TakesAll, Last, Ends, Finishes};
 
 // What is kept from part to part: the desk, how many bytes of a line are held, where to go on in what came, how many bytes the text to print has,
@@ -54,8 +54,8 @@ fn take_held(
     list: &mut [u16],
     out: &mut [u8],
 ) -> Progress
-    requires { ⌜ Ready r (now line) (now image) (now next) (now list) (now out) ⌝ }
-    ensures { λ q. ⌜ Ready q (now (line .entry)) (now (image .exit)) (now (next .exit)) (now (list .exit)) (now (out .exit)) ⌝ }
+    requires { ⌜ Ready r (now line) (now image) × Spare (now next) (now list) (now out) ⌝ }
+    ensures { λ q. ⌜ Ready q (now (line .entry)) (now (image .exit)) × Spare (now (next .exit)) (now (list .exit)) (now (out .exit)) ⌝ }
     ensures { λ q. ⌜ Takes r q (now (line .entry)) [] (now (image .entry)) (now (image .exit)) (now (out .exit)) ⌝ }
     ensures { λ q. ⌜ q .at ≡ at ⌝ }
 {
@@ -88,9 +88,9 @@ pub fn take_part(
     list: &mut [u16],
     out: &mut [u8],
 ) -> Progress
-    requires { ⌜ Ready r (now line) (now image) (now next) (now list) (now out) ⌝ }
+    requires { ⌜ Ready r (now line) (now image) × Spare (now next) (now list) (now out) ⌝ }
     requires { ⌜ r .at < length (now part) ⌝ }
-    ensures { λ q. ⌜ Ready q (now (line .exit)) (now (image .exit)) (now (next .exit)) (now (list .exit)) (now (out .exit)) ⌝ }
+    ensures { λ q. ⌜ Ready q (now (line .exit)) (now (image .exit)) × Spare (now (next .exit)) (now (list .exit)) (now (out .exit)) ⌝ }
     ensures { λ q. ⌜ Step r q (now (part .entry)) (now (line .entry)) (now (line .exit)) (now (image .entry)) (now (image .exit)) (now (out .exit)) ⌝ }
     ensures { λ q. ⌜ r .at < q .at ⌝ }
 {
@@ -112,20 +112,16 @@ pub fn take_part(
     take_held(held, end + 1, line, image, next, list, out)
 }
 
-// All lines that end in what came, each printed; what is left of it is held.
-pub fn take_all(
-    first: Progress,
-    part: &[u8],
-    line: &mut [u8],
-    image: &mut [u16],
-    next: &mut [u16],
-    list: &mut [u16],
-    out: &mut [u8],
-) -> Progress
-    requires { ⌜ Ready first (now line) (now image) (now next) (now list) (now out) ⌝ }
-    ensures { λ q. ⌜ Ready q (now (line .exit)) (now (image .exit)) (now (next .exit)) (now (list .exit)) (now (out .exit)) ⌝ }
+// All lines that end in what came, each printed; what is left of it is held. The next image, the cells drawn and the text are made here, once for all
+// lines, since whoever calls then lends what is kept alone.
+pub fn take_all(first: Progress, part: &[u8], line: &mut [u8], image: &mut [u16]) -> Progress
+    requires { ⌜ Ready first (now line) (now image) ⌝ }
+    ensures { λ q. ⌜ Ready q (now (line .exit)) (now (image .exit)) ⌝ }
     ensures { λ q. ⌜ TakesAll first q (now (part .entry)) (now (line .entry)) (now (line .exit)) (now (image .entry)) (now (image .exit)) ⌝ }
 {
+    let mut next = [0u16; 9253];
+    let mut list = [0u16; 1024];
+    let mut out = [0u8; 512];
     let desk = first.desk;
     let mut r = Progress {
         desk,
@@ -136,8 +132,8 @@ pub fn take_all(
         heard: first.heard,
     };
     while r.on && r.at < part.len() {
-        r = take_part(r, part, line, image, next, list, out);
-        r.heard = print(r.heard, out, r.text);
+        r = take_part(r, part, line, image, &mut next, &mut list, &mut out);
+        r.heard = print(r.heard, &out, r.text);
     }
     r
 }
@@ -151,8 +147,8 @@ pub fn take_last(
     list: &mut [u16],
     out: &mut [u8],
 ) -> Progress
-    requires { ⌜ Ready r (now line) (now image) (now next) (now list) (now out) ⌝ }
-    ensures { λ q. ⌜ Ready q (now (line .entry)) (now (image .exit)) (now (next .exit)) (now (list .exit)) (now (out .exit)) ⌝ }
+    requires { ⌜ Ready r (now line) (now image) × Spare (now next) (now list) (now out) ⌝ }
+    ensures { λ q. ⌜ Ready q (now (line .entry)) (now (image .exit)) × Spare (now (next .exit)) (now (list .exit)) (now (out .exit)) ⌝ }
     ensures { λ q. ⌜ Last r q (now (line .entry)) (now (image .entry)) (now (image .exit)) (now (out .exit)) ⌝ }
 {
     let desk = r.desk;
@@ -184,21 +180,17 @@ fn write_end(r: Progress, out: &mut [u8]) -> usize
     referee::close(desk, out)
 }
 
-// The end of the input: the last line and the placings, each printed. It answers how many bytes of `out` show the placings.
-pub fn finish(
-    r: Progress,
-    line: &[u8],
-    image: &mut [u16],
-    next: &mut [u16],
-    list: &mut [u16],
-    out: &mut [u8],
-) -> usize
-    requires { ⌜ Ready r (now line) (now image) (now next) (now list) (now out) ⌝ }
-    ensures { λ n. ⌜ Finishes r n (now (line .entry)) (now (image .entry)) (now (image .exit)) (now (out .exit)) ⌝ }
+// The end of the input: the last line and the placings, each printed. It answers how many bytes the placings have.
+pub fn finish(r: Progress, line: &[u8], image: &mut [u16]) -> usize
+    requires { ⌜ Ready r (now line) (now image) ⌝ }
+    ensures { λ n. ⌜ Finishes r n (now (line .entry)) (now (image .entry)) (now (image .exit)) ⌝ }
 {
-    let q = take_last(r, line, image, next, list, out);
-    let heard = print(q.heard, out, q.text);
-    let n = write_end(q, out);
-    print(heard, out, n);
+    let mut next = [0u16; 9253];
+    let mut list = [0u16; 1024];
+    let mut out = [0u8; 512];
+    let q = take_last(r, line, image, &mut next, &mut list, &mut out);
+    let heard = print(q.heard, &out, q.text);
+    let n = write_end(q, &mut out);
+    print(heard, &out, n);
     n
 }

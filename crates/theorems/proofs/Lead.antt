@@ -177,10 +177,6 @@ module _ (s : Setting) (t : State) (acts : List ℕ) where
   unfolding stepped
   lead-terminal e = lead-ends s (t .side) (count t) (t .food) _ e
 
-  pub snakes-kept : count (stepped s t acts .next) ≡ count t
-  unfolding stepped
-  snakes-kept = snakes-long s (t .side) (count t) (t .food) _
-
   -- max_ticks ends no match that the lead ends
   pub ticks-apart : (m : Match) → endsBy m (stepped s t acts .terminal) ≡ true → byLead s (stepped s t acts .next) ≡ false
   ticks-apart m e = elim (tell (byLead s (stepped s t acts .next))) [

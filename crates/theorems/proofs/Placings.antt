@@ -43,8 +43,9 @@ use Rattle.standing.specs.Placings.{placingOf, endPlacing, placingsOf}
 use Rattle.standing.specs.Standing.{fresh, snakesOf, counted, deathAt, behindAt, lostAlive, endsBy, moved, endText}
 use Rattle.standing.specs.declared.Match.{Match}
 use Rattle.referee.specs.Match.{Turn, opened, openedBy, beginSays, drawnTurn, movedTurn, askedBy, asked, turnSays, playOn, played, replayOf}
+use Rattle.referee.proofs.Saying.{snakes-kept}
 use Rattle.theorems.specs.Lead.{leadsIn, ledIn, byLead, endBefore, twoPlaces, Reached, begun, taken, Ending, refused, placed, placeOf, Placed}
-use Rattle.theorems.proofs.Lead.{Leading, leading, found, some-one, corpse-unled, living-lost, lead-terminal, snakes-kept}
+use Rattle.theorems.proofs.Lead.{Leading, leading, found, some-one, corpse-unled, living-lost, lead-terminal}
 
 -- ---- what is known of a match m and its state t
 

@@ -14,15 +14,11 @@ returns c =
     let r = start .pre in
     let k = after-finish .finish .last .1 .1 in
     let i : length (k .0) ≡ length (now (a .image)) = search needs in
-    let n : length (k .1 .0) ≡ length (now (a .next)) = search needs in
-    let l : length (k .1 .1 .0) ≡ length (now (a .list)) = search needs in
-    let o : length (k .1 .1 .1 .0) ≡ length (now (a .out)) = search needs in
-    record { held = omega (arith, c .start .ensures .fill); wide = r .wide; words = omega (arith, c .start .ensures .words); larger = omega (arith, r .larger); room = omega (arith, r .room); cells = omega (arith, r .cells); text = omega (arith, r .text) }
+    record { held = omega (arith, c .start .ensures .fill); wide = r .wide; words = omega (arith, c .start .ensures .words); room = omega (arith, r .room) }
 
 pub begin-spec : {M : Type 1} → statement M
 begin-spec =
     tie.close
     (tie.spec
     (λ c κs. search needs) (λ c. search needs) (λ c κs. search needs) (λ c κs. search needs) (λ c. search needs)
-    (λ c. search needs) (λ c. search needs) (λ c. search needs)
     returns)

@@ -6,10 +6,10 @@ use Rattle.matches.proofs.replay_all.Statement.{statement}
 use Rattle.matches.proofs.replay_all.Tie as tie
 
 abbrev Inv-loop : tie.InvT-loop
-Inv-loop line₀ image₀ next₀ list₀ out₀ f₀ turns₀ line image next list out f turns = Ready (f .progress) line image next list out × (length line ≡ length line₀) × (length image ≡ length image₀) × (length next ≡ length next₀) × (length list ≡ length list₀) × (length out ≡ length out₀)
+Inv-loop line₀ image₀ f₀ turns₀ line image f turns = Ready (f .progress) line image × (length line ≡ length line₀) × (length image ≡ length image₀)
 
 abbrev μ-loop : tie.MeasureT-loop
-μ-loop line₀ image₀ next₀ list₀ out₀ f₀ turns₀ line image next list out f turns = turns
+μ-loop line₀ image₀ f₀ turns₀ line image f turns = turns
 
 pub replay-all-spec : {M : Type 1} → statement M
 replay-all-spec =
@@ -18,5 +18,4 @@ replay-all-spec =
     Inv-loop
     μ-loop
     (λ c. search needs) (λ c κs. search needs) (λ c. search needs) (λ c. search needs) (λ c. search needs)
-    (λ c κs. search needs) (λ c. search needs) (λ c. search needs) (λ c. search needs) (λ c. search needs)
-    (λ c. search needs) (λ c. search needs))
+    (λ c κs. search needs) (λ c. search needs) (λ c. search needs) (λ c. search needs))

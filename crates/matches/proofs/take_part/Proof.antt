@@ -7,10 +7,10 @@ use Rattle.matches.proofs.take_part.Statement.{statement}
 use Rattle.matches.proofs.take_part.Tie as tie
 
 abbrev Inv-loop : tie.InvT-loop
-Inv-loop part line₀ image₀ next₀ list₀ out₀ f₀ line image next list out f = Ready (f .progress) line image next list out × (length line ≡ length line₀) × (length image ≡ length image₀) × (length next ≡ length next₀) × (length list ≡ length list₀) × (length out ≡ length out₀)
+Inv-loop part line₀ image₀ f₀ line image f = Ready (f .progress) line image × (length line ≡ length line₀) × (length image ≡ length image₀)
 
 abbrev μ-loop : tie.MeasureT-loop
-μ-loop part line₀ image₀ next₀ list₀ out₀ f₀ line image next list out f = length part - f .at
+μ-loop part line₀ image₀ f₀ line image f = length part - f .at
 
 pub take-part-spec : {M : Type 1} → statement M
 take-part-spec =
@@ -19,4 +19,4 @@ take-part-spec =
     Inv-loop
     μ-loop
     (λ c. search needs) (λ c κs. search needs) (λ c. search needs) (λ c. search needs) (λ c. search needs)
-    (λ c. search needs) (λ c. search needs) (λ c. search needs) (λ c. search needs) (λ c. search needs))
+    (λ c. search needs) (λ c. search needs))

@@ -6,10 +6,10 @@ use Rattle.replay.proofs.replay.Statement.{statement}
 use Rattle.replay.proofs.replay.Tie as tie
 
 abbrev Inv-loop : tie.InvT-loop
-Inv-loop line₀ image₀ next₀ list₀ out₀ r₀ more₀ turns₀ line image next list out r more turns = Ready r line image next list out × (length line ≡ length line₀) × (length image ≡ length image₀) × (length next ≡ length next₀) × (length list ≡ length list₀) × (length out ≡ length out₀)
+Inv-loop line₀ image₀ r₀ more₀ turns₀ line image r more turns = Ready r line image × (length line ≡ length line₀) × (length image ≡ length image₀)
 
 abbrev μ-loop : tie.MeasureT-loop
-μ-loop line₀ image₀ next₀ list₀ out₀ r₀ more₀ turns₀ line image next list out r more turns = turns
+μ-loop line₀ image₀ r₀ more₀ turns₀ line image r more turns = turns
 
 pub replay-spec : {M : Type 1} → statement M
 replay-spec =
@@ -18,5 +18,4 @@ replay-spec =
     Inv-loop
     μ-loop
     (λ c. search needs) (λ c κs. search needs) (λ c. search needs) (λ c. search needs) (λ c. search needs)
-    (λ c κs. search needs) (λ c. search needs) (λ c. search needs) (λ c. search needs) (λ c. search needs)
-    (λ c. search needs) (λ c. search needs))
+    (λ c κs. search needs) (λ c. search needs) (λ c. search needs) (λ c. search needs))

@@ -1,3 +1,5 @@
+-- `stream::take_all` meets its contract. The invariant: the buffers are ready, and what was taken so far was taken step by step. The measure is what is
+-- left of the part. Assumes nothing.
 use denote.Ref.{now}
 use borrow.Author.Needs.{needs}
 use borrow.Author.Tests.{ltb-true, ltb-false}
@@ -7,14 +9,14 @@ use mathlib.Core.Path.{_≡_, refl, sym, _∙_}
 use mathlib.Core.Bool.{true≢false}
 use mathlib.Core.List.{[], _++_}
 use lib.ListN.{length, take, drop-of-length-le}
-use Rattle.stream.specs.Room.{Ready}
+use Rattle.stream.specs.Room.{Ready, Spare}
 use Rattle.stream.specs.Steps.{none, more}
 use Rattle.stream.proofs.Taking.{Stepped, printed-or-not}
 use Rattle.stream.proofs.take_all.Statement.{statement}
 use Rattle.stream.proofs.take_all.Tie as tie
 
 abbrev Inv-loop : tie.InvT-loop
-Inv-loop part line₀ image₀ next₀ list₀ out₀ r₀ line image next list out r = Ready r line image next list out × Stepped part r₀ line₀ image₀ r line image × (length line ≡ length line₀) × (length image ≡ length image₀) × (length next ≡ length next₀) × (length list ≡ length list₀) × (length out ≡ length out₀)
+Inv-loop part line₀ image₀ next₀ list₀ out₀ r₀ line image next list out r = Ready r line image × Spare next list out × Stepped part r₀ line₀ image₀ r line image × (length line ≡ length line₀) × (length image ≡ length image₀) × (length out ≡ 512)
 
 abbrev μ-loop : tie.MeasureT-loop
 μ-loop part line₀ image₀ next₀ list₀ out₀ r₀ line image next list out r = length part - r .at
@@ -23,7 +25,7 @@ loop-holds : tie.Need-loop-holds Inv-loop μ-loop
 loop-holds c =
     let start : tie.Start Inv-loop μ-loop = search in
     let p = start .pre in
-    (record { held = p .held; wide = p .wide; words = p .words; larger = p .larger; room = p .room; cells = p .cells; text = p .text }, record { said = []; steps = none }, refl, refl, refl, refl, refl)
+    (record { held = p .held; wide = p .wide; words = p .words; room = p .room }, record { room = refl; cells = refl; text = omega arith }, record { said = []; steps = none }, refl, refl, refl)
 
 take-part-requires : tie.Need-take-part-requires Inv-loop μ-loop
 take-part-requires c κs =
@@ -31,7 +33,7 @@ take-part-requires c κs =
     let at-loop : tie.At-loop Inv-loop μ-loop = search in
     let start : tie.Start Inv-loop μ-loop = search in
     let l = at-loop .loop in
-    (l .inv .0, ltb-true (l .r .at) (length (now (start .args .part))) (then1 .if1 .taken))
+    ((l .inv .0, l .inv .1), ltb-true (l .r .at) (length (now (start .args .part))) (then1 .if1 .taken))
 
 loop-less : tie.Need-loop-less Inv-loop μ-loop
 loop-less c =
@@ -51,12 +53,11 @@ loop-again c =
     let at-loop : tie.At-loop Inv-loop μ-loop = search in
     let l = at-loop .loop in
     let t = after-take-part .take-part in
-    let p = t .ensures .0 in
+    let p = t .ensures .0 .0 in
     let out = t .last .1 .1 .1 .1 .1 .1 .0 in (
-      record { held = p .held; wide = p .wide; words = p .words; larger = p .larger; room = p .room; cells = p .cells; text = p .text },
-      record { said = l .inv .1 .said ++ take (t .result .text) out; steps = more out (l .inv .1 .steps) (in-loop .loop-test .taken) (printed-or-not (c .print .result) (t .ensures .1 .0)) },
-      search needs,
-      search needs,
+      record { held = p .held; wide = p .wide; words = p .words; room = p .room },
+      t .ensures .0 .1,
+      record { said = l .inv .2 .said ++ take (t .result .text) out; steps = more out (l .inv .2 .steps) (in-loop .loop-test .taken) (printed-or-not (c .print .result) (t .ensures .1 .0)) },
       search needs,
       search needs,
       search needs,
@@ -68,12 +69,15 @@ returns c =
     let start : tie.Start Inv-loop μ-loop = search in
     let l = at-loop .loop in
     let part = now (start .args .part) in
-    (l .inv .0, record { said = l .inv .1 .said; steps = l .inv .1 .steps; past = λ o. drop-of-length-le part (ltb-false (l .r .at) (length part) (c .if1 .left)) })
+    let taken = l .inv .2 in
+    (l .inv .0, record { said = taken .said; steps = taken .steps; past = λ o. drop-of-length-le part (ltb-false (l .r .at) (length part) (c .if1 .left)) })
 
 returns-2 : tie.Need-returns-2 Inv-loop μ-loop
 returns-2 c =
-    let l = c .before .loop in
-    (l .inv .0, record { said = l .inv .1 .said; steps = l .inv .1 .steps; past = λ o. absurd (true≢false (sym o ∙ c .loop-test .left)) })
+    let at-loop : tie.At-loop Inv-loop μ-loop = search in
+    let l = at-loop .loop in
+    let taken = l .inv .2 in
+    (l .inv .0, record { said = taken .said; steps = taken .steps; past = λ o. absurd (true≢false (sym o ∙ c .loop-test .left)) })
 
 pub take-all-spec : {M : Type 1} → statement M
 take-all-spec =
@@ -82,11 +86,13 @@ take-all-spec =
     Inv-loop
     μ-loop
     loop-holds
+    (λ c. search needs) (λ c. search needs) (λ c. search needs)
     take-part-requires
+    (λ c. search needs)
     (λ c κs. search needs)
     loop-less
     loop-again
-    (λ c. search needs) (λ c. search needs) (λ c. search needs) (λ c. search needs) (λ c. search needs)
+    (λ c. search needs) (λ c. search needs)
     returns
-    (λ c. search needs) (λ c. search needs) (λ c. search needs) (λ c. search needs) (λ c. search needs)
+    (λ c. search needs) (λ c. search needs)
     returns-2)

@@ -22,11 +22,11 @@ returns c =
     let w = words-fit _ _ _ _ _ _ _ (k .ensures) in
     let n : length next ≡ length (now (a .next)) = search needs in
     let l : length list ≡ length (now (a .list)) = search needs in (
-      record { held = omega arith; wide = r .wide; words = w; larger = omega (arith, k .ensures .long, r .larger); room = omega (arith, r .room); cells = omega (arith, r .cells); text = omega (arith, k .ensures .text .long, r .text) },
+      (record { held = omega arith; wide = r .0 .wide; words = w; room = omega (arith, k .ensures .long, r .0 .room) }, record { room = omega (arith, r .1 .room); cells = omega (arith, r .1 .cells); text = omega (arith, k .ensures .text .long, r .1 .text) }),
       (
         record {
           turned = k .result;
-          took = took-held (a .r) (now (a .line)) (now (a .image)) image (now (a .next)) (now (a .list)) (now (a .out)) out (k .result) r (k .ensures);
+          took = took-held (a .r) (now (a .line)) (now (a .image)) image (now (a .next)) (now (a .list)) (now (a .out)) out (k .result) (r .0) (r .1) (k .ensures);
           desk = refl;
           fill = refl;
           on = refl;

@@ -11,13 +11,13 @@ returns c =
     let start : tie.Start = search in
     let p = start .pre in
     let e = not-true (start .args .r .on) (c .if1 .taken) in
-    (record { held = p .held; wide = p .wide; words = p .words; larger = p .larger; room = p .room; cells = p .cells; text = p .text }, stopped e e refl refl)
+    ((record { held = p .0 .held; wide = p .0 .wide; words = p .0 .words; room = p .0 .room }, p .1), stopped e e refl refl)
 
 returns-2 : tie.Need-returns-2
 returns-2 c =
     let start : tie.Start = search in
     let p = start .pre in
-    (record { held = p .held; wide = p .wide; words = p .words; larger = p .larger; room = p .room; cells = p .cells; text = p .text }, nothing (c .if2 .taken) refl refl refl refl)
+    ((record { held = p .0 .held; wide = p .0 .wide; words = p .0 .words; room = p .0 .room }, p .1), nothing (c .if2 .taken) refl refl refl refl)
 
 returns-3 : tie.Need-returns-3
 returns-3 c =

@@ -18,7 +18,7 @@ returns c =
     let k = after-feed .feed in
     let l = after-line-end .line-end in
     let e : l .result ≡ length (now (a .part)) = c .if1 .taken in (
-      record { held = omega (arith, k .ensures .most, k .ensures .long, p .0 .wide); wide = omega (arith, k .ensures .long, p .0 .wide); words = p .0 .words; larger = p .0 .larger; room = p .0 .room; cells = p .0 .cells; text = p .0 .text },
+      (record { held = omega (arith, k .ensures .most, k .ensures .long, p .0 .0 .wide); wide = omega (arith, k .ensures .long, p .0 .0 .wide); words = p .0 .0 .words; room = p .0 .0 .room }, p .0 .1),
       (
         step-waits (a .r) (now (a .part)) (now (a .line)) (k .last .0) (now (a .image)) (l .result) (k .result) (l .ensures .0) (p .1) (k .ensures) _ (now (a .out)) e refl refl refl refl refl,
         omega (arith, l .ensures .1),

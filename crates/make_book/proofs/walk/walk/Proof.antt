@@ -9,18 +9,18 @@ use Rattle.make_book.proofs.walk.walk.Statement.{statement}
 use Rattle.make_book.proofs.walk.walk.Tie as tie
 
 abbrev Inv-loop : tie.InvT-loop
-Inv-loop line₀ image₀ next₀ list₀ out₀ lengths₀ bytes₀ p₀ turns₀ line image next list out lengths bytes p turns =
-    Ready (p .progress) line image next list out × (p .tally .pages ≤ 65535) × (length line ≡ length line₀) × (length image ≡ length image₀) × (length next ≡ length next₀) × (length list ≡ length list₀) × (length out ≡ length out₀) × (length bytes ≡ length bytes₀)
+Inv-loop line₀ image₀ lengths₀ bytes₀ p₀ turns₀ line image lengths bytes p turns =
+    Ready (p .progress) line image × (p .tally .pages ≤ 65535) × (length line ≡ length line₀) × (length image ≡ length image₀) × (length bytes ≡ length bytes₀)
 
 abbrev μ-loop : tie.MeasureT-loop
-μ-loop line₀ image₀ next₀ list₀ out₀ lengths₀ bytes₀ p₀ turns₀ line image next list out lengths bytes p turns = turns
+μ-loop line₀ image₀ lengths₀ bytes₀ p₀ turns₀ line image lengths bytes p turns = turns
 
 loop-again : tie.Need-loop-again Inv-loop μ-loop
 loop-again c =
     let taken : tie.After-read-some Inv-loop μ-loop = search in
     let at : tie.At-loop Inv-loop μ-loop = search in
     let e = taken .read-some .ensures in
-    (e .0, e .1, search needs, search needs, search needs, search needs, search needs, search needs)
+    (e .0, e .1, search needs, search needs, search needs)
 
 pub walk-spec : {M : Type 1} → statement M
 walk-spec =
@@ -33,5 +33,4 @@ walk-spec =
     (λ c. search needs) (λ c. search needs)
     loop-again
     (λ c κs. search needs)
-    (λ c. search needs) (λ c. search needs) (λ c. search needs) (λ c. search needs)
-    (λ c. search needs) (λ c. search needs) (λ c. search needs))
+    (λ c. search needs) (λ c. search needs) (λ c. search needs) (λ c. search needs))
