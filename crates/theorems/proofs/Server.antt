@@ -16,16 +16,18 @@ use Rattle.rules.specs.Says.{Says, refuses, gives, seen}
 use Rattle.rules.specs.Calls.{initialSays, stepSays, drawSays}
 use Rattle.rules.specs.declared.Event.{Event}
 use Rattle.rules.specs.declared.Setting.{Setting}
+use Rattle.rules.proofs.Answers.{verdict-one}
 use Rattle.parsing.specs.Lines.{readFirst, readLater}
 use Rattle.parsing.specs.declared.First.{First}
 use Rattle.parsing.specs.declared.First.the-variants.{NoFirst, Opens}
 use Rattle.parsing.specs.declared.Line.{Line}
 use Rattle.parsing.specs.declared.Line.the-variants.{NoLine, DrawLine, MoveLine}
 use Rattle.printing.specs.Text.{lineText}
-use Rattle.standing.specs.Calls.{Move, moveSays}
+use Rattle.standing.specs.Calls.{Move, moveSays, Takes}
 use Rattle.standing.specs.Shown.{eventsShown}
 use Rattle.standing.specs.Standing.{snakesOf, endsBy, moved, endText}
 use Rattle.standing.specs.declared.Match.{Match}
+use Rattle.standing.specs.declared.Taken.{Taken}
 use Rattle.referee.specs.Match.{Turn, opened, openedBy, beginSays, marked, drawnTurn, movedTurn, askedBy, asked, turnSays}
 use Rattle.referee.proofs.Playing.{events-shown}
 use Rattle.referee.proofs.Saying.{step-fits}
@@ -56,6 +58,14 @@ module _ (m : Match) (on : m .over ≡ false) where
 -- after the end the match refuses the move by 33, as the replay every line
 pub over-served : (m : Match) → m .over ≡ true → (over : Bool) (w : List ℕ) (es : List Event) → moveSays m over w es ≡ refuses (by 33)
 over-served m h over w es = ap (λ (b : Bool). refuses (by 33) if b else gives (record { game = moved m over es; events = eventsShown m over w es })) h
+
+-- two answers that meet the promise are equal
+pub one-taken : (x : Says Move) (m : Match) (es : List Event) (r r′ : Taken) → Takes x m es r → Takes x m es r′ → r ≡ r′
+one-taken x m es r r′ p p′ = λ i. record {
+  verdict = verdict-one (r .verdict) (r′ .verdict) (p .verdict ∙ sym (p′ .verdict)) i;
+  game = (p .game ∙ sym (p′ .game)) i;
+  events = (p .events ∙ sym (p′ .events)) i;
+}
 
 -- ---- a line
 
