@@ -58,7 +58,7 @@ pub move-named : (m : Match) (over : Bool) (w : List ℕ) (es : List Event) → 
 unfolding named
 move-named m over w es = go (m .over)
   where
-    go : (b : Bool) → named (refuses (by 33) if b else gives (record { game = moved m over es; events = eventsShown m over w es })) ≡ true
+    go : (b : Bool) → named {A = Move} (refuses (by 33) if b else gives (record { game = moved m over es; events = eventsShown m over w es })) ≡ true
     go true = refl
     go false = refl
 
