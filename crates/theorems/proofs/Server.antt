@@ -13,9 +13,8 @@ use Rattle.rules.specs.Events.{eight}
 use Rattle.rules.specs.Step.{Transition}
 use Rattle.rules.specs.Tables.{by}
 use Rattle.rules.specs.Says.{Says, refuses, gives, seen}
-use Rattle.rules.specs.Calls.{initialSays, stepSays, drawSays}
+use Rattle.rules.specs.Calls.{initialSays, stepSays}
 use Rattle.rules.specs.declared.Event.{Event}
-use Rattle.rules.specs.declared.Setting.{Setting}
 use Rattle.rules.proofs.Answers.{verdict-one}
 use Rattle.parsing.specs.Lines.{readFirst, readLater}
 use Rattle.parsing.specs.declared.First.{First}
@@ -25,14 +24,14 @@ use Rattle.parsing.specs.declared.Line.the-variants.{NoLine, DrawLine, MoveLine
 use Rattle.printing.specs.Text.{lineText}
 use Rattle.standing.specs.Calls.{Move, moveSays, Takes}
 use Rattle.standing.specs.Shown.{eventsShown}
-use Rattle.standing.specs.Standing.{snakesOf, endsBy, moved, endText}
+use Rattle.standing.specs.Standing.{snakesOf, moved, endText}
 use Rattle.standing.specs.declared.Match.{Match}
 use Rattle.standing.specs.declared.Taken.{Taken}
-use Rattle.referee.specs.Match.{Turn, opened, openedBy, beginSays, marked, drawnTurn, movedTurn, askedBy, asked, turnSays}
+use Rattle.referee.specs.Match.{Turn, opened, openedBy, beginSays, movedTurn, askedBy, asked, turnSays}
 use Rattle.referee.proofs.Playing.{events-shown}
 use Rattle.referee.proofs.Saying.{step-fits}
 use Rattle.theorems.specs.Lead.{Reached, begun, taken}
-use Rattle.theorems.specs.Server.{Kept, movedOn, moveServed, servedBy, placesShown, Served, starts, draws, moves}
+use Rattle.theorems.specs.Server.{movedOn, moveServed, servedBy, placesShown, Served, starts, draws, moves}
 
 -- ---- a move
 
