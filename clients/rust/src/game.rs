@@ -10,7 +10,7 @@ use crate::{Event, Image, Refusal, Setting, Step};
 /// let setting = Setting { num_snakes: 2, grid_size: 5, initial_length: 1, max_ticks: Some(2), ..Setting::default() };
 /// let (mut image, mut game) = (setting.initial_state()?, Match::default());
 /// while game.ending().is_none() {
-///     let mut step = image.step(&setting, &[Forward, TurnLeft])?;
+///     let mut step = image.step(&setting, &[Forward, Forward])?;
 ///     game.take_move(&setting, &mut step)?;
 ///     image = step.next;
 /// }

@@ -761,7 +761,7 @@ fn match_at_max_ticks() {
     };
     let (mut now, mut game) = (short.initial_state().expect("a start"), Match::default());
     for last in [false, true] {
-        let mut step = now.step(&short, &[TurnLeft, TurnLeft]).expect("a step");
+        let mut step = now.step(&short, &[Forward, Forward]).expect("a step");
         assert_eq!(
             (game.take_move(&short, &mut step), step.terminal),
             (Ok(()), false)
