@@ -1,12 +1,12 @@
-/* The calls of the snake arena from C: crate bindings, target/staticlib/libbindings.a (`rt staticlib bindings`) on x86-64 Linux; `clients/build` makes it for other
- * machines too.
+/* The calls of the snake arena from C: a shared library of dist/, for x86-64 or aarch64 Linux; or crate bindings as target/staticlib/libbindings.a (`rt staticlib
+ * bindings`) on x86-64.
  *
  * Every exported call is proved to answer as the call of crate arena, book or standing that it wraps, for every input; none has a precondition of its own. An
  * exported call (`lundaspro_flat_..`, below) takes numbers, arrays of fixed size and slices, and returns its refusal. The calls to use, with records, are
  * thin functions over them.
  *
  * What a caller owes is what C cannot check: each pointer is not null (not even where its length is 0), aligned, and followed by as many
- * elements as its length says; memory that is written (out, list, events, obs) overlaps no other argument.
+ * elements as its length says; memory that is written overlaps no other argument.
  * Nothing is kept after a call returns, nothing is allocated, and calls share no state: any thread may call at any time.
  *
  * An answer begins with `refusal`: 0 for an answer, else the number of a refusal, and then every other field is 0 and all lent

@@ -159,11 +159,11 @@ fn floor(call: &str, name: &str, times: u64) -> Duration {
     }
 }
 
-const WARM_UP: u64 = 32;
+pub const WARM_UP: u64 = 32;
 /// No allocator is warmed for a book.
 const BOOK_WARM_UP: u64 = 2;
 
-/// A warm-up, then so many calls; how long they took.
+/// A warm-up, then so many calls; how long all of them took.
 pub fn run(case: &Case, times: u64) -> Duration {
     let book = books::named(&case.state);
     let all = if book.is_some() { BOOK_WARM_UP } else { WARM_UP } + times;

@@ -3,13 +3,13 @@
 
 use std::time::Duration;
 
-use crate::calls::{run, Case};
+use crate::calls::{run, Case, WARM_UP};
 use crate::plan::{PORT, PORT_ALONE};
 use crate::states;
 use crate::tables::{head, row, share, title};
 
 const TURNS: usize = 9;
-/// Long enough that the clock and the calls of warm-up do not show.
+/// Long enough that the clock does not show.
 const TURN: Duration = Duration::from_millis(4);
 
 fn case(side: &str, call: &str, state: &str) -> Case {
@@ -35,7 +35,8 @@ fn both(call: &str, state: &str) -> [f64; 2] {
             best[side] = best[side].min(run(&cases[side], times[side]));
         }
     }
-    [0, 1].map(|side| best[side].as_nanos() as f64 / times[side] as f64)
+    // the calls of warm-up are among those timed: they weigh where 64 calls already fill a turn
+    [0, 1].map(|side| best[side].as_nanos() as f64 / (WARM_UP + times[side]) as f64)
 }
 
 pub fn print() {

@@ -127,6 +127,7 @@ const due = Uint16Array.from(image, (word, i) => (i === 2 ? 1 : word));
     wrong(RangeError, () => arena.draw(due, -1, words, list));
     wrong(TypeError, () => arena.step(setting, image, [0, 0.5], words));
     wrong(TypeError, () => arena.step(setting, [...image], [0, 0], words));
+    for (const actions of [undefined, null, 2, {}]) wrong(TypeError, () => arena.step(setting, image, actions, words));
     wrong(TypeError, () => arena.observe(image, 0, words));
     same([...words, ...list, ...planes].every((n) => n === 9), true);
     same(image, given);
@@ -201,6 +202,12 @@ wrong(TypeError, () => arena.count(new Int16Array(image)));
     same(exports.memory.buffer.byteLength, after);
     wrong(RangeError, () => arena.step(setting, image, [0, 0], { __proto__: Uint16Array.prototype, length: 2 ** 31 }));
     same(arena.count(due), 8n);
+    // two arenas of one instance: where one has made the memory grow, the other does not once more
+    const { exports: shared } = await instantiate(file);
+    const [one, other] = [new Arena(shared), new Arena(shared)];
+    refused(20, () => one.count(new Uint16Array(1000000)));
+    const grown = shared.memory.buffer.byteLength;
+    same([other.count(due), one.count(due), shared.memory.buffer.byteLength], [8n, 8n, grown]);
 }
 
 // ---- the caller's code that runs while its values are read may call the arena

@@ -1,7 +1,7 @@
 // A snake arena whose every call is proved, for pages and Node: the WebAssembly file that `clients/build` writes, behind safe functions.
 //
 //     import { load } from './lundaspro.mjs';
-//     const arena = await load('dist/lundaspro.wasm');
+//     const arena = await load();
 //     const setting = { num_snakes: 2, grid_size: 3, initial_length: 1, play_to_last: false, win_food_lead: null, initial_food_count: 1, max_ticks: null };
 //     const { next } = arena.draw(arena.initial_state(setting), 2n);
 //     const { terminal, events } = arena.step(setting, next, [0, 0]);
@@ -90,9 +90,14 @@ function weightNumbers(weights) {
     });
 }
 
+function actionNumbers(actions) {
+    if (typeof actions?.[Symbol.iterator] !== 'function') throw new TypeError('actions: an array of numbers is wanted');
+    return Array.from(actions, (action) => unsigned(action, 'action'));
+}
+
 function placeOf(value, names, name) {
     const place = names.indexOf(value);
-    if (place < 0) throw new TypeError(`${name}: one of ${names.join(', ')} is wanted`);
+    if (place < 0) throw new TypeError(`${name}: one of ${names.map(String).join(', ')} is wanted`);
     return place;
 }
 
@@ -196,7 +201,9 @@ export class Arena {
         this.#doubles = new Float64Array(buffer);
     }
 
+    // An array of a memory that another has made grow has no length.
     #begin() {
+        if (this.#bytes.length === 0) this.#renew();
         this.#top = this.#heap;
     }
 
@@ -303,7 +310,7 @@ export class Arena {
     // One move of all snakes: { next, terminal, events }, an event for each snake. Refusals 1 to 12, 20, 21, 22, 24, 25; 29 where `out` is too short.
     step(setting, image, actions, out) {
         const numbers = settingNumbers(setting);
-        const list = Array.from(actions, (action) => unsigned(action, 'action'));
+        const list = actionNumbers(actions);
         const length = lengthOf(image, Uint16Array, 'image');
         const room = roomOf(out, Uint16Array, IMAGE_WORDS, 'out');
         this.#begin();

@@ -1,4 +1,5 @@
-// Links libbindings.a. LUNDASPRO_LIB names its folder; without it, the folder that `rt staticlib bindings` writes to.
+// Links libbindings.a of the folder that LUNDASPRO_LIB names, or its liblundaspro.so (dist/x86-64, dist/aarch64) where it has no archive. Without LUNDASPRO_LIB
+// the folder is the one that `rt staticlib bindings` writes to.
 use std::env;
 use std::path::PathBuf;
 
@@ -11,13 +12,20 @@ fn main() {
                 .join("../../target/staticlib")
         });
     let archive = folder.join("libbindings.a");
-    println!("cargo:rerun-if-changed={}", archive.display());
+    let shared = folder.join("liblundaspro.so");
+    for library in [&archive, &shared] {
+        println!("cargo:rerun-if-changed={}", library.display());
+    }
+    println!("cargo:rustc-link-search=native={}", folder.display());
+    if !archive.exists() && shared.exists() {
+        println!("cargo:rustc-link-lib=dylib=lundaspro");
+        return;
+    }
     if !archive.exists() {
         println!(
-            "cargo:warning=no {}: `rt staticlib bindings` makes it in the repository's target/staticlib; LUNDASPRO_LIB names another folder",
+            "cargo:warning=no {}: `rt staticlib bindings` makes it in the repository's target/staticlib; LUNDASPRO_LIB names another folder, as dist/x86-64",
             archive.display()
         );
     }
-    println!("cargo:rustc-link-search=native={}", folder.display());
     println!("cargo:rustc-link-lib=static=bindings");
 }
