@@ -333,8 +333,9 @@ export class Arena {
         const game = matchNumbers(match);
         const { next, terminal, events } = record(step, 'step');
         const ended = flag(terminal, 'terminal') ? 1n : 0n;
+        const told = Array.from(events, eventBytes).slice(0, 8); // no match has more snakes
         const bytes = new Uint8Array(64);
-        Array.from(events, eventBytes).slice(0, 8).forEach((event, i) => bytes.set(event, 8 * i));
+        told.forEach((event, i) => bytes.set(event, 8 * i));
         const length = lengthOf(next, Uint16Array, 'next');
         this.#begin();
         const s = this.#putLongs(numbers);
@@ -342,7 +343,7 @@ export class Arena {
         const e = this.#putBytes(bytes);
         const g = this.#putLongs(game);
         this.#check(this.#exports.lundaspro_flat_take_move(s, ended, w, length, e, g));
-        return { match: matchOf(game.map((_, k) => this.#long(g, k))), events: Array.from(events, (_, i) => this.#event(e + 8 * i)) };
+        return { match: matchOf(game.map((_, k) => this.#long(g, k))), events: told.map((_, i) => this.#event(e + 8 * i)) };
     }
 
     // The place of each snake. Before the end they count as if it ended here.
