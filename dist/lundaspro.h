@@ -1,7 +1,7 @@
 /* The calls of the snake arena from C: a shared library of dist/, for x86-64 or aarch64 Linux; or crate bindings as target/staticlib/libbindings.a (`rt staticlib
  * bindings`) on x86-64.
  *
- * Every exported call is proved to answer as the call of crate arena or book that it wraps, for every input; none has a precondition of its own. An
+ * Every exported call is proved to answer as the call of crate arena, book or standing that it wraps, for every input; none has a precondition of its own. An
  * exported call (`lundaspro_flat_..`, below) takes numbers, arrays of fixed size and slices, and returns its refusal. The calls to use, with records, are
  * thin functions over them.
  *
@@ -56,6 +56,7 @@ extern "C" {
 #define LUNDASPRO_BUFFER 29         /* an output buffer shorter than its answer */
 #define LUNDASPRO_LIST 30           /* list to rank: wrong length, a cell not free, or repeated */
 #define LUNDASPRO_WEIGHT 31         /* a reward weight not finite */
+#define LUNDASPRO_OVER 33           /* match over */
 #define LUNDASPRO_CONTENTS 40       /* a book's contents: cut short, off their layout, a refused setting, starts out of line, words left in a book of no pages */
 #define LUNDASPRO_PAGE 41           /* no such page */
 #define LUNDASPRO_PAGES 42          /* above 65,535 pages */
@@ -87,6 +88,7 @@ extern "C" {
  * setting: num_snakes, grid_size, initial_length, play_to_last, win_food_lead_set, win_food_lead, initial_food_count, max_ticks_set,
  * max_ticks; the grid is a 32-bit signed number as 64 bits of two's complement, and any other number is refused by 5.
  * event: ate_food, died, death_cause (0 to 4, any other is none), killed_opponent, won, lost, drew, survived_to_max_ticks.
+ * match: moves, over, timeout, eight deaths, eight behind; all 0 before the first move.
  * weights: step, food, loss, draw, kill, win, survival. sizes: discrete, count, planes, rows, cols. bounds: low, high. */
 
 uint64_t lundaspro_flat_well_formed(const uint16_t *image, uint64_t image_len);
@@ -95,6 +97,9 @@ uint64_t lundaspro_flat_validate(const uint64_t setting[9]);
 uint64_t lundaspro_flat_initial_state(const uint64_t setting[9], uint16_t *out, uint64_t out_len, uint64_t written[1]);
 uint64_t lundaspro_flat_step(const uint64_t setting[9], const uint16_t *image, uint64_t image_len, const uint64_t *actions, uint64_t actions_len,
     uint16_t *out, uint64_t out_len, uint8_t events[64], uint64_t end[2]); /* end: words, terminal */
+uint64_t lundaspro_flat_take_move(const uint64_t setting[9], uint64_t terminal, const uint16_t *image, uint64_t image_len, uint8_t events[64],
+    uint64_t match[19]); /* events, match: read and written */
+uint64_t lundaspro_flat_places(const uint64_t setting[9], const uint64_t match[19], uint64_t places[8]);
 uint64_t lundaspro_flat_count(const uint16_t *image, uint64_t image_len, uint64_t value[1]);
 uint64_t lundaspro_flat_draw(const uint16_t *image, uint64_t image_len, uint64_t index, uint16_t *out, uint64_t out_len, uint16_t *list, uint64_t list_len,
     uint64_t drawn[2]); /* words, cells */
@@ -119,7 +124,8 @@ static inline uint8_t lundaspro_refusal(uint64_t returned) {
     return (uint8_t)(returned % 256);
 }
 
-/* A match's setting; win_food_lead and max_ticks count only where the flag before them is set. Only write_book reads max_ticks. */
+/* A match's setting; win_food_lead and max_ticks count only where the flag before them is set. Only take_move and
+ * write_book read max_ticks. */
 typedef struct {
     uint64_t num_snakes;
     int32_t grid_size;
@@ -216,6 +222,29 @@ typedef struct {
     size_t start;
     size_t len;
 } lundaspro_page_answer;
+
+/* A match, kept beside its image: `lundaspro_match match = {0};` before the first move. It is the caller's, and any numbers may stand in it:
+ * moves stay at 2^64 - 1, places go by the deaths as they are, a flag is set where it is not 0. */
+typedef struct {
+    uint64_t moves;
+    bool over;
+    bool timeout;       /* it is over by max_ticks; else by the rules */
+    uint64_t deaths[8]; /* the move on which each snake died, counted from 1; 0 while it lives */
+    bool behind[8];     /* a living snake that lost: it is over by the food lead */
+} lundaspro_match;
+
+typedef struct {
+    uint64_t numbers[19];
+} lundaspro_match_numbers;
+
+static inline lundaspro_match_numbers lundaspro_numbers_of_match(const lundaspro_match *m) {
+    lundaspro_match_numbers n = {{m->moves, m->over, m->timeout}};
+    for (int i = 0; i < 8; i++) {
+        n.numbers[3 + i] = m->deaths[i];
+        n.numbers[11 + i] = m->behind[i];
+    }
+    return n;
+}
 
 /* The setting as the exported calls take it. */
 typedef struct {
@@ -366,6 +395,29 @@ static inline uint8_t lundaspro_relative_to_absolute(uint8_t heading, uint8_t ac
     uint64_t after[1] = {0};
     lundaspro_flat_relative_to_absolute(heading, action, after);
     return (uint8_t)after[0];
+}
+
+/* The move that a step made, taken by the match: `terminal` and `events` are the step's answer, `image` is what it wrote. At max_ticks the living
+ * are marked survived_to_max_ticks in `events`, and the match is over. 0, or refusal 33 where it was over before. */
+static inline uint8_t lundaspro_take_move(lundaspro_setting setting, bool terminal, const uint16_t *image, size_t image_len, lundaspro_event *events, lundaspro_match *match) {
+    lundaspro_numbers s = lundaspro_setting_numbers(setting);
+    lundaspro_match_numbers m = lundaspro_numbers_of_match(match);
+    uint8_t refusal = lundaspro_refusal(lundaspro_flat_take_move(s.numbers, terminal, image, image_len, (uint8_t *)events, m.numbers));
+    match->moves = m.numbers[0];
+    match->over = m.numbers[1] != 0;
+    match->timeout = m.numbers[2] != 0;
+    for (int i = 0; i < 8; i++) {
+        match->deaths[i] = m.numbers[3 + i];
+        match->behind[i] = m.numbers[11 + i] != 0;
+    }
+    return refusal;
+}
+
+/* The place of each snake, eight of them, 0 from the setting's number of snakes on. Before the end they count as if it ended here. */
+static inline void lundaspro_places(lundaspro_setting setting, const lundaspro_match *match, uint64_t *places) {
+    lundaspro_numbers s = lundaspro_setting_numbers(setting);
+    lundaspro_match_numbers m = lundaspro_numbers_of_match(match);
+    lundaspro_flat_places(s.numbers, m.numbers, places);
 }
 
 /* The match book of that many images, which stand in the row one after the other: its contents, then the images. Refusals 1 to 12, 42,

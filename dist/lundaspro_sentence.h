@@ -29,6 +29,7 @@ static inline const char *lundaspro_sentence(uint8_t refusal) {
     case LUNDASPRO_BUFFER: return "an output buffer shorter than its answer";
     case LUNDASPRO_LIST: return "list to rank: wrong length, a cell not free, or repeated";
     case LUNDASPRO_WEIGHT: return "a reward weight not finite";
+    case LUNDASPRO_OVER: return "match over";
     case LUNDASPRO_CONTENTS: return "a book's contents: cut short, off their layout, a refused setting, starts out of line, words left in a book of no pages";
     case LUNDASPRO_PAGE: return "no such page";
     case LUNDASPRO_PAGES: return "above 65,535 pages";

@@ -76,6 +76,43 @@ static void refused_others(void) {
     CHECK(untouched(planes, sizeof planes) && untouched(bounds, sizeof bounds) && untouched(&sum, sizeof sum));
 }
 
+/* Any match is taken: what is over refuses by 33 and stays, moves stay at 2^64 - 1, places go by the deaths as they are. */
+static void matches(void) {
+    uint64_t setting[9] = {2, 3, 1, 0, 0, 0, 0, 7, 2}, match[19], kept[19], places[8];
+    uint8_t events[64];
+    memset(match, 0, sizeof match), memset(events, 9, sizeof events);
+    match[1] = 2;
+    memcpy(kept, match, sizeof kept);
+    CHECK(lundaspro_flat_take_move(setting, 0, image, 14, events, match) == 33);
+    CHECK(memcmp(match, kept, sizeof kept) == 0 && untouched(events, sizeof events));
+    memset(match, 0, sizeof match), memset(events, 0, sizeof events);
+    CHECK(lundaspro_flat_take_move(setting, 0, image, 14, events, match) == 0);
+    CHECK(match[0] == 1 && match[1] == 0 && events[7] == 0);
+    events[8 + 1] = 1; /* snake 1 dies on the second move, which is the last */
+    CHECK(lundaspro_flat_take_move(setting, 0, image, 14, events, match) == 0);
+    CHECK(match[0] == 2 && match[1] == 1 && match[2] == 1 && match[3] == 0 && match[4] == 2);
+    CHECK(events[7] == 1 && events[8 + 7] == 0 && events[16 + 7] == 0);
+    CHECK(lundaspro_flat_places(setting, match, places) == 0 && places[0] == 1 && places[1] == 2 && places[2] == 0);
+    setting[7] = 0;
+    for (int i = 0; i < 19; i++) match[i] = UINT64_MAX;
+    match[1] = 0, setting[0] = UINT64_MAX;
+    CHECK(lundaspro_flat_places(setting, match, places) == 0 && places[0] == 2 && places[7] == 2);
+    memset(events, 0, sizeof events);
+    CHECK(lundaspro_flat_take_move(setting, 9, image, 0, events, match) == 0);
+    CHECK(match[0] == UINT64_MAX && match[1] == 1 && match[2] == 0 && match[3] == UINT64_MAX && match[11] == 0);
+    CHECK(lundaspro_flat_places(setting, match, places) == 0 && places[0] == 1 && places[7] == 1);
+
+    lundaspro_setting told = {.num_snakes = 2, .grid_size = 3, .initial_length = 1, .max_ticks_set = true, .max_ticks = 1};
+    lundaspro_match game = {0};
+    lundaspro_event marked[8] = {{0}};
+    CHECK(lundaspro_take_move(told, false, image, 14, marked, &game) == 0 && game.over && game.timeout && game.moves == 1);
+    CHECK(marked[0].survived_to_max_ticks == 1 && marked[1].survived_to_max_ticks == 0);
+    CHECK(lundaspro_take_move(told, false, image, 14, marked, &game) == LUNDASPRO_OVER && game.moves == 1);
+    game.behind[1] = true;
+    lundaspro_places(told, &game, places);
+    CHECK(places[0] == 1 && places[1] == 2 && places[2] == 0);
+}
+
 /* A flag is set where its number is not 0. */
 static void flags(void) {
     uint64_t setting[9] = {2, 3, 1, 0, 0, 0, 0, 0, 0};
@@ -216,7 +253,7 @@ static void books(void) {
 static void sentences(void) {
     const char *none = lundaspro_sentence(0);
     for (int i = 1; i < 256; i++) {
-        bool named = (i >= 1 && i <= 12) || (i >= 20 && i <= 31) || (i >= 40 && i <= 42);
+        bool named = (i >= 1 && i <= 12) || (i >= 20 && i <= 31) || i == 33 || (i >= 40 && i <= 42);
         CHECK((strcmp(lundaspro_sentence((uint8_t)i), none) != 0) == named);
     }
     CHECK(strcmp(lundaspro_sentence(lundaspro_count(image, 13).refusal), "image not well-formed") == 0);
@@ -225,6 +262,7 @@ static void sentences(void) {
 int main(void) {
     refused_steps();
     refused_others();
+    matches();
     flags();
     grids();
     nan_weights();

@@ -6,7 +6,7 @@ import { once } from 'node:events';
 import { readFileSync } from 'node:fs';
 import { createServer } from 'node:http';
 import { pathToFileURL } from 'node:url';
-import { ACTIONS, Arena, BOOK_PAGES, bookWords, CAUSES, HEADINGS, IMAGE_WORDS, instantiate, LIST_WORDS, load, PLANE_NUMBERS, Refusal, SENTENCES } from './lundaspro.mjs';
+import { ACTIONS, Arena, BOOK_PAGES, bookWords, CAUSES, ending, HEADINGS, IMAGE_WORDS, instantiate, LIST_WORDS, load, new_match, PLANE_NUMBERS, Refusal, SENTENCES } from './lundaspro.mjs';
 import { watched } from './watch.mjs';
 
 let checks = 0;
@@ -222,10 +222,32 @@ wrong(TypeError, () => arena.count(new Int16Array(image)));
     same(arena.step(inner, image, actions), arena.step(setting, image, [0, 0]));
 }
 
+// ---- a match: what is handed over stays, any value is read, what is over refuses
+{
+    const short = { ...setting, max_ticks: 1 };
+    const step = { next: image, terminal: false, events: [blank, blank] };
+    const first = new_match();
+    const { match, events } = arena.take_move(short, first, step);
+    same([first, step.events], [new_match(), [blank, blank]]);
+    same(match, { ...first, moves: 1n, over: true, timeout: true });
+    same(events, [{ ...blank, survived_to_max_ticks: true }, blank]);
+    same([ending(first), ending(match), ending({ ...match, timeout: false })], [null, 'MaxTicks', 'Deaths']);
+    refused(33, () => arena.take_move(short, match, step));
+    const behind = first.behind.with(1, true);
+    same([arena.places(short, { ...match, behind }), ending({ ...match, timeout: false, behind })], [[1, 2], 'Lead']);
+    const late = { ...first, moves: 2n ** 64n - 1n, deaths: first.deaths.with(0, 2n ** 64n - 1n) };
+    same([arena.take_move(setting, late, step).match, arena.places(setting, late)], [late, [2, 1]]);
+    same(arena.places({ ...setting, num_snakes: 2n ** 64n - 1n }, first), Array(8).fill(1));
+    for (const part of [{ moves: -1 }, { moves: 2n ** 64n }]) wrong(RangeError, () => arena.places(setting, { ...first, ...part }));
+    for (const part of [{ over: 1 }, { timeout: null }, { deaths: [0] }, { behind: Array(8).fill(0) }]) wrong(TypeError, () => arena.places(setting, { ...first, ...part }));
+    wrong(TypeError, () => arena.take_move(setting, first, { ...step, terminal: 0 }));
+    wrong(TypeError, () => arena.take_move(setting, first, { ...step, next: [...image] }));
+}
+
 // ---- a sentence for each number that a call gives (tests/sentences: the header's), and one for no other
 {
     const numbers = Object.keys(SENTENCES).map(Number);
-    same(numbers, [...Array(12).keys()].map((i) => i + 1).concat([...Array(12).keys()].map((i) => i + 20), [40, 41, 42]));
+    same(numbers, [...Array(12).keys()].map((i) => i + 1).concat([...Array(12).keys()].map((i) => i + 20), [33, 40, 41, 42]));
     for (let i = 0; i < 256; i++) same(new Refusal(i).sentence, SENTENCES[i] ?? 'no number that a call gives');
 }
 

@@ -132,6 +132,38 @@ function eventOf(bytes, at) {
     };
 }
 
+// A match before its first move: a plain object, which may be kept, copied and sent as JSON where its numbers are below 2^53.
+export function new_match() {
+    return { moves: 0n, over: false, timeout: false, deaths: Array(8).fill(0n), behind: Array(8).fill(false) };
+}
+
+// What a match is over by: 'Deaths', 'Lead' or 'MaxTicks'; null while it goes on.
+export function ending(match) {
+    if (!match.over) return null;
+    if (match.timeout) return 'MaxTicks';
+    return match.behind.includes(true) ? 'Lead' : 'Deaths';
+}
+
+function matchNumbers(match) {
+    const m = record(match, 'match');
+    const eight = (values, name) => {
+        if (Array.isArray(values) && values.length === 8) return values;
+        throw new TypeError(`${name}: eight values are wanted`);
+    };
+    return [
+        unsigned(m.moves, 'moves'),
+        flag(m.over, 'over') ? 1n : 0n,
+        flag(m.timeout, 'timeout') ? 1n : 0n,
+        ...eight(m.deaths, 'deaths').map((n) => unsigned(n, 'deaths')),
+        ...eight(m.behind, 'behind').map((b) => (flag(b, 'behind') ? 1n : 0n)),
+    ];
+}
+
+function matchOf(numbers) {
+    const [moves, over, timeout, ...snakes] = numbers;
+    return { moves, over: over !== 0n, timeout: timeout !== 0n, deaths: snakes.slice(0, 8), behind: snakes.slice(8).map((n) => n !== 0n) };
+}
+
 // The answer's part of what was lent: in the caller's array where there is one, else in a new one.
 function taken(memory, at, length, into) {
     if (into == null) return memory.slice(at, at + length);
@@ -293,6 +325,40 @@ export class Arena {
         this.#check(this.#exports.lundaspro_flat_step(s, w, length, a, BigInt(list.length), o, BigInt(room), events, end));
         const next = taken(this.#words, o / 2, this.#number(end, 0), out);
         return { next, terminal: this.#long(end, 1) !== 0n, events: list.map((_, i) => this.#event(events + 8 * i)) };
+    }
+
+    // ---- a match
+
+    // What a step makes of a match: { match, events }, the living marked at max_ticks; `step` is the answer of `step`, `match` stays as it is. Refusal 33.
+    take_move(setting, match, step) {
+        const numbers = settingNumbers(setting);
+        const game = matchNumbers(match);
+        const { next, terminal, events } = record(step, 'step');
+        const ended = flag(terminal, 'terminal') ? 1n : 0n;
+        const told = Array.from(events, eventBytes).slice(0, 8); // no match has more snakes
+        const bytes = new Uint8Array(64);
+        told.forEach((event, i) => bytes.set(event, 8 * i));
+        const length = lengthOf(next, Uint16Array, 'next');
+        this.#begin();
+        const s = this.#putLongs(numbers);
+        const w = this.#putWords(next);
+        const e = this.#putBytes(bytes);
+        const g = this.#putLongs(game);
+        this.#check(this.#exports.lundaspro_flat_take_move(s, ended, w, length, e, g));
+        return { match: matchOf(game.map((_, k) => this.#long(g, k))), events: told.map((_, i) => this.#event(e + 8 * i)) };
+    }
+
+    // The place of each snake. Before the end they count as if it ended here.
+    places(setting, match) {
+        const numbers = settingNumbers(setting);
+        const game = matchNumbers(match);
+        this.#begin();
+        const s = this.#putLongs(numbers);
+        const g = this.#putLongs(game);
+        const places = this.#lendLongs(8);
+        this.#check(this.#exports.lundaspro_flat_places(s, g, places));
+        const snakes = numbers[0] < 8n ? Number(numbers[0]) : 8;
+        return Array.from({ length: snakes }, (_, i) => this.#number(places, i));
     }
 
     // Who acts next: 'Chance' or 'Simultaneous'. Refusal 20.

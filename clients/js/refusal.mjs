@@ -25,6 +25,7 @@ export const SENTENCES = Object.freeze({
     29: 'an output buffer shorter than its answer',
     30: 'list to rank: wrong length, a cell not free, or repeated',
     31: 'a reward weight not finite',
+    33: 'match over',
     40: "a book's contents: cut short, off their layout, a refused setting, starts out of line, words left in a book of no pages",
     41: 'no such page',
     42: 'above 65,535 pages',

@@ -2,13 +2,16 @@
 // may change no byte; an answer the arrays of fixed size and the first part of each buffer, as long as the answer says it is.
 
 // By call, what is lent: of an array of fixed size its argument and its bytes; of a buffer the arguments of pointer and length, the bytes of an element,
-// and the array and the place in it where its written elements are counted. The events of a step are blank from the number of actions on.
+// and the array and the place in it where its written elements are counted; `both` are arrays that are read too, and so not filled. The events of a step are
+// blank from the number of actions on.
 const LENT = {
     well_formed: { arrays: [], buffers: [] },
     body: { arrays: [[3, 16]], buffers: [] },
     validate: { arrays: [], buffers: [] },
     initial_state: { arrays: [[3, 8]], buffers: [[1, 2, 2, 3, 0]] },
     step: { arrays: [[7, 64], [8, 16]], buffers: [[5, 6, 2, 8, 0]], events: [7, 4] },
+    take_move: { arrays: [], buffers: [], both: [[4, 64], [5, 152]] },
+    places: { arrays: [[2, 64]], buffers: [] },
     count: { arrays: [[2, 8]], buffers: [] },
     draw: { arrays: [[7, 16]], buffers: [[3, 4, 2, 7, 0], [5, 6, 2, 7, 1]] },
     rank: { arrays: [[4, 8]], buffers: [] },
@@ -36,7 +39,7 @@ export function watched(real) {
     const heap = real.__heap_base.value;
     const memory = () => Buffer.from(real.memory.buffer);
 
-    function call(f, { arrays, buffers, events }, args) {
+    function call(f, { arrays, buffers, events, both = [] }, args) {
         const now = memory();
         const part = (pointer, bytes) => now.subarray(args[pointer], args[pointer] + bytes);
         for (const [pointer, bytes] of arrays) part(pointer, bytes).fill(PATTERN);
@@ -46,7 +49,7 @@ export function watched(real) {
         const returned = f(...args);
         if (returned === 0n) {
             const allow = (pointer, bytes) => now.copy(before, args[pointer], args[pointer], args[pointer] + bytes);
-            for (const [pointer, bytes] of arrays) allow(pointer, bytes);
+            for (const [pointer, bytes] of [...arrays, ...both]) allow(pointer, bytes);
             if (events) kept = kept && part(events[0], 64).subarray(8 * Number(args[events[1]])).every((byte) => byte === 0);
             for (const [pointer, , size, array, place] of buffers) allow(pointer, size * Number(now.readBigUInt64LE(args[array] + 8 * place)));
         }

@@ -19,12 +19,14 @@
 mod action;
 mod board;
 mod book;
+mod game;
 pub mod lend;
 mod letters;
 mod raw;
 mod refusal;
 
 pub use book::{book_words, Book, Pages};
+pub use game::{Ending, Match};
 pub use refusal::Refusal;
 
 /// An image has at most this many words.
@@ -34,7 +36,8 @@ pub const LIST_WORDS: usize = 20;
 /// An observation has at most this many numbers.
 pub const PLANE_NUMBERS: usize = 5120;
 
-/// A match's setting, by the names of the Rust's `Snake`. Only [`Setting::write_book`] reads `max_ticks`.
+/// A match's setting, by the names of the Rust's `Snake`. Only [`Match`] and [`Setting::write_book`]
+/// read `max_ticks`.
 #[derive(Clone, Copy, Debug, Default, PartialEq, Eq, Hash)]
 pub struct Setting {
     pub num_snakes: u64,

@@ -7,6 +7,8 @@ pub type Setting = [u64; 9];
 pub type Weights = [f64; 7];
 /// ate_food, died, death_cause, killed_opponent, won, lost, drew, survived_to_max_ticks.
 pub type Event = [u8; 8];
+/// moves, over, timeout, eight deaths, eight behind.
+pub type Match = [u64; 19];
 
 extern "C" {
     pub fn lundaspro_flat_well_formed(image: *const u16, image_len: usize) -> u64;
@@ -34,6 +36,15 @@ extern "C" {
         events: &mut [Event; 8],
         end: &mut [u64; 2],
     ) -> u64;
+    pub fn lundaspro_flat_take_move(
+        setting: &Setting,
+        terminal: u64,
+        image: *const u16,
+        image_len: usize,
+        events: &mut [Event; 8],
+        game: &mut Match,
+    ) -> u64;
+    pub fn lundaspro_flat_places(setting: &Setting, game: &Match, places: &mut [u64; 8]) -> u64;
     pub fn lundaspro_flat_count(image: *const u16, image_len: usize, value: &mut [u64; 1]) -> u64;
     pub fn lundaspro_flat_draw(
         image: *const u16,

@@ -70,6 +70,7 @@ refusals! {
     29 Buffer "an output buffer shorter than its answer"
     30 List "list to rank: wrong length, a cell not free, or repeated"
     31 Weight "a reward weight not finite"
+    33 Over "match over"
     40 Contents "a book's contents: cut short, off their layout, a refused setting, starts out of line, words left in a book of no pages"
     41 Page "no such page"
     42 Pages "above 65,535 pages"

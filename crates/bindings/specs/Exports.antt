@@ -17,7 +17,9 @@ use Rattle.rules.specs.Says.{Says, refuses, gives, lent, Shape, box, discrete}
 use Rattle.rules.specs.Calls.{Draw, bodyAsked}
 use Rattle.image.specs.Memory.{startAsked}
 use Rattle.contents.specs.Calls.{Span}
+use Rattle.standing.specs.Calls.{Move}
 use Rattle.flat.specs.Flat.{refusalNumber, eventsBytes}
+use Rattle.flat.specs.Games.{matchNumbers}
 
 -- ---- flat forms
 
@@ -106,6 +108,12 @@ pub record FlatDraws (x : Says Draw) (old new oldList newList oldCounts newCount
   pub words : new ≡ lent (λ d. imageOf (d .next)) old x
   pub list : newList ≡ lent (λ d. d .cells) oldList x
   pub counts : newCounts ≡ told drawNumbers oldCounts x
+
+-- a move that a match takes: the events and the match, each in place
+pub record FlatMoves (x : Says Move) (old new : List (List ℕ)) (oldGame newGame : List ℕ) (r : ℕ) : Type 0 where
+  pub refusal : r ≡ refusalOf x
+  pub events : new ≡ told (λ t. eventsBytes (t .events)) old x
+  pub game : newGame ≡ told (λ t. matchNumbers (t .game)) oldGame x
 
 -- where the body query's part lies in the caller's image
 pub record FlatBody (w : List ℕ) (i : ℕ) (part : List ℕ) (r : ℕ) : Type 0 where

@@ -1,8 +1,9 @@
-// The calls for other languages: every public call of `arena`, and a book's writer and page, as an exported function over numbers, arrays of
-// fixed size and slices. A call answers its refusal, 0 for none; all else of an answer goes to what is lent, which a refusal leaves untouched. No
+// The calls for other languages: every public call of `arena`, a book's writer and page, and a match's calls, as an exported function over numbers,
+// arrays of fixed size and slices. A call answers its refusal, 0 for none; all else of an answer goes to what is lent, which a refusal leaves untouched. No
 // call has a `requires`. `clients/c/lundaspro.h` declares the same functions.
 mod books;
 mod chances;
+mod games;
 mod matches;
 mod tells;
 mod views;
@@ -13,6 +14,8 @@ pub use chances::lundaspro_flat_count;
 pub use chances::lundaspro_flat_draw;
 pub use chances::lundaspro_flat_outcome_of;
 pub use chances::lundaspro_flat_rank;
+pub use games::lundaspro_flat_places;
+pub use games::lundaspro_flat_take_move;
 pub use matches::lundaspro_flat_body;
 pub use matches::lundaspro_flat_initial_state;
 pub use matches::lundaspro_flat_step;

@@ -1,3 +1,4 @@
+pub mod Matches
 pub mod Read
 pub mod Told
 pub mod Theorems

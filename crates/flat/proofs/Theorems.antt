@@ -1,16 +1,19 @@
 -- The flat forms lose nothing: what is told, read again, is what it was; every setting can be said; a number that is no 32-bit grid is refused
 -- by the grid's own number. Assumes nothing.
 use Prim.Native.Nat.{ℕ, _-_, _<_, _≤_}
-use mathlib.Core.Path.{_≡_, refl}
+use mathlib.Core.Path.{_≡_, refl, sym, ap, _∙_}
 use mathlib.Core.Bool.{Bool, true, false}
 use mathlib.Core.List.{List, [], _∷_}
 use native.Mathlib.Omega.{arith}
 use borrow.Author.Tests.{lt-ltb, le-ltb}
 use lib.IntN.{ℤ, pos, negsuc}
-use lib.ListN.{getD}
+use lib.ListN.{length, getD, replicate}
 use mir.Syntax.{w32}
 use mir.Val.{SFits}
 use Rattle.lists.specs.Choice.{bit}
+use Rattle.lists.specs.Below.{eachBelow}
+use Rattle.lists.proofs.Below.{each-ext, each-back}
+use Rattle.rules.specs.Events.{blank}
 use Rattle.rules.specs.Setting.{settingOrder}
 use Rattle.rules.specs.Tables.{by}
 use Rattle.rules.specs.Says.{refuses, byTable}
@@ -23,7 +26,10 @@ use Rattle.rules.specs.declared.Cause.{Cause}
 use Rattle.rules.specs.declared.Cause.the-variants.{NoCause, Wall, SelfBody, OppBody, HeadOn}
 use Rattle.rules.specs.declared.Event.{Event}
 use Rattle.events.specs.Causes.{causeIn, causeNumber}
-use Rattle.flat.specs.Flat.{flagIn, limitIn, gridIn, settingIn, eventIn, eventBytes, refusalNumber}
+use Rattle.standing.specs.Standing.{fresh}
+use Rattle.standing.specs.declared.Match.{Match}
+use Rattle.flat.specs.Flat.{flagIn, limitIn, gridIn, settingIn, eventIn, eventBytes, eventsBytes, refusalNumber}
+use Rattle.flat.specs.Games.{eventsIn, matchIn, matchNumbers}
 use Rattle.flat.proofs.Read.{no-grid}
 
 -- ---- an event
@@ -49,6 +55,39 @@ event-back e = λ i. record {
   lost = flag-back (e .lost) i;
   drew = flag-back (e .drew) i;
   «survived_to_max_ticks» = flag-back (e .«survived_to_max_ticks») i;
+}
+
+-- ---- tables of eight
+
+eight-is : {A : Type 0} (l : List A) (d : A) → length l ≡ 8 → eachBelow 8 (λ i. getD l i d) ≡ l
+eight-is l d e = ap (λ (n : ℕ). eachBelow n (λ i. getD l i d)) (sym e) ∙ each-back l d
+
+eight-read : (es : List Event) → eventsIn (eventsBytes es) ≡ eachBelow 8 (λ i. getD es i blank)
+unfolding eventsIn eventsBytes eachBelow
+eight-read es = simp event-back
+
+pub events-back : (es : List Event) → length es ≡ 8 → eventsIn (eventsBytes es) ≡ es
+events-back es e = eight-read es ∙ eight-is es blank e
+
+-- ---- a match
+
+-- before the first move all is 0
+pub new-match : (s : Setting) → matchNumbers (fresh s) ≡ replicate 19 0
+unfolding matchNumbers eachBelow
+new-match s = refl
+
+flags-back : (l : List Bool) → length l ≡ 8 → eachBelow 8 (λ i. flagIn (bit (getD l i false))) ≡ l
+flags-back l e = each-ext 8 (λ i. flagIn (bit (getD l i false))) (λ i. getD l i false) (λ i h. flag-back (getD l i false)) ∙ eight-is l false e
+
+pub match-back : (m : Match) → length (m .deaths) ≡ 8 → length (m .behind) ≡ 8 → matchIn (m .setting) (matchNumbers m) ≡ m
+unfolding matchIn matchNumbers eachBelow
+match-back m p q = λ i. record {
+  setting = m .setting;
+  moves = m .moves;
+  deaths = eight-is (m .deaths) 0 p i;
+  behind = flags-back (m .behind) q i;
+  over = flag-back (m .over) i;
+  timeout = flag-back (m .timeout) i;
 }
 
 -- ---- a refusal

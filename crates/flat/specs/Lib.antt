@@ -1,1 +1,2 @@
 pub mod Flat
+pub mod Games

@@ -18,9 +18,10 @@ use Rattle.rules.specs.declared.Refusal.{Refusal}
 use Rattle.rules.specs.declared.Setting.{Setting}
 use Rattle.rules.specs.declared.Stepped.{Stepped}
 use Rattle.printing.specs.Text.{lineText}
-use Rattle.standing.specs.Standing.{moved}
+use Rattle.standing.specs.Shown.{eventsShown}
+use Rattle.standing.specs.Standing.{fresh, moved}
 use Rattle.standing.specs.declared.Match.{Match}
-use Rattle.referee.specs.Match.{Turn, fresh, opened, drawnTurn, movedTurn, eventsShown, refusalIn, Plays, Stops, Shows}
+use Rattle.referee.specs.Match.{Turn, opened, drawnTurn, movedTurn, refusalIn, Plays, Stops, Shows}
 use Rattle.referee.specs.declared.Turned.{Turned}
 use Rattle.referee.proofs.Saying.{refused-by, Fits, initial-fits, step-fits, draw-fits}
 use Rattle.referee.proofs.Playing.{Done, done, done-by, stopped, shown, shown-move, few-in}
@@ -121,5 +122,6 @@ module _ (m : Match) (w acts old new : List ℕ) (s : Stepped) (q : Steps (m .se
       | done o e p u g l ↦
           let pt : s .terminal ≡ o .terminal = q .terminal ∙ ap (beside (λ (o : Transition). o .terminal) false) e in
           let pe : s .events ≡ eight (o .events) = q .events ∙ ap (beside (λ (o : Transition). eight (o .events)) (replicate 8 blank)) e in
-          rw e (shown-move m o old new out exit r (take (n - 0) new) g u (step-fits (m .setting) w acts (length old) o e .short) (s .terminal) (s .events) pt pe shows)
+          let f = step-fits (m .setting) w acts (length old) o e in
+          rw e (shown-move m o old new out exit r (take (n - 0) new) g u (f .few) (f .short) (s .terminal) (s .events) pt pe shows)
     ]

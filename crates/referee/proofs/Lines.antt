@@ -9,9 +9,7 @@ use mathlib.Core.List.{List}
 use lib.ListN.{length, take, getD}
 use lib.Seq.{length-take-le}
 use borrow.Author.Tests.{not-true, not-false}
-use Rattle.lists.specs.Below.{filled}
 use Rattle.lists.specs.Lists.{writeAt}
-use Rattle.rules.specs.Events.{blank}
 use Rattle.rules.specs.Tables.{by}
 use Rattle.rules.specs.Says.{seen}
 use Rattle.rules.specs.Calls.{initialSays, stepSays, drawSays}
@@ -24,10 +22,10 @@ use Rattle.parsing.specs.declared.First.the-variants.{NoFirst, Opens}
 use Rattle.parsing.specs.declared.Line.the-variants.{NoLine, DrawLine, MoveLine}
 use Rattle.printing.specs.Text.{Wrote, refusalText}
 use Rattle.printing.proofs.Writing.{wider}
-use Rattle.standing.specs.Shown.{markShown, lineShown}
-use Rattle.standing.specs.Standing.{snakesOf, endsBy, moved, endText}
+use Rattle.standing.specs.Shown.{lineShown, eventsShown}
+use Rattle.standing.specs.Standing.{snakesOf, moved, endText}
 use Rattle.standing.specs.declared.Match.{Match}
-use Rattle.referee.specs.Match.{opened, drawnTurn, movedTurn, eventsShown, asked, beginSays, turnSays, lineSays, closeText, Plays, Stops, Shows}
+use Rattle.referee.specs.Match.{opened, drawnTurn, movedTurn, asked, beginSays, turnSays, lineSays, closeText, Plays, Stops, Shows}
 use Rattle.referee.specs.declared.Desk.{Desk}
 use Rattle.referee.specs.declared.Turned.{Turned}
 use Rattle.referee.proofs.Playing.{refused-line, turn-over, turn-on, stays, moves-on, words-fit, close-begun, close-new, line-begun, line-new}
@@ -105,14 +103,6 @@ module _ (d : Desk) (out exit : List ℕ) (k : ℕ) where
   close-refuses b p = rw (close-new d b) (wider 170 p (omega arith))
 
 -- ---- the line of an image
-
--- a move's events: marked where max_ticks ends the match
-module _ (m : Match) (over b : Bool) (w : List ℕ) (es : List Event) (p : b ≡ endsBy m over) where
-  pub events-marked : b ≡ true → (n : ℕ) → n ≡ getD w 0 0 → (r : List Event) → r ≡ filled (markShown w es) n 8 blank → r ≡ eventsShown m over w es
-  events-marked q n pn r pr = rw (← p, q, pr, pn)
-
-  pub events-kept : b ≡ false → es ≡ eventsShown m over w es
-  events-kept q = rw (← p, q)
 
 module _ (m : Match) (over : Bool) (w : List ℕ) (es : List Event) (out exit : List ℕ) where
   pub line-shows : (letter n k : ℕ) → n ≡ getD w 0 0 → Wrote out exit 0 k (lineShown letter over w es n) 462

@@ -6,6 +6,7 @@ use mathlib.Core.Path.{_≡_, refl, sym, ap, _∙_}
 use mathlib.Core.Bool.{Bool, true, false, true≢false, false≢true}
 use mathlib.Core.List.{List}
 use lib.ListN.{length, take, drop, length-append, length-drop}
+use borrow.Author.Tests.{le-ltb}
 use Rattle.lists.specs.Choice.{_if_else_}
 use Rattle.lists.specs.Below.{filled}
 use Rattle.lists.specs.Lists.{overFront, writeAt}
@@ -22,9 +23,9 @@ use Rattle.rules.specs.declared.Refusal.{Refusal}
 use Rattle.rules.proofs.Image.{snakes-is}
 use Rattle.parsing.specs.Lines.{readLater}
 use Rattle.printing.specs.Text.{lineText, refusalText}
-use Rattle.standing.specs.Shown.{lineShown, markShown}
-use Rattle.referee.specs.Match.{Turn, marked, movedTurn, eventsShown, asked, beginSays, turnSays, lineSays, closeText, Stops, Shows, Plays}
-use Rattle.standing.specs.Standing.{snakesOf, endsBy, moved, endText}
+use Rattle.standing.specs.Shown.{lineShown, markShown, eventsShown}
+use Rattle.referee.specs.Match.{Turn, marked, movedTurn, asked, beginSays, turnSays, lineSays, closeText, Stops, Shows, Plays}
+use Rattle.standing.specs.Standing.{few, snakesOf, endsBy, moved, endText}
 use Rattle.standing.specs.declared.Match.{Match}
 use Rattle.referee.specs.declared.Desk.{Desk}
 use Rattle.referee.specs.declared.Turned.{Turned}
@@ -74,19 +75,24 @@ shown t m old new out exit r letter over w es i e n b s =
 pub few-in : (t : State) (w : List ℕ) → w ≡ imageOf t → count t ≤ 8 → snakesIn w ≤ 8
 few-in t w e h = rw (e, snakes-is t) h
 
+-- the events of a move's line, by the words and by the state
+pub events-shown : (m : Match) (over : Bool) (t : State) (es : List Event) → count t ≤ 8 → eventsShown m over (imageOf t) es ≡ (marked t es if endsBy m over else es)
+events-shown m over t es h =
+    ap (λ (l : List Event). l if endsBy m over else es)
+    (ap (λ (k : ℕ). filled (markShown (imageOf t) es) (few k) 8 blank) (snakes-is t)
+    ∙ ap (λ (b : Bool). filled (markShown (imageOf t) es) (8 if b else count t) 8 blank) (le-ltb 8 (count t) h)
+    ∙ marks-shown t es)
+
 -- the line of a move: its events are marked where max_ticks ends the match
-pub shown-move : (m : Match) (o : Transition) (old new out exit : List ℕ) (r : Turned) (w : List ℕ) → w ≡ imageOf (o .next) → new ≡ overFront (imageOf (o .next)) old → length (imageOf (o .next)) ≤ length old
+pub shown-move : (m : Match) (o : Transition) (old new out exit : List ℕ) (r : Turned) (w : List ℕ) → w ≡ imageOf (o .next) → new ≡ overFront (imageOf (o .next)) old
+    → count (o .next) ≤ 8 → length (imageOf (o .next)) ≤ length old
     → (over : Bool) (es : List Event) → over ≡ o .terminal → es ≡ eight (o .events)
     → Shows (moved m over es) 109 over w (eventsShown m over w es) out exit r → Plays (gives (movedTurn m o)) m old new out exit r
 unfolding movedTurn
-shown-move m o old new out exit r w i n b over es p q s =
+shown-move m o old new out exit r w i n c b over es p q s =
     let t : Bool = o .terminal in
     let v : List Event = eight (o .events) in
-    let g : eventsShown m t w v ≡ (marked (o .next) v if endsBy m t else v) =
-    ap (λ (l : List Event). l if endsBy m t else v)
-    (ap (λ (u : List ℕ). filled (markShown u v) (snakesIn u) 8 blank) i
-    ∙ ap (λ (k : ℕ). filled (markShown (imageOf (o .next)) v) k 8 blank) (snakes-is (o .next))
-    ∙ marks-shown (o .next) v) in
+    let g : eventsShown m t w v ≡ (marked (o .next) v if endsBy m t else v) = ap (λ (u : List ℕ). eventsShown m t u v) i ∙ events-shown m t (o .next) v c in
     let a : Shows (moved m t v) 109 t w (eventsShown m t w v) out exit r = rw (← p, ← q) s in
     shown (movedTurn m o) m old new out exit r 109 t w (eventsShown m t w v) i (ap (lineText 109 t (o .next)) g) n b a
 

@@ -3,7 +3,7 @@ use Prim.Native.Nat.{ℕ, _+_}
 use mathlib.Core.Path.{_≡_}
 use mathlib.Core.Bool.{Bool, true, false}
 use mathlib.Core.List.{List, [], _∷_, _++_}
-use lib.ListN.{length, getD, take, replicate}
+use lib.ListN.{length, getD, take}
 use Rattle.lists.specs.Choice.{_if_else_}
 use Rattle.lists.specs.Below.{filled}
 use Rattle.rules.specs.State.{State, count, snakeOf}
@@ -18,8 +18,8 @@ use Rattle.rules.specs.declared.Setting.{Setting}
 use Rattle.rules.specs.declared.Event.{Event}
 use Rattle.parsing.specs.Lines.{readFirst, readLater}
 use Rattle.parsing.specs.Split.{linesOf}
-use Rattle.standing.specs.Shown.{lineShown, markShown}
-use Rattle.standing.specs.Standing.{snakesOf, endsBy, moved, endText}
+use Rattle.standing.specs.Shown.{lineShown}
+use Rattle.standing.specs.Standing.{fresh, snakesOf, endsBy, moved, endText}
 use Rattle.printing.specs.Text.{lineText, refusalText, Wrote}
 use Rattle.parsing.specs.declared.First.{First}
 use Rattle.parsing.specs.declared.First.the-variants.{NoFirst, Opens}
@@ -37,10 +37,6 @@ pub record Turn : Type 0 where
   pub text : List ℕ
 
 -- ---- the first line
-
--- a match that has just begun
-abbrev pub fresh : Setting → Match
-fresh s = record { setting = s; moves = 0; deaths = replicate 8 0; behind = replicate 8 false; over = false }
 
 abbrev pub opened : Setting → State → Turn
 opened s t = record {
@@ -80,10 +76,6 @@ movedTurn m o =
       game = moved m (o .terminal) es;
       text = lineText 109 (o .terminal) (o .next) (marked (o .next) es if endsBy m (o .terminal) else es);
     }
-
--- the same events, by the words of the image
-abbrev pub eventsShown : Match → Bool → List ℕ → List Event → List Event
-eventsShown m over w es = filled (markShown w es) (snakesIn w) 8 blank if endsBy m over else es
 
 -- ---- a line after the first: '33 comes before 32, 32 before the call's own'
 

@@ -6,7 +6,7 @@ use crate::turns::turn;
 use printing::put_refusal;
 use rules::Limit;
 use rules::Setting;
-use standing::Match;
+use standing::new_match;
 use standing::put_end;
 ghost use mathlib.Core.Path.{_≡_};
 ghost use mathlib.Core.Bool.{false};
@@ -28,13 +28,7 @@ pub fn new_desk() -> Desk
         initial_food_count: 0,
         max_ticks: Limit::Unset,
     };
-    let game = Match {
-        setting,
-        moves: 0,
-        deaths: [0u64; 8],
-        behind: [false; 8],
-        over: false,
-    };
+    let game = new_match(setting);
     Desk {
         begun: false,
         game,

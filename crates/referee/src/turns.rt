@@ -13,8 +13,8 @@ use rules::Event;
 use rules::Setting;
 use standing::Match;
 use standing::after_move;
-use standing::ends_by;
-use standing::mark_all;
+use standing::events_shown;
+use standing::new_match;
 use standing::put_line;
 use standing::snakes_of;
 ghost use mathlib.Core.Path.{_≡_};
@@ -23,21 +23,9 @@ ghost use lib.ListN.{length};
 ghost use Rattle.rules.specs.Image.{snakesIn};
 ghost use Rattle.rules.specs.Says.{says, seen};
 ghost use Rattle.rules.specs.Calls.{initialSays, stepSays, drawSays};
-ghost use Rattle.referee.specs.Match.{fresh, opened, drawnTurn, eventsShown, movedTurn, asked, beginSays, turnSays, refusalIn, Plays, Stops, Shows};
+ghost use Rattle.referee.specs.Match.{opened, drawnTurn, movedTurn, asked, beginSays, turnSays, refusalIn, Plays, Stops, Shows};
+ghost use Rattle.standing.specs.Shown.{eventsShown};
 ghost use Rattle.standing.specs.Standing.{moved, snakesOf};
-
-// A match that has just begun.
-fn fresh_match(setting: Setting) -> Match
-    ensures { λ r. ⌜ r ≡ fresh setting ⌝ }
-{
-    Match {
-        setting,
-        moves: 0,
-        deaths: [0u64; 8],
-        behind: [false; 8],
-        over: false,
-    }
-}
 
 // The number of a refusal.
 fn number_of(a: Answer) -> u64
@@ -85,18 +73,6 @@ fn show(
     }
 }
 
-// The events that a move's line shows: the living marked y where max_ticks ends the match.
-fn events_of(m: Match, over: bool, image: &[u16], events: [Event; 8]) -> [Event; 8]
-    requires { ⌜ snakesIn (now image) ≤ 8 ⌝ }
-    ensures { λ r. ⌜ r ≡ eventsShown m over (now (image .entry)) events ⌝ }
-{
-    if ends_by(m, over) {
-        let n = word_at(image, 0) as usize;
-        return mark_all(image, events, n);
-    }
-    events
-}
-
 // The first line's setting; m stands for the match where it is refused.
 fn open(m: Match, setting: Setting, next: &mut [u16], out: &mut [u8]) -> Turned
     requires { ⌜ 462 ≤ length (now out) ⌝ }
@@ -107,7 +83,7 @@ fn open(m: Match, setting: Setting, next: &mut [u16], out: &mut [u8]) -> Turned
         return stop(m, out, number_of(answer));
     };
     show(
-        fresh_match(setting),
+        new_match(setting),
         b'i',
         false,
         &next[0..words],
@@ -140,7 +116,7 @@ fn show_move(m: Match, over: bool, image: &[u16], events: [Event; 8], out: &mut 
     requires { ⌜ (snakesIn (now image) ≤ 8) × (462 ≤ length (now out)) ⌝ }
     ensures { λ r. ⌜ Shows (moved m over events) 109 over (now (image .entry)) (eventsShown m over (now (image .entry)) events) (now (out .entry)) (now (out .exit)) r ⌝ }
 {
-    let shown = events_of(m, over, image, events);
+    let shown = events_shown(m, over, image, events);
     let game = after_move(m, over, events);
     show(game, b'm', over, image, shown, out)
 }

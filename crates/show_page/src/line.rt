@@ -8,7 +8,6 @@ use page_file::put_entry;
 use referee::Desk;
 use rules::Answer;
 use rules::Setting;
-use standing::Match;
 ghost use Prim.Native.Nat.{_≤_};
 ghost use lib.ListN.{length};
 
@@ -83,13 +82,8 @@ fn put_turn(setting: Setting, moves: u64, past: &mut [u16], len: usize, image: &
     let mut list = [0u16; 1024];
     let mut out = [0u8; 512];
     let k = put_entry(&mut line, &past[0..len], image);
-    let game = Match {
-        setting,
-        moves,
-        deaths: [0u64; 8],
-        behind: [false; 8],
-        over: false,
-    };
+    let mut game = standing::new_match(setting);
+    game.moves = moves;
     let desk = Desk {
         begun: true,
         game,

@@ -9,8 +9,9 @@ use Rattle.lists.specs.Below.{filled}
 use Rattle.lists.proofs.Below.{filled-none, filled-more}
 use Rattle.rules.specs.Events.{blank}
 use Rattle.rules.specs.declared.Event.{Event}
-use Rattle.standing.specs.Placings.{placingOf, endPlacing}
-use Rattle.standing.specs.Standing.{lostAlive, behindAt, behindAfter}
+use Rattle.standing.specs.Placings.{placingOf, endPlacing, placingsOf}
+use Rattle.standing.specs.Standing.{snakesOf, lostAlive, behindAt, behindAfter, placesOf}
+use Rattle.standing.specs.declared.Match.{Match}
 
 -- ---- the first i snakes noted
 
@@ -42,3 +43,7 @@ module _ (n : ℕ) (deaths : List ℕ) (behind : List Bool) (i : ℕ) where
   pub placed-else : getD behind i false ≡ false → (r : ℕ) → r ≡ placingOf n deaths i → r ≡ endPlacing n deaths behind i
   unfolding endPlacing
   placed-else e r p = rw (e, p)
+
+-- the placings of a match
+pub placed-all : (m : Match) (n : ℕ) → n ≡ snakesOf m → (r : List ℕ) → r ≡ placingsOf n (m .deaths) (m .behind) → r ≡ placesOf m
+placed-all m n p r q = rw (q, p)

@@ -1,6 +1,7 @@
--- What the words of an image show: a body's first word, a snake's part of a line, the events marked. Assumes nothing.
+-- What the words of an image show: a body's first word, a snake's part of a line, the events marked; the last line. Assumes nothing.
 use Prim.Native.Nat.{ℕ, _+_, _*_, _≤_, _<_}
 use mathlib.Core.Path.{_≡_, ap, _∙_}
+use mathlib.Core.Bool.{Bool, true, false}
 use mathlib.Core.List.{List, [], _∷_}
 use native.Mathlib.Omega.{arith}
 use lib.Dec.{eqb}
@@ -11,9 +12,11 @@ use Rattle.rules.specs.Events.{blank}
 use Rattle.rules.specs.Image.{word, lengthAt, aliveAt, startAt}
 use Rattle.rules.specs.Turns.{truncated}
 use Rattle.rules.specs.declared.Event.{Event}
-use Rattle.printing.specs.Text.{Wrote, bodyText, eventsText}
+use Rattle.printing.specs.Text.{Wrote, bodyText, eventsText, placingsText}
 use Rattle.printing.proofs.Writing.{both}
-use Rattle.standing.specs.Shown.{snakeShown, markShown}
+use Rattle.standing.specs.Shown.{snakeShown, markShown, eventsShown}
+use Rattle.standing.specs.Standing.{few, snakesOf, endsBy, placesOf, endText}
+use Rattle.standing.specs.declared.Match.{Match}
 
 -- ---- a snake's part of the line
 
@@ -53,3 +56,19 @@ module _ (w : List ℕ) (es : List Event) (n : ℕ) where
 
     pub marked-all : n ≤ i → out ≡ filled (markShown w es) n 8 blank
     marked-all h = let e : i ≡ n = omega (arith, m .within) in rw e at (m .table)
+
+-- ---- a move's events: marked where max_ticks ends the match
+
+module _ (m : Match) (over b : Bool) (w : List ℕ) (es : List Event) (p : b ≡ endsBy m over) where
+  pub events-marked : b ≡ true → (n k : ℕ) → k ≡ getD w 0 0 → n ≡ few k → (r : List Event) → r ≡ filled (markShown w es) n 8 blank → r ≡ eventsShown m over w es
+  events-marked q n k pk pn r pr = rw (← p, q, pr, pn, pk)
+
+  pub events-kept : b ≡ false → es ≡ eventsShown m over w es
+  events-kept q = rw (← p, q)
+
+-- ---- the last line
+
+pub end-written : (m : Match) (n : ℕ) → n ≡ snakesOf m → (all : List ℕ) → all ≡ placesOf m
+    → (d d₁ : List ℕ) (r : ℕ) → Wrote d d₁ 0 r (placingsText all n) 170 → Wrote d d₁ 0 r (endText m) 170
+unfolding endText
+end-written m n p all q d d₁ r x = rw (← q, ← p) x

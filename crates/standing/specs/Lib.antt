@@ -1,3 +1,4 @@
+pub mod Calls
 pub mod Placings
 pub mod Shown
 pub mod Standing

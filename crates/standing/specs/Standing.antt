@@ -4,20 +4,28 @@ use Prim.Native.Nat.{ℕ, _+_}
 use mathlib.Core.Bool.{Bool, false, not, _&&_, _||_}
 use mathlib.Core.List.{List}
 use lib.Dec.{ltb, leb}
-use lib.ListN.{getD}
+use lib.ListN.{getD, replicate}
 use Rattle.lists.specs.Choice.{_if_else_}
 use Rattle.lists.specs.Below.{filled}
 use Rattle.rules.specs.Events.{blank}
 use Rattle.rules.specs.declared.Limit.{Limit}
 use Rattle.rules.specs.declared.Limit.the-variants.{Unset, Is}
 use Rattle.rules.specs.declared.Event.{Event}
+use Rattle.rules.specs.declared.Setting.{Setting}
 use Rattle.printing.specs.Text.{placingsText}
 use Rattle.standing.specs.Placings.{placingsOf}
 use Rattle.standing.specs.declared.Match.{Match}
 
--- no accepted setting has more than eight snakes
+-- a match that has just begun
+abbrev pub fresh : Setting → Match
+fresh s = record { setting = s; moves = 0; deaths = replicate 8 0; behind = replicate 8 false; over = false; timeout = false }
+
+-- what a table of eight holds; no accepted setting has more than eight snakes
+abbrev pub few : ℕ → ℕ
+few n = 8 if ltb 8 n else n
+
 abbrev pub snakesOf : Match → ℕ
-snakesOf m = 8 if ltb 8 (m .setting .«num_snakes») else m .setting .«num_snakes»
+snakesOf m = few (m .setting .«num_snakes»)
 
 -- one move more; 2^64 - 1 of them are never made
 abbrev pub counted : ℕ → ℕ
@@ -57,8 +65,13 @@ moved m over es = record {
   deaths = deathsAfter (counted (m .moves)) (m .deaths) es;
   behind = behindAfter es;
   over = over || endsBy m over;
+  timeout = endsBy m over;
 }
+
+-- 'each place'; what stands there before the end is no match's result
+abbrev pub placesOf : Match → List ℕ
+placesOf m = placingsOf (snakesOf m) (m .deaths) (m .behind)
 
 -- '`p` and each place'
 unfoldable pub endText : Match → List ℕ
-endText m = placingsText (placingsOf (snakesOf m) (m .deaths) (m .behind)) (snakesOf m)
+endText m = placingsText (placesOf m) (snakesOf m)

@@ -1,33 +1,34 @@
-// The match as a value: what a move makes of it, which events its line shows, and its last line.
+// The match as a value: what a move makes of it, and which events its line shows.
 use crate::Match;
-use crate::placings::placings;
 use events::mark;
 use events::no_events;
 use layout::alive_at;
 use lists::word_at;
-use printing::put_placings;
 use rules::Event;
 use rules::Limit;
 ghost use mathlib.Core.Path.{_≡_};
 ghost use Prim.Native.Nat.{_<_, _≤_};
-ghost use lib.ListN.{length};
 ghost use Rattle.lists.specs.Choice.{_if_else_};
 ghost use Rattle.lists.specs.Below.{filled};
 ghost use Rattle.rules.specs.Events.{blank};
-ghost use Rattle.printing.specs.Text.{Wrote};
-ghost use Rattle.standing.specs.Shown.{markShown};
-ghost use Rattle.standing.specs.Standing.{snakesOf, counted, reached, endsBy, deathsAfter, lostAlive, behindAfter, moved, endText};
+ghost use Rattle.standing.specs.Shown.{markShown, eventsShown};
+ghost use Rattle.standing.specs.Standing.{few, snakesOf, counted, reached, endsBy, deathsAfter, lostAlive, behindAfter, moved};
+
+fn at_most_eight(n: u64) -> usize
+    ensures { λ r. ⌜ (r ≡ few n) × (r ≤ 8) ⌝ }
+{
+    if 8 < n {
+        return 8;
+    }
+    n as usize
+}
 
 // At most eight, as every accepted setting has.
 pub fn snakes_of(m: Match) -> usize
     ensures { λ r. ⌜ (r ≡ snakesOf m) × (r ≤ 8) ⌝ }
 {
     let s = m.setting;
-    let n = s.num_snakes;
-    if 8 < n {
-        return 8;
-    }
-    n as usize
+    at_most_eight(s.num_snakes)
 }
 
 // One move more; 2^64 - 1 of them are never made.
@@ -50,7 +51,7 @@ fn has_reached(limit: Limit, k: u64) -> bool
 }
 
 // Whether a move ends the match by max_ticks.
-pub fn ends_by(m: Match, over: bool) -> bool
+fn ends_by(m: Match, over: bool) -> bool
     ensures { λ r. ⌜ r ≡ endsBy m over ⌝ }
 {
     let s = m.setting;
@@ -59,7 +60,7 @@ pub fn ends_by(m: Match, over: bool) -> bool
 }
 
 // The events of n snakes, the living marked y.
-pub fn mark_all(image: &[u16], events: [Event; 8], n: usize) -> [Event; 8]
+fn mark_all(image: &[u16], events: [Event; 8], n: usize) -> [Event; 8]
     requires { ⌜ n ≤ 8 ⌝ }
     ensures { λ r. ⌜ r ≡ filled (markShown (now (image .entry)) events) n 8 blank ⌝ }
 {
@@ -71,6 +72,17 @@ pub fn mark_all(image: &[u16], events: [Event; 8], n: usize) -> [Event; 8]
         i += 1;
     }
     out
+}
+
+// The events that a move's line shows: the living marked y where max_ticks ends the match.
+pub fn events_shown(m: Match, over: bool, image: &[u16], events: [Event; 8]) -> [Event; 8]
+    ensures { λ r. ⌜ r ≡ eventsShown m over (now (image .entry)) events ⌝ }
+{
+    if ends_by(m, over) {
+        let n = at_most_eight(word_at(image, 0));
+        return mark_all(image, events, n);
+    }
+    events
 }
 
 fn death_of(k: u64, old: u64, e: Event) -> u64
@@ -122,23 +134,13 @@ pub fn after_move(m: Match, over: bool, events: [Event; 8]) -> Match
     let deaths = deaths_after(k, old, events);
     let behind = behind_after(events);
     let setting = m.setting;
+    let timeout = ends_by(m, over);
     Match {
         setting,
         moves: k,
         deaths,
         behind,
-        over: over | ends_by(m, over),
+        over: over | timeout,
+        timeout,
     }
-}
-
-// The last line: the placings.
-pub fn put_end(out: &mut [u8], m: Match) -> usize
-    requires { ⌜ 170 ≤ length (now out) ⌝ }
-    ensures { λ r. ⌜ Wrote (now (out .entry)) (now (out .exit)) 0 r (endText m) 170 ⌝ }
-{
-    let n = snakes_of(m);
-    let deaths = m.deaths;
-    let behind = m.behind;
-    let all = placings(deaths, behind, n);
-    put_placings(out, all, n)
 }

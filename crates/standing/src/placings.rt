@@ -1,9 +1,12 @@
 // The placings at the end of a match.
+use crate::Match;
+use crate::moves::snakes_of;
 use lists::more_if;
 ghost use mathlib.Core.Path.{_≡_};
 ghost use Prim.Native.Nat.{_<_, _≤_};
 ghost use Rattle.lists.specs.Below.{countBelow};
 ghost use Rattle.standing.specs.Placings.{outlives, outlasts, placingOf, endPlacing, placingsOf};
+ghost use Rattle.standing.specs.Standing.{placesOf};
 
 // Whether a snake is alive, or died on a later move than d.
 fn does_outlive(d: u64, x: u64) -> bool
@@ -48,7 +51,7 @@ fn end_placing(deaths: [u64; 8], behind: [bool; 8], n: usize, i: usize) -> u64
 }
 
 // The placings of n snakes, by the moves on which they died, 0 for the living, and by who lost and lives.
-pub fn placings(deaths: [u64; 8], behind: [bool; 8], n: usize) -> [u64; 8]
+fn placings(deaths: [u64; 8], behind: [bool; 8], n: usize) -> [u64; 8]
     requires { ⌜ n ≤ 8 ⌝ }
     ensures { λ r. ⌜ r ≡ placingsOf n deaths behind ⌝ }
 {
@@ -59,4 +62,13 @@ pub fn placings(deaths: [u64; 8], behind: [bool; 8], n: usize) -> [u64; 8]
         i += 1;
     }
     out
+}
+
+// The places of a match, over or not; 0 from its number of snakes on.
+pub fn places(m: Match) -> [u64; 8]
+    ensures { λ r. ⌜ r ≡ placesOf m ⌝ }
+{
+    let deaths = m.deaths;
+    let behind = m.behind;
+    placings(deaths, behind, snakes_of(m))
 }

@@ -1,4 +1,7 @@
-// An output line of the words of an image. Words past its end read as 0, so that nothing is asked of the image.
+// An output line of the words of an image, and the last line. Words past its end read as 0, so that nothing is asked of the image.
+use crate::Match;
+use crate::moves::snakes_of;
+use crate::placings::places;
 use layout::alive_at;
 use layout::length_at;
 use layout::start_at;
@@ -7,6 +10,7 @@ use printing::put;
 use printing::put_body;
 use printing::put_events;
 use printing::put_head;
+use printing::put_placings;
 use rules::Event;
 ghost use mathlib.Core.Path.{_≡_};
 ghost use Prim.Native.Nat.{_+_, _*_, _<_, _≤_};
@@ -15,6 +19,7 @@ ghost use Rattle.lists.specs.Below.{concatBelow};
 ghost use Rattle.rules.specs.Image.{word};
 ghost use Rattle.printing.specs.Text.{Wrote};
 ghost use Rattle.standing.specs.Shown.{snakeShown, snakeShownBy, lineShown};
+ghost use Rattle.standing.specs.Standing.{endText};
 
 // The first word of the body of snake i.
 fn first_of(image: &[u16], i: usize) -> u64
@@ -67,4 +72,14 @@ pub fn put_line(
     let i = put_head(out, 0, letter, over, due, food);
     let j = put_snakes(out, i, image, events, n);
     put(out, j, b'\n')
+}
+
+// The last line: the places.
+pub fn put_end(out: &mut [u8], m: Match) -> usize
+    requires { ⌜ 170 ≤ length (now out) ⌝ }
+    ensures { λ r. ⌜ Wrote (now (out .entry)) (now (out .exit)) 0 r (endText m) 170 ⌝ }
+{
+    let n = snakes_of(m);
+    let all = places(m);
+    put_placings(out, all, n)
 }

@@ -57,6 +57,9 @@ pub use Rattle.theorems.proofs.Lead.{living-lost, lost-to-lead, lead-te
 -- Document 02, wish 3: exactly the matches that the lead ends have another `p` line, 1 for the winner and 2 for the other; the dead stand where they stood
 pub use Rattle.theorems.specs.Lead.{Reached, Ending, Placed}
 pub use Rattle.theorems.proofs.Placings.{replay-ends, places-by-lead}
+-- A match as a value: what the replay makes of a line is what a server's calls make of it, refusals, marked events, the end and the places included
+pub use Rattle.theorems.specs.Server.{servedBy, Served}
+pub use Rattle.theorems.proofs.Server.{move-served, over-served, line-served, places-served, replay-served, one-taken}
 -- Tightness: two answers that meet one promise are equal, and so are the lent buffers
 pub use Rattle.rules.proofs.Answers.{one-turn, one-check, one-verdict, one-start, one-step, one-view, one-count, one-draw, one-rank, one-actor, one-legal, one-key, one-truncation, one-reward, one-space, one-action-space, one-body}
 -- Tightness: two parts that the body query may hand back have equal words at one address

@@ -28,6 +28,9 @@ pub const ALL: &[(&str, fn())] = &[
     ("events_as_letters", events_as_letters),
     ("actions_by_number", actions_by_number),
     ("settings_as_keys", settings_as_keys),
+    ("match_by_the_lead", match_by_the_lead),
+    ("match_at_max_ticks", match_at_max_ticks),
+    ("any_match", any_match),
 ];
 
 struct Snake<'a> {
@@ -664,14 +667,14 @@ fn sentences() {
     let _: &dyn std::error::Error = &refusal;
     for number in 1..=u8::MAX {
         let refusal = Refusal::from_number(number).expect("not 0");
-        let named = [1..=6, 8..=12, 20..=31, 40..=42, 80..=81]
+        let named = [1..=6, 8..=12, 20..=31, 33..=33, 40..=42, 80..=81]
             .iter()
             .any(|numbers| numbers.contains(&number));
         assert_eq!(refusal.number(), number);
         assert_eq!(Refusal::ALL.contains(&refusal), named);
         assert_eq!(refusal == Refusal::Unnamed(number), !named);
     }
-    assert_eq!((Refusal::from_number(0), Refusal::ALL.len()), (None, 28));
+    assert_eq!((Refusal::from_number(0), Refusal::ALL.len()), (None, 29));
 }
 
 fn boards() {
@@ -765,4 +768,61 @@ fn settings_as_keys() {
     }
     assert_eq!(matches.len(), 2);
     assert_eq!(matches[&setting(2, 5, 1, 0)], 2);
+}
+
+// The second snake is longer by the lead.
+fn match_by_the_lead() {
+    let led = Setting {
+        win_food_lead: Some(2),
+        ..setting(2, 5, 1, 0)
+    };
+    let before = image(5, 0, 0, &[alive(1, &[6]), alive(1, &[18, 17, 16])], &[]);
+    let mut game = Match::default();
+    let mut step = before.step(&led, &[Forward, Forward]).expect("a step");
+    assert_eq!(game.take_move(&led, &mut step), Ok(()));
+    assert_eq!((game.moves, game.ending()), (1, Some(Ending::Lead)));
+    assert_eq!(game.behind[..3], [true, false, false]);
+    assert_eq!(game.places(&led), [2, 1]);
+}
+
+fn match_at_max_ticks() {
+    let short = Setting {
+        max_ticks: Some(2),
+        ..setting(2, 5, 1, 0)
+    };
+    let (mut now, mut game) = (short.initial_state().expect("a start"), Match::default());
+    for last in [false, true] {
+        let mut step = now.step(&short, &[Forward, Forward]).expect("a step");
+        assert_eq!(
+            (game.take_move(&short, &mut step), step.terminal),
+            (Ok(()), false)
+        );
+        assert!(step.events.iter().all(|e| e.survived_to_max_ticks == last));
+        now = step.next;
+    }
+    assert_eq!((game.moves, game.ending()), (2, Some(Ending::MaxTicks)));
+    assert_eq!((game.places(&short), game.deaths), (vec![1, 1], [0; 8]));
+    let mut past = now.step(&short, &[Forward, Forward]).expect("a step");
+    let kept = (game, past.clone());
+    assert_eq!(game.take_move(&short, &mut past), Err(Refusal::Over));
+    assert_eq!((game, past), kept);
+}
+
+// Any value is read.
+fn any_match() {
+    let three = setting(3, 5, 1, 0);
+    let mut game = Match {
+        moves: u64::MAX,
+        ..Match::default()
+    };
+    game.deaths[..2].copy_from_slice(&[u64::MAX, 3]);
+    assert_eq!(game.places(&three), [2, 3, 1]);
+    let no_image = Image::unchecked(vec![9; 3]);
+    let marked = game.take(&three, false, &no_image, [Event::default(); 8]);
+    assert_eq!((marked, game.moves), (Ok([Event::default(); 8]), u64::MAX));
+    assert_eq!(
+        game.places(&setting(u64::MAX, 5, 1, 0)),
+        [7, 8, 1, 1, 1, 1, 1, 1]
+    );
+    assert_eq!(Match::default().places(&setting(0, 5, 1, 0)), []);
 }
