@@ -2,6 +2,7 @@ pub mod Refusals
 pub mod Eaten
 pub mod Lead
 pub mod Placings
+pub mod Struck
 pub mod Longest
 pub mod Definitions
 pub mod Books
