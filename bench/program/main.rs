@@ -1,10 +1,11 @@
 //! The bench: the published Rust and the port in one process, asked the same on the same states. bench/run counts its
-//! instructions from outside; nothing is timed.
+//! instructions from outside; then the program times both itself.
 //!
 //! bench check                          both give the same answers on every state, or what differs
 //! bench plan SEEDS                     the cases to count, a line each: side call state seed calls
 //! bench run SIDE CALL STATE SEED CALLS a warm-up and so many calls
 //! bench tables < FILE                  the tables, from the plan's lines with two counts each
+//! bench seconds                        both timed, turn by turn: the table
 //! bench states                         the images, a line each: name, food due, words
 #![no_main]
 
@@ -14,6 +15,7 @@ mod plan;
 mod port;
 mod rust;
 mod same;
+mod seconds;
 #[allow(dead_code)]
 #[path = "../../target/oracle/published/crates/reinfors-games/src/snake.rs"]
 mod snake;
@@ -57,6 +59,10 @@ fn asked(words: &[&str]) -> i32 {
                 return 2;
             }
             tables::print(&tables::Counts::read(&text));
+            0
+        }
+        ["seconds"] => {
+            seconds::print();
             0
         }
         ["states"] => {

@@ -8,7 +8,7 @@ pub const PORT: [&str; 13] = [
     "seeall",
 ];
 /// What the Rust has no call for: the check of an image, and ranking.
-const PORT_ALONE: [&str; 3] = ["well", "rank1", "rankk"];
+pub const PORT_ALONE: [&str; 3] = ["well", "rank1", "rankk"];
 /// The Rust's calls that neither build nor read a hash table's order.
 const SEEDLESS: [&str; 4] = ["initial", "see0", "seeall", "clone"];
 pub const FLOORS: [&str; 3] = ["copy", "pass", "words"];

@@ -55,10 +55,8 @@ pub fn image(s: &SnakeState, side: u16) -> Vec<u16> {
     words
 }
 
-/// An event as the header's one number.
-pub fn event(e: &StepEvent) -> u16 {
-    let flags = [e.ate_food, e.died, e.killed_opponent, e.won, e.lost, e.drew, e.survived_to_max_ticks];
-    let bits = flags.iter().enumerate().map(|(i, &f)| u16::from(f) << i).sum::<u16>();
+/// An event as the header's bytes.
+pub fn event(e: &StepEvent) -> [u8; 8] {
     let cause = match e.death_cause {
         None => 0,
         Some(DeathCause::Wall) => 1,
@@ -66,5 +64,7 @@ pub fn event(e: &StepEvent) -> u16 {
         Some(DeathCause::OppBody) => 3,
         Some(DeathCause::HeadOn) => 4,
     };
-    bits + 256 * cause
+    let [ate, died, killed, won, lost, drew, survived] =
+        [e.ate_food, e.died, e.killed_opponent, e.won, e.lost, e.drew, e.survived_to_max_ticks].map(u8::from);
+    [ate, died, cause, killed, won, lost, drew, survived]
 }

@@ -25,28 +25,28 @@ impl Tally {
 
 fn settings(t: &mut Tally, name: &str, s: &Setting) {
     let accepted = rust::game(s).validate().is_ok();
-    t.same(&format!("validate, {name}"), port::validate(port::setting(s)) == 0, accepted);
+    t.same(&format!("validate, {name}"), port::validate(&port::setting(s)) == 0, accepted);
     if !accepted {
         return;
     }
     let mut out = vec![0; port::IMAGE_WORDS];
-    let answer = port::initial_state(port::setting(s), &mut out);
+    let words = port::initial_state(&port::setting(s), &mut out);
     let wanted = rust::image(&rust::game(s).initial_state(), s.grid_size as u16);
-    t.same(&format!("initial_state, {name}"), &out[..answer.words], &wanted[..]);
+    t.same(&format!("initial_state, {name}"), &out[..words], &wanted[..]);
 }
 
 fn steps(t: &mut Tally, s: &State, actions: &[u64], dead: usize) {
-    let (mut out, mut events) = (vec![0; port::IMAGE_WORDS], vec![9; 8]);
-    let answer = port::step(port::setting(&s.setting), &s.image(0), actions, &mut out, &mut events);
+    let (mut out, mut events) = (vec![0; port::IMAGE_WORDS], [[9; 8]; 8]);
+    let [words, terminal] = port::step(&port::setting(&s.setting), &s.image(0), actions, &mut out, &mut events);
     let numbers: Vec<usize> = actions.iter().map(|&a| a as usize).collect();
     let moved = rust::game(&s.setting).step(&rust::state(s, 0), &numbers);
-    let mut wanted: Vec<u16> = moved.events.iter().map(|e| rust::event(e.as_ref().expect("an event each"))).collect();
-    wanted.resize(8, 0);
+    let mut wanted: Vec<[u8; 8]> = moved.events.iter().map(|e| rust::event(e.as_ref().expect("an event each"))).collect();
+    wanted.resize(8, [0; 8]);
     let what = format!("step {actions:?}, {}", s.name);
-    t.same(&what, &out[..answer.words], &rust::image(&moved.next_state, s.side)[..]);
-    t.same(&what, answer.terminal, moved.terminal);
-    t.same(&what, &events, &wanted);
-    let died = events.iter().filter(|&&e| e & 2 == 2).count();
+    t.same(&what, &out[..words as usize], &rust::image(&moved.next_state, s.side)[..]);
+    t.same(&what, terminal, u64::from(moved.terminal));
+    t.same(&what, &events[..], &wanted[..]);
+    let died = events.iter().filter(|e| e[1] == 1).count();
     t.same(&format!("{what}: deaths, and what the table says"), died, dead);
 }
 
@@ -77,22 +77,22 @@ fn draws(t: &mut Tally, s: &State, due: u16) {
     let state = rust::state(s, due);
     let what = format!("{due} due, {}", s.name);
     let ChanceDist::Uniform(count) = game.chance_node(&state) else { panic!("a count") };
-    t.same(&format!("count, {what}"), port::count(&image).value, count as u64);
+    t.same(&format!("count, {what}"), port::count(&image), count as u64);
     let (mut out, mut list) = (vec![0; port::IMAGE_WORDS], vec![0; port::LIST_WORDS]);
-    let answer = port::draw(&image, index, &mut out, &mut list);
+    let [words, cells] = port::draw(&image, index, &mut out, &mut list);
     let wanted = rust::image(&game.apply_chance_node(&state, index as usize).next_state, s.side);
-    t.same(&format!("draw, {what}"), &out[..answer.words], &wanted[..]);
-    t.same(&format!("cells drawn, {what}"), &list[..answer.cells], &drawn_cells(&game, s, due)[..]);
-    t.same(&format!("rank, {what}"), port::rank(&image, &list[..answer.cells]).value, index);
+    t.same(&format!("draw, {what}"), &out[..words], &wanted[..]);
+    t.same(&format!("cells drawn, {what}"), &list[..cells], &drawn_cells(&game, s, due)[..]);
+    t.same(&format!("rank, {what}"), port::rank(&image, &list[..cells]), index);
 }
 
 fn views(t: &mut Tally, s: &State) {
     let (image, state) = (s.image(0), rust::state(s, 0));
     for agent in 0..s.snakes.len() {
         let mut obs = vec![0.5; port::PLANE_NUMBERS];
-        let answer = port::observe(&image, agent as u64, &mut obs);
+        let numbers = port::observe(&image, agent as u64, &mut obs);
         let wanted = egocentric_parts(&state.snakes, &state.food, i32::from(s.side), agent);
-        t.same(&format!("observation of {agent}, {}", s.name), &obs[..answer.words], &wanted[..]);
+        t.same(&format!("observation of {agent}, {}", s.name), &obs[..numbers], &wanted[..]);
     }
 }
 
@@ -106,13 +106,13 @@ fn all_of(t: &mut Tally, s: &State) {
 /// A book is held against one that the bench makes itself.
 fn book(t: &mut Tally, b: &books::Book) {
     let mut out = vec![0; b.words() + 1];
-    let answer = port::write_book(port::setting(&b.setting), b.pages as u64, &b.row(), &mut out);
+    let words = port::write_book(&port::setting(&b.setting), b.pages as u64, &b.row(), &mut out);
     let made = b.made();
-    t.same(&format!("write_book, {}", b.name), &out[..answer.words], &made[..]);
+    t.same(&format!("write_book, {}", b.name), &out[..words], &made[..]);
     for page in [0, b.middle(), b.pages as u64 - 1] {
         let found = port::page(&made, page);
         let what = format!("page {page}, {}", b.name);
-        t.same(&what, (found.refusal, found.start, found.len), (0, b.start(page), b.image.len()));
+        t.same(&what, found, [b.start(page), b.image.len()]);
     }
 }
 

@@ -58,7 +58,7 @@ fn whole(x: f64) -> String {
     }
 }
 
-fn share(x: f64) -> String {
+pub fn share(x: f64) -> String {
     if x < 0.1 {
         format!("{x:.3}")
     } else {
@@ -66,11 +66,11 @@ fn share(x: f64) -> String {
     }
 }
 
-fn row(title: &str, cells: impl Iterator<Item = String>) {
+pub fn row(title: &str, cells: impl Iterator<Item = String>) {
     println!("| {title} | {} |", cells.collect::<Vec<_>>().join(" | "));
 }
 
-fn head(title: &str, columns: &[String]) {
+pub fn head(title: &str, columns: &[String]) {
     row(title, columns.iter().cloned());
     println!("|---|{}", "--:|".repeat(columns.len()));
 }
@@ -91,7 +91,7 @@ fn aim(call: &str, state: &str) -> Option<f64> {
     }
 }
 
-fn title(call: &str) -> (&'static str, &'static str) {
+pub fn title(call: &str) -> (&'static str, &'static str) {
     match call {
         "well" => ("`well_formed`", ""),
         "validate" => ("`validate`", "`validate`"),

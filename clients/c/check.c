@@ -1,5 +1,6 @@
-/* What a C caller can hand over and a typed one cannot: short events, bits and numbers that mean nothing, NaN. Prints the number of
- * checks, and fails at the first that does not hold. */
+/* What a C caller can hand over and a typed one cannot: flags that are neither 0 nor 1, grids that no 32 bits hold, causes that mean nothing, NaN; and
+ * that a refusal touches no lent memory. Prints the number of checks, and fails at the first that does not hold. */
+#include <math.h>
 #include <stdio.h>
 #include <stdlib.h>
 #include <string.h>
@@ -20,49 +21,101 @@ static void check(bool holds, int line) {
 /* Grid 3: a living snake on 4, heading up, and a dead one without a cell; food is due where the third word says so. */
 static uint16_t image[14] = {2, 3, 0, 0, 0, 13, 1, 0, 1, 14, 0, 0, 0, 4};
 
-static bool untouched(const uint16_t *words, size_t count) {
-    for (size_t i = 0; i < count; i++)
-        if (words[i] != 9) return false;
+/* Lent memory is filled with this byte, and a refusal leaves it so. */
+static bool untouched(const void *memory, size_t bytes) {
+    for (size_t i = 0; i < bytes; i++)
+        if (((const unsigned char *)memory)[i] != 9) return false;
     return true;
 }
 
-static void short_events(void) {
-    lundaspro_setting setting = {.num_snakes = 2, .grid_size = 3, .initial_length = 1};
-    uint64_t actions[2] = {0, 7};
-    uint16_t out[20], events[9];
-    for (int i = 0; i < 20; i++) out[i] = 9;
-    for (int i = 0; i < 9; i++) events[i] = 9;
-    for (size_t room = 0; room < 8; room++) {
-        lundaspro_stepped a = lundaspro_step(setting, image, 14, actions, 2, out, 20, events, room);
-        CHECK(a.refusal == 29 && !a.terminal && a.words == 0 && untouched(out, 20) && untouched(events, 9));
-        a = lundaspro_step(setting, image, 14, actions, 1, out, 20, events, room);
-        CHECK(a.refusal == 24 && untouched(out, 20) && untouched(events, 9));
-    }
+/* Every refusal of a step, in the table's order: number, and nothing is written. */
+static void refused_steps(void) {
+    uint64_t setting[9] = {2, 3, 1, 0, 0, 0, 0, 0, 0}, actions[2] = {0, 7}, end[2];
+    uint16_t out[20];
+    uint8_t events[64];
+    memset(end, 9, sizeof end), memset(out, 9, sizeof out), memset(events, 9, sizeof events);
+#define REFUSED(number, words, count, room) \
+    CHECK(lundaspro_flat_step(setting, image, words, actions, count, out, room, events, end) == number); \
+    CHECK(untouched(end, sizeof end) && untouched(out, sizeof out) && untouched(events, sizeof events))
+    REFUSED(29, 14, 2, 13);
+    REFUSED(24, 14, 1, 13);
     actions[0] = 3;
-    CHECK(lundaspro_step(setting, image, 14, actions, 2, out, 20, events, 7).refusal == 25);
+    REFUSED(25, 14, 2, 13);
     image[2] = 1;
-    CHECK(lundaspro_step(setting, image, 14, actions, 2, out, 20, events, 7).refusal == 22);
-    image[2] = 0;
-    setting.grid_size = 4;
-    CHECK(lundaspro_step(setting, image, 14, actions, 2, out, 20, events, 7).refusal == 21);
-    setting.initial_length = 0;
-    CHECK(lundaspro_step(setting, image, 13, actions, 2, out, 20, events, 7).refusal == 2);
-    setting.initial_length = 1;
-    CHECK(lundaspro_step(setting, image, 13, actions, 2, out, 20, events, 7).refusal == 20);
-    setting.grid_size = 3;
-    actions[0] = 0;
-    lundaspro_stepped a = lundaspro_step(setting, image, 14, actions, 2, out, 20, events, 8);
-    CHECK(a.refusal == 0 && a.terminal && a.words == 14 && out[13] == 1);
-    CHECK(untouched(out + 14, 6) && untouched(events + 8, 1));
-    for (int i = 0; i < 8; i++) CHECK(events[i] == 0);
+    REFUSED(22, 14, 2, 13);
+    image[2] = 0, setting[1] = 4;
+    REFUSED(21, 14, 2, 13);
+    REFUSED(20, 13, 2, 13);
+    setting[2] = 0;
+    REFUSED(2, 13, 2, 13);
+    setting[2] = 1, setting[1] = 3, actions[0] = 0;
+    CHECK(lundaspro_flat_step(setting, image, 14, actions, 2, out, 20, events, end) == 0);
+    CHECK(end[0] == 14 && end[1] == 1 && out[13] == 1 && untouched(out + 14, 12));
+    for (int i = 0; i < 64; i++) CHECK(events[i] == 0);
 }
 
-static void other_bits(void) {
+static void refused_others(void) {
+    uint64_t two[2], five[5], setting[9] = {2, 3, 1, 0, 0, 0, 0, 0, 0};
+    uint16_t words[20];
+    uint8_t event[8] = {0}, marked[8];
+    float planes[45], bounds[2];
+    double sum, weights[7] = {HUGE_VAL, 0, 0, 0, 0, 0, 0};
+    memset(two, 9, sizeof two), memset(five, 9, sizeof five), memset(words, 9, sizeof words), memset(marked, 9, sizeof marked);
+    memset(planes, 9, sizeof planes), memset(bounds, 9, sizeof bounds), memset(&sum, 9, sizeof sum);
+    CHECK(lundaspro_flat_well_formed(image, 13) == 20);
+    CHECK(lundaspro_flat_initial_state(setting, words, 14, two) == 29);
+    CHECK(lundaspro_flat_count(image, 14, two) == 23 && lundaspro_flat_rank(image, 14, words, 1, two) == 23);
+    CHECK(lundaspro_flat_draw(image, 14, 0, words, 10, words + 10, 10, two) == 23);
+    CHECK(lundaspro_flat_observe(image, 14, 0, planes, 44, two) == 29 && lundaspro_flat_observe(image, 14, 2, planes, 45, two) == 26);
+    CHECK(lundaspro_flat_length_cell(image, 13, two) == 20 && lundaspro_flat_actor(image, 13, two) == 20);
+    CHECK(lundaspro_flat_legal_actions(image, 14, 2, two) == 26 && lundaspro_flat_truncation(image, 14, 2, event, marked) == 26);
+    CHECK(lundaspro_flat_write_book(setting, 65536, image, 14, words, 20, two) == 42 && lundaspro_flat_page(image, 14, 0, two) == 40);
+    CHECK(lundaspro_flat_observation_space(33, five, bounds) == 5 && lundaspro_flat_reward(weights, event, &sum) == 31);
+    CHECK(untouched(two, sizeof two) && untouched(five, sizeof five) && untouched(words, sizeof words) && untouched(marked, sizeof marked));
+    CHECK(untouched(planes, sizeof planes) && untouched(bounds, sizeof bounds) && untouched(&sum, sizeof sum));
+}
+
+/* A flag is set where its number is not 0. */
+static void flags(void) {
+    uint64_t setting[9] = {2, 3, 1, 0, 0, 0, 0, 0, 0};
+    static const uint64_t set[] = {1, 2, 256, (uint64_t)1 << 32, UINT64_MAX};
+    CHECK(lundaspro_flat_validate(setting) == 0);
+    for (int i = 0; i < 5; i++) {
+        setting[4] = set[i];
+        CHECK(lundaspro_flat_validate(setting) == 3);
+    }
+    uint64_t actions[2] = {0, 0}, end[2] = {0, 0};
+    uint16_t out[14];
+    uint8_t events[64];
+    setting[4] = 0;
+    for (int i = 0; i < 5; i++) {
+        setting[3] = set[i];
+        CHECK(lundaspro_flat_step(setting, image, 14, actions, 2, out, 14, events, end) == 0 && end[1] == 0);
+    }
     lundaspro_weights weights = {.step = 1.0, .food = 2.0};
-    CHECK(lundaspro_reward(weights, 128 | LUNDASPRO_ATE_FOOD).sum == 3.0);
-    CHECK(lundaspro_truncation(image, 14, 0, 65535).event == 127);
-    CHECK(lundaspro_truncation(image, 14, 1, 128 + 256 * 5).event == 0);
-    CHECK(lundaspro_truncation(image, 14, 0, 256 * LUNDASPRO_HEAD_ON).event == 256 * LUNDASPRO_HEAD_ON + LUNDASPRO_SURVIVED_TO_MAX_TICKS);
+    lundaspro_event ate = {.ate_food = 255}, all = {2, 4, 9, 8, 16, 32, 64, 128}, cause = {.death_cause = LUNDASPRO_HEAD_ON};
+    CHECK(lundaspro_reward(weights, ate).sum == 3.0);
+    lundaspro_event a = lundaspro_truncation(image, 14, 0, all).event, b = lundaspro_truncation(image, 14, 1, all).event;
+    CHECK(a.ate_food == 1 && a.died == 1 && a.death_cause == LUNDASPRO_NO_CAUSE && a.killed_opponent == 1 && a.won == 1 && a.lost == 1 && a.drew == 1);
+    CHECK(a.survived_to_max_ticks == 1 && b.survived_to_max_ticks == 0 && b.drew == 1);
+    CHECK(lundaspro_truncation(image, 14, 1, cause).event.death_cause == LUNDASPRO_HEAD_ON);
+}
+
+/* A grid that no 32 bits hold is refused by 5, and is never wrapped into one that is accepted. */
+static void grids(void) {
+    uint64_t setting[9] = {2, 3, 1, 0, 0, 0, 0, 0, 0}, sizes[5];
+    float bounds[2];
+    static const uint64_t beyond[] = {((uint64_t)1 << 31), ((uint64_t)1 << 32) + 3, ((uint64_t)1 << 63) + 3, UINT64_MAX - ((uint64_t)1 << 31), (uint64_t)INT64_MIN};
+    for (int i = 0; i < 5; i++) {
+        setting[1] = beyond[i];
+        CHECK(lundaspro_flat_validate(setting) == 5 && lundaspro_flat_observation_space(beyond[i], sizes, bounds) == 5);
+    }
+    setting[1] = (uint64_t)-1;
+    CHECK(lundaspro_flat_validate(setting) == 10 && lundaspro_flat_observation_space((uint64_t)-1, sizes, bounds) == 5);
+    setting[6] = 1;
+    CHECK(lundaspro_flat_validate(setting) == 6);
+    setting[1] = (uint64_t)INT32_MIN;
+    CHECK(lundaspro_flat_validate(setting) == 6);
     CHECK(lundaspro_relative_to_absolute(255, 0) == LUNDASPRO_LEFT);
     CHECK(lundaspro_relative_to_absolute(0, 255) == LUNDASPRO_RIGHT);
 }
@@ -72,7 +125,7 @@ static void nan_weights(void) {
     for (int i = 0; i < 5; i++) {
         lundaspro_weights weights = {.step = 1.0};
         memcpy(&weights.kill, &patterns[i], 8);
-        lundaspro_sum a = lundaspro_reward(weights, 0);
+        lundaspro_sum a = lundaspro_reward(weights, (lundaspro_event){0});
         CHECK(a.refusal == 31 && a.sum == 0.0);
     }
 }
@@ -118,13 +171,13 @@ static void books(void) {
     row[14 + 13] = 8;
     size_t need = LUNDASPRO_BOOK_WORDS(2, 28);
     for (size_t room = 0; room < need; room++) {
-        for (int i = 0; i < 60; i++) book[i] = 9;
+        memset(book, 9, sizeof book);
         lundaspro_written short_of = lundaspro_write_book(setting, 2, row, 28, book, room);
-        CHECK(short_of.refusal == 29 && short_of.words == 0 && untouched(book, 60));
+        CHECK(short_of.refusal == 29 && short_of.words == 0 && untouched(book, sizeof book));
     }
     lundaspro_written a = lundaspro_write_book(setting, 2, row, 28, book, 60);
     static const uint16_t contents[21] = {1, 2, 3, 1, 0, 0, 0, 0, 0, 0, 0, 1, 1, 2, 3, 4, 2, 21, 0, 35, 0};
-    CHECK(a.refusal == 0 && a.words == need && untouched(book + need, 60 - need));
+    CHECK(a.refusal == 0 && a.words == need && untouched(book + need, 2 * (60 - need)));
     CHECK(memcmp(book, contents, sizeof contents) == 0 && memcmp(book + 21, row, sizeof row) == 0);
     lundaspro_page_answer p = lundaspro_page(book, need, 0), q = lundaspro_page(book, need, 1);
     CHECK(p.refusal == 0 && p.start == 21 && p.len == 14 && q.refusal == 0 && q.start == 35 && q.len == 14);
@@ -160,8 +213,10 @@ static void sentences(void) {
 }
 
 int main(void) {
-    short_events();
-    other_bits();
+    refused_steps();
+    refused_others();
+    flags();
+    grids();
     nan_weights();
     bodies();
     every_other_call();

@@ -5,7 +5,8 @@
 #include "lundaspro.h"
 
 static uint16_t image[LUNDASPRO_IMAGE_WORDS], next[LUNDASPRO_IMAGE_WORDS];
-static uint16_t events[LUNDASPRO_EVENT_WORDS], list[LUNDASPRO_LIST_WORDS];
+static uint16_t list[LUNDASPRO_LIST_WORDS];
+static lundaspro_event events[LUNDASPRO_EVENTS];
 static float planes[LUNDASPRO_PLANE_NUMBERS];
 static size_t words;
 
@@ -24,13 +25,15 @@ static void keep(size_t count) {
     for (size_t i = 0; i < count; i++) image[i] = next[i];
 }
 
-static void put_event(uint16_t event) {
-    static const uint16_t bits[] = {LUNDASPRO_KILLED_OPPONENT, LUNDASPRO_WON, LUNDASPRO_LOST, LUNDASPRO_DREW, LUNDASPRO_SURVIVED_TO_MAX_TICKS};
-    if (event == 0) putchar('-');
-    if (event & LUNDASPRO_ATE_FOOD) putchar('a');
-    if (LUNDASPRO_DEATH_CAUSE(event) != LUNDASPRO_NO_CAUSE) putchar(" WSOH"[LUNDASPRO_DEATH_CAUSE(event)]);
-    for (int i = 0; i < 5; i++)
-        if (event & bits[i]) putchar("kwlxy"[i]);
+static void put_event(lundaspro_event e) {
+    const uint8_t flags[] = {e.ate_food, e.death_cause, e.killed_opponent, e.won, e.lost, e.drew, e.survived_to_max_ticks};
+    const char letters[] = {'a', " WSOH"[e.death_cause], 'k', 'w', 'l', 'x', 'y'};
+    bool blank = true;
+    for (int i = 0; i < 7; i++) {
+        if (flags[i]) putchar(letters[i]);
+        blank = blank && !flags[i];
+    }
+    if (blank) putchar('-');
 }
 
 static char board[32 * 32];
@@ -85,14 +88,14 @@ static int draw(uint64_t index) {
     lundaspro_number rank = lundaspro_rank(image, words, list, drawn.cells);
     if (rank.refusal != 0 || rank.value != index) return 1;
     keep(drawn.words);
-    for (int i = 0; i < LUNDASPRO_EVENT_WORDS; i++) events[i] = 0;
+    for (int i = 0; i < LUNDASPRO_EVENTS; i++) events[i] = (lundaspro_event){0};
     show('d', false);
     return 0;
 }
 
 static int move(lundaspro_setting setting, uint64_t first, uint64_t second) {
     uint64_t actions[2] = {first, second};
-    lundaspro_stepped moved = lundaspro_step(setting, image, words, actions, 2, next, LUNDASPRO_IMAGE_WORDS, events, LUNDASPRO_EVENT_WORDS);
+    lundaspro_stepped moved = lundaspro_step(setting, image, words, actions, 2, next, LUNDASPRO_IMAGE_WORDS, events);
     if (moved.refusal != 0) return refused(moved.refusal);
     keep(moved.words);
     show('m', moved.terminal);

@@ -20,8 +20,16 @@ pub struct Drawn {
 
 /// Refusals 1 to 12, 29.
 pub fn initial_state(setting: &Setting, out: &mut [u16]) -> Result<usize, Refusal> {
-    let a = unsafe { raw::lundaspro_initial_state(setting.flat(), out.as_mut_ptr(), out.len()) };
-    Refusal::check(a.refusal).map(|()| a.words)
+    let mut written = [0];
+    Refusal::check(unsafe {
+        raw::lundaspro_flat_initial_state(
+            &setting.flat(),
+            out.as_mut_ptr(),
+            out.len(),
+            &mut written,
+        )
+    })?;
+    Ok(written[0] as usize)
 }
 
 /// Refusals 1 to 12, 20, 21, 22, 24, 25, 29.
@@ -31,32 +39,32 @@ pub fn step(
     actions: &[u64],
     out: &mut [u16],
 ) -> Result<Stepped, Refusal> {
-    let mut events = [0; 8];
-    let a = unsafe {
-        raw::lundaspro_step(
-            setting.flat(),
+    let (mut events, mut end) = ([[0; 8]; 8], [0; 2]);
+    Refusal::check(unsafe {
+        raw::lundaspro_flat_step(
+            &setting.flat(),
             image.as_ptr(),
             image.len(),
             actions.as_ptr(),
             actions.len(),
             out.as_mut_ptr(),
             out.len(),
-            events.as_mut_ptr(),
-            events.len(),
+            &mut events,
+            &mut end,
         )
-    };
-    Refusal::check(a.refusal)?;
+    })?;
     Ok(Stepped {
-        words: a.words,
-        terminal: a.terminal,
-        events: events.map(Event::from_number),
+        words: end[0] as usize,
+        terminal: end[1] != 0,
+        events: events.map(Event::from_bytes),
     })
 }
 
 /// Refusals 20, 23, 28.
 pub fn count(image: &[u16]) -> Result<u64, Refusal> {
-    let a = unsafe { raw::lundaspro_count(image.as_ptr(), image.len()) };
-    Refusal::check(a.refusal).map(|()| a.value)
+    let mut value = [0];
+    Refusal::check(unsafe { raw::lundaspro_flat_count(image.as_ptr(), image.len(), &mut value) })?;
+    Ok(value[0])
 }
 
 /// Refusals 20, 23, 28, 27, 29.
@@ -66,8 +74,9 @@ pub fn draw(
     out: &mut [u16],
     list: &mut [u16],
 ) -> Result<Drawn, Refusal> {
-    let a = unsafe {
-        raw::lundaspro_draw(
+    let mut drawn = [0; 2];
+    Refusal::check(unsafe {
+        raw::lundaspro_flat_draw(
             image.as_ptr(),
             image.len(),
             index,
@@ -75,32 +84,44 @@ pub fn draw(
             out.len(),
             list.as_mut_ptr(),
             list.len(),
+            &mut drawn,
         )
-    };
-    Refusal::check(a.refusal).map(|()| Drawn {
-        words: a.words,
-        cells: a.cells,
+    })?;
+    Ok(Drawn {
+        words: drawn[0] as usize,
+        cells: drawn[1] as usize,
     })
 }
 
 /// Refusals 20, 23, 28, 30.
 pub fn rank(image: &[u16], list: &[u16]) -> Result<u64, Refusal> {
-    let a = unsafe { raw::lundaspro_rank(image.as_ptr(), image.len(), list.as_ptr(), list.len()) };
-    Refusal::check(a.refusal).map(|()| a.value)
+    let mut index = [0];
+    Refusal::check(unsafe {
+        raw::lundaspro_flat_rank(
+            image.as_ptr(),
+            image.len(),
+            list.as_ptr(),
+            list.len(),
+            &mut index,
+        )
+    })?;
+    Ok(index[0])
 }
 
 /// Refusals 20, 26, 29.
 pub fn observe(image: &[u16], agent: u64, obs: &mut [f32]) -> Result<usize, Refusal> {
-    let a = unsafe {
-        raw::lundaspro_observe(
+    let mut written = [0];
+    Refusal::check(unsafe {
+        raw::lundaspro_flat_observe(
             image.as_ptr(),
             image.len(),
             agent,
             obs.as_mut_ptr(),
             obs.len(),
+            &mut written,
         )
-    };
-    Refusal::check(a.refusal).map(|()| a.words)
+    })?;
+    Ok(written[0] as usize)
 }
 
 /// The book of so many images that stand in a row; [`crate::book_words`] says how long it is. Refusals 1 to 12, 42, 20, 21, 29.
@@ -110,21 +131,27 @@ pub fn write_book(
     row: &[u16],
     out: &mut [u16],
 ) -> Result<usize, Refusal> {
-    let a = unsafe {
-        raw::lundaspro_write_book(
-            setting.flat(),
+    let mut written = [0];
+    Refusal::check(unsafe {
+        raw::lundaspro_flat_write_book(
+            &setting.flat(),
             pages,
             row.as_ptr(),
             row.len(),
             out.as_mut_ptr(),
             out.len(),
+            &mut written,
         )
-    };
-    Refusal::check(a.refusal).map(|()| a.words)
+    })?;
+    Ok(written[0] as usize)
 }
 
 /// A page of a book, from page 0 on: the book's own words. Refusals 40, 41, 20, 21.
 pub fn page(book: &[u16], page: u64) -> Result<&[u16], Refusal> {
-    let a = unsafe { raw::lundaspro_page(book.as_ptr(), book.len(), page) };
-    Refusal::check(a.refusal).map(|()| &book[a.start..a.start + a.len])
+    let mut part = [0; 2];
+    Refusal::check(unsafe {
+        raw::lundaspro_flat_page(book.as_ptr(), book.len(), page, &mut part)
+    })?;
+    let [start, len] = part.map(|n| n as usize);
+    Ok(&book[start..start + len])
 }

@@ -48,22 +48,22 @@ pub struct Setting {
 
 impl Setting {
     fn flat(&self) -> raw::Setting {
-        raw::Setting {
-            num_snakes: self.num_snakes,
-            grid_size: self.grid_size,
-            initial_length: self.initial_length,
-            play_to_last: self.play_to_last,
-            win_food_lead_set: self.win_food_lead.is_some(),
-            win_food_lead: self.win_food_lead.unwrap_or(0),
-            initial_food_count: self.initial_food_count,
-            max_ticks_set: self.max_ticks.is_some(),
-            max_ticks: self.max_ticks.unwrap_or(0),
-        }
+        [
+            self.num_snakes,
+            grid_number(self.grid_size),
+            self.initial_length,
+            u64::from(self.play_to_last),
+            u64::from(self.win_food_lead.is_some()),
+            self.win_food_lead.unwrap_or(0),
+            self.initial_food_count,
+            u64::from(self.max_ticks.is_some()),
+            self.max_ticks.unwrap_or(0),
+        ]
     }
 
     /// Refusals 1 to 12.
     pub fn validate(&self) -> Result<(), Refusal> {
-        Refusal::check(unsafe { raw::lundaspro_validate(self.flat()) })
+        Refusal::check(unsafe { raw::lundaspro_flat_validate(&self.flat()) })
     }
 
     /// Refusals 1 to 12.
@@ -72,6 +72,11 @@ impl Setting {
         let count = lend::initial_state(self, &mut words)?;
         Ok(Image::cut(words, count))
     }
+}
+
+// A grid's 64 bits in two's complement.
+fn grid_number(grid_size: i32) -> u64 {
+    i64::from(grid_size) as u64
 }
 
 /// How a snake died.
@@ -97,27 +102,27 @@ pub struct Event {
 }
 
 impl Event {
-    /// The event of a number as the library writes it; other bits are ignored.
-    pub fn from_number(number: u16) -> Event {
+    /// The event of the bytes that the library writes: a flag is set where its byte is not 0, a cause above 4 is none.
+    pub fn from_bytes(bytes: [u8; 8]) -> Event {
         Event {
-            ate_food: number & 1 != 0,
-            died: number & 2 != 0,
-            death_cause: match number / 256 {
+            ate_food: bytes[0] != 0,
+            died: bytes[1] != 0,
+            death_cause: match bytes[2] {
                 1 => Some(Cause::Wall),
                 2 => Some(Cause::SelfBody),
                 3 => Some(Cause::OppBody),
                 4 => Some(Cause::HeadOn),
                 _ => None,
             },
-            killed_opponent: number & 4 != 0,
-            won: number & 8 != 0,
-            lost: number & 16 != 0,
-            drew: number & 32 != 0,
-            survived_to_max_ticks: number & 64 != 0,
+            killed_opponent: bytes[3] != 0,
+            won: bytes[4] != 0,
+            lost: bytes[5] != 0,
+            drew: bytes[6] != 0,
+            survived_to_max_ticks: bytes[7] != 0,
         }
     }
 
-    pub fn number(self) -> u16 {
+    pub fn bytes(self) -> [u8; 8] {
         let cause = match self.death_cause {
             None => 0,
             Some(Cause::Wall) => 1,
@@ -125,21 +130,16 @@ impl Event {
             Some(Cause::OppBody) => 3,
             Some(Cause::HeadOn) => 4,
         };
-        let flags = [
-            self.ate_food,
-            self.died,
-            self.killed_opponent,
-            self.won,
-            self.lost,
-            self.drew,
-            self.survived_to_max_ticks,
-        ];
-        flags
-            .iter()
-            .enumerate()
-            .map(|(bit, &flag)| u16::from(flag) << bit)
-            .sum::<u16>()
-            + 256 * cause
+        [
+            u8::from(self.ate_food),
+            u8::from(self.died),
+            cause,
+            u8::from(self.killed_opponent),
+            u8::from(self.won),
+            u8::from(self.lost),
+            u8::from(self.drew),
+            u8::from(self.survived_to_max_ticks),
+        ]
     }
 }
 
@@ -174,9 +174,8 @@ pub struct Image(Vec<u16>);
 impl Image {
     /// A well-formed image, or refusal 20.
     pub fn checked(words: Vec<u16>) -> Result<Image, Refusal> {
-        let image = Image(words);
-        Refusal::check(if image.is_well_formed() { 0 } else { 20 })?;
-        Ok(image)
+        Refusal::check(unsafe { raw::lundaspro_flat_well_formed(words.as_ptr(), words.len()) })?;
+        Ok(Image(words))
     }
 
     /// Any words.
@@ -199,13 +198,15 @@ impl Image {
     }
 
     pub fn is_well_formed(&self) -> bool {
-        unsafe { raw::lundaspro_well_formed(self.0.as_ptr(), self.0.len()) }
+        unsafe { raw::lundaspro_flat_well_formed(self.0.as_ptr(), self.0.len()) == 0 }
     }
 
     /// A snake's body, head first; nothing for a malformed image or no such snake.
     pub fn body(&self, snake: u64) -> &[u16] {
-        let part = unsafe { raw::lundaspro_body(self.0.as_ptr(), self.0.len(), snake) };
-        &self.0[part.start..part.start + part.len]
+        let mut part = [0; 2];
+        unsafe { raw::lundaspro_flat_body(self.0.as_ptr(), self.0.len(), snake, &mut part) };
+        let [start, len] = part.map(|n| n as usize);
+        &self.0[start..start + len]
     }
 
     /// An action for each snake, dead ones included: a dead snake's may be any. Refusals 1 to 12, 20, 21, 22, 24.
@@ -251,34 +252,48 @@ impl Image {
 
     /// `None` where a snake is dead. Refusal 20.
     pub fn length_cell(&self) -> Result<Option<u64>, Refusal> {
-        let a = unsafe { raw::lundaspro_length_cell(self.0.as_ptr(), self.0.len()) };
-        Refusal::check(a.refusal).map(|()| a.some.then_some(a.key))
+        let mut key = [0; 2];
+        Refusal::check(unsafe {
+            raw::lundaspro_flat_length_cell(self.0.as_ptr(), self.0.len(), &mut key)
+        })?;
+        Ok((key[0] != 0).then_some(key[1]))
     }
 
     /// Refusal 20.
     pub fn actor(&self) -> Result<Actor, Refusal> {
-        let a = unsafe { raw::lundaspro_actor(self.0.as_ptr(), self.0.len()) };
-        Refusal::check(a.refusal).map(|()| {
-            if a.chance {
-                Actor::Chance
-            } else {
-                Actor::Simultaneous
-            }
+        let mut chance = [0];
+        Refusal::check(unsafe {
+            raw::lundaspro_flat_actor(self.0.as_ptr(), self.0.len(), &mut chance)
+        })?;
+        Ok(if chance[0] != 0 {
+            Actor::Chance
+        } else {
+            Actor::Simultaneous
         })
     }
 
     /// All three actions, or none. Refusals 20, 26.
     pub fn legal_actions(&self, agent: u64) -> Result<&'static [Action], Refusal> {
-        let a = unsafe { raw::lundaspro_legal_actions(self.0.as_ptr(), self.0.len(), agent) };
-        Refusal::check(a.refusal).map(|()| &Action::ALL[..usize::from(a.actions)])
+        let mut actions = [0];
+        Refusal::check(unsafe {
+            raw::lundaspro_flat_legal_actions(self.0.as_ptr(), self.0.len(), agent, &mut actions)
+        })?;
+        Ok(&Action::ALL[..actions[0] as usize])
     }
 
     /// The event with `survived_to_max_ticks` set to whether the agent lives. Refusals 20, 26.
     pub fn truncation(&self, agent: u64, event: Event) -> Result<Event, Refusal> {
-        let a = unsafe {
-            raw::lundaspro_truncation(self.0.as_ptr(), self.0.len(), agent, event.number())
-        };
-        Refusal::check(a.refusal).map(|()| Event::from_number(a.event))
+        let mut marked = [0; 8];
+        Refusal::check(unsafe {
+            raw::lundaspro_flat_truncation(
+                self.0.as_ptr(),
+                self.0.len(),
+                agent,
+                &event.bytes(),
+                &mut marked,
+            )
+        })?;
+        Ok(Event::from_bytes(marked))
     }
 }
 
@@ -296,17 +311,18 @@ pub struct Weights {
 
 /// Refusal 31, for infinities and NaN.
 pub fn reward(weights: &Weights, event: Event) -> Result<f64, Refusal> {
-    let w = raw::Weights {
-        step: weights.step,
-        food: weights.food,
-        loss: weights.loss,
-        draw: weights.draw,
-        kill: weights.kill,
-        win: weights.win,
-        survival: weights.survival,
-    };
-    let a = unsafe { raw::lundaspro_reward(w, event.number()) };
-    Refusal::check(a.refusal).map(|()| a.sum)
+    let w = [
+        weights.step,
+        weights.food,
+        weights.loss,
+        weights.draw,
+        weights.kill,
+        weights.win,
+        weights.survival,
+    ];
+    let mut sum = [0.0];
+    Refusal::check(unsafe { raw::lundaspro_flat_reward(&w, &event.bytes(), &mut sum) })?;
+    Ok(sum[0])
 }
 
 /// The shape of what is seen or done.
@@ -322,28 +338,33 @@ pub enum Space {
     Discrete(usize),
 }
 
-fn space(a: raw::Space) -> Result<Space, Refusal> {
-    Refusal::check(a.refusal)?;
-    if a.discrete {
-        return Ok(Space::Discrete(a.count));
+fn space(call: impl FnOnce(&mut [u64; 5], &mut [f32; 2]) -> u64) -> Result<Space, Refusal> {
+    let (mut sizes, mut bounds) = ([0; 5], [0.0; 2]);
+    Refusal::check(call(&mut sizes, &mut bounds))?;
+    let [discrete, count, planes, rows, cols] = sizes.map(|n| n as usize);
+    if discrete != 0 {
+        return Ok(Space::Discrete(count));
     }
+    let [low, high] = bounds;
     Ok(Space::Box {
-        planes: a.planes,
-        rows: a.rows,
-        cols: a.cols,
-        low: a.low,
-        high: a.high,
+        planes,
+        rows,
+        cols,
+        low,
+        high,
     })
 }
 
 /// Refusal 5.
 pub fn observation_space(grid_size: i32) -> Result<Space, Refusal> {
-    space(unsafe { raw::lundaspro_observation_space(grid_size) })
+    space(|sizes, bounds| unsafe {
+        raw::lundaspro_flat_observation_space(grid_number(grid_size), sizes, bounds)
+    })
 }
 
 /// Three actions: never refused.
 pub fn action_space() -> Result<Space, Refusal> {
-    space(unsafe { raw::lundaspro_action_space() })
+    space(|sizes, bounds| unsafe { raw::lundaspro_flat_action_space(sizes, bounds) })
 }
 
 #[derive(Clone, Copy, Debug, PartialEq, Eq, Hash)]
@@ -365,7 +386,9 @@ pub enum Action {
 
 /// The heading after an action.
 pub fn relative_to_absolute(heading: Heading, action: Action) -> Heading {
-    match unsafe { raw::lundaspro_relative_to_absolute(heading as u8, action as u8) } {
+    let mut after = [0];
+    unsafe { raw::lundaspro_flat_relative_to_absolute(heading as u64, action as u64, &mut after) };
+    match after[0] {
         0 => Heading::Up,
         1 => Heading::Right,
         2 => Heading::Down,

@@ -77,9 +77,9 @@ refusals! {
 }
 
 impl Refusal {
-    /// `Ok` where the number is 0.
-    pub(crate) fn check(number: u8) -> Result<(), Refusal> {
-        Refusal::from_number(number).map_or(Ok(()), Err)
+    /// `Ok` where a call returned 0; the table's number is what is below 256.
+    pub(crate) fn check(returned: u64) -> Result<(), Refusal> {
+        Refusal::from_number((returned % 256) as u8).map_or(Ok(()), Err)
     }
 }
 

@@ -1,4 +1,3 @@
-pub mod Numbers
 pub mod Saying
 pub mod Lying
 pub mod Theorems

@@ -1,152 +1,271 @@
--- What the arena's answer says, the flat answer says, with the same lent memory. Assumes nothing.
-use Prim.Native.Nat.{ℕ, _<_, _≤_}
+-- What the arena's answer says, the exported call says in numbers, with the same lent memory. Assumes nothing.
+use Prim.Native.Nat.{ℕ}
 use mathlib.Core.Path.{_≡_, refl, sym, ap, ap₂, _∙_}
-use mathlib.Core.Bool.{Bool, false, false≢true}
-use mathlib.Core.List.{List, [], _++_}
+use mathlib.Core.Bool.{Bool, true, false}
+use mathlib.Core.List.{List, [], _∷_}
+use mathlib.Core.Option.{none, some}
 use native.Mathlib.Omega.{arith}
-use borrow.Author.Tests.{lt-ltb, le-ltb}
+use lib.IntN.{ℤ}
 use lib.Ieee.{Float}
 use lib.ListN.{length, replicate}
-use Rattle.lists.specs.Lists.{overFront}
-use Rattle.rules.specs.State.{State}
+use Rattle.lists.specs.Choice.{bit}
+use Rattle.rules.specs.Headings.{numberOf, turned}
 use Rattle.rules.specs.Events.{blank, eight}
-use Rattle.rules.specs.Image.{imageOf, stateOf}
-use Rattle.rules.specs.Step.{Transition, stepped}
-use Rattle.rules.specs.Says.{Says, refuses, gives, says, saysSpace, seen, beside, lent}
-use Rattle.rules.specs.Calls.{stepSays, Draw, drawSays}
-use Rattle.rules.specs.Orders.{stepOrder}
-use Rattle.rules.specs.Promises.{Starts, Steps, Observes, Draws}
-use Rattle.rules.proofs.Tables.{given-out}
+use Rattle.rules.specs.Image.{imageOf, wellFormed}
+use Rattle.rules.specs.Step.{Transition}
+use Rattle.rules.specs.View.{lit}
+use Rattle.rules.specs.Says.{Says, refuses, gives, says, saysVerdict, saysNumber, saysKey, saysActor, saysLegal, saysMark, saysSum, saysSpace, seen, beside, lent, Shape}
+use Rattle.rules.specs.Calls.{settingSays, initialSays, stepSays, observeSays, Draw, drawSays, actorSays, legalSays, keySays, truncationSays, rewardSays, spaceSays, actionSays}
+use Rattle.rules.specs.Promises.{Turns, Checks, Validates, Starts, Steps, Observes, Draws, ActsNext, Allows, Keys, Truncates, Rewards, ObservationSpace, ActionSpace}
+use Rattle.rules.specs.declared.Heading.{Heading}
+use Rattle.rules.specs.declared.RelativeAction.{RelativeAction}
 use Rattle.rules.specs.declared.Refusal.{Refusal}
 use Rattle.rules.specs.declared.Setting.{Setting}
+use Rattle.rules.specs.declared.Weights.{Weights}
 use Rattle.rules.specs.declared.Event.{Event}
+use Rattle.rules.specs.declared.Verdict.{Verdict}
+use Rattle.rules.specs.declared.Verdict.the-variants.{Accepted, Refused as RefusedVerdict}
 use Rattle.rules.specs.declared.Answer.{Answer}
 use Rattle.rules.specs.declared.Answer.the-variants.{Done, Refused}
 use Rattle.rules.specs.declared.Stepped.{Stepped}
 use Rattle.rules.specs.declared.Drawn.{Drawn}
+use Rattle.rules.specs.declared.Number.{Number}
+use Rattle.rules.specs.declared.Number.the-variants.{Value, Refused as RefusedNumber}
+use Rattle.rules.specs.declared.LengthCell.{LengthCell}
+use Rattle.rules.specs.declared.LengthCell.the-variants.{Key, NoKey, Refused as RefusedKey}
+use Rattle.rules.specs.declared.Actor.{Actor}
+use Rattle.rules.specs.declared.Actor.the-variants.{Chance, Simultaneous, Refused as RefusedActor}
+use Rattle.rules.specs.declared.Legal.{Legal}
+use Rattle.rules.specs.declared.Legal.the-variants.{AnyAction, NoAction, Refused as RefusedLegal}
+use Rattle.rules.specs.declared.Truncated.{Truncated}
+use Rattle.rules.specs.declared.Truncated.the-variants.{Marked, Refused as RefusedMark}
+use Rattle.rules.specs.declared.Reward.{Reward}
+use Rattle.rules.specs.declared.Reward.the-variants.{Sum, Refused as RefusedSum}
 use Rattle.rules.specs.declared.Space.{Space}
-use Rattle.rules.specs.declared.Space.the-variants.{Box, Refused as RefusedSpace}
-use Rattle.bindings.specs.declared.FlatWritten.{FlatWritten}
-use Rattle.bindings.specs.declared.FlatStepped.{FlatStepped}
-use Rattle.bindings.specs.declared.FlatDrawn.{FlatDrawn}
-use Rattle.bindings.specs.declared.FlatSpace.{FlatSpace}
-use Rattle.bindings.specs.Flat.{flatWritten, noBox, flatSpace, flatStepped, flatDrawn, partIn, drawnParts, tellsOf, FlatStarts, FlatObserves, FlatDraws, Tells, Untold, roomBeside}
+use Rattle.rules.specs.declared.Space.the-variants.{Box, Discrete, Refused as RefusedSpace}
+use Rattle.contents.specs.Calls.{saysPage}
+use Rattle.contents.specs.declared.PageFound.{PageFound}
+use Rattle.contents.specs.declared.PageFound.the-variants.{Part, Refused as RefusedPage}
+use Rattle.book.specs.Calls.{writeSays, pageSays}
+use Rattle.book.specs.Promises.{Pages, Writes as Binds}
+use Rattle.flat.specs.Flat.{refusalNumber, eventBytes, eventsBytes}
+use Rattle.bindings.specs.Exports.{refusalOf, formedNumber, told, one, bitNumber, whole, keyNumbers, actionNumbers, shapeNumbers, shapeBounds, spanNumbers, Tells, Writes, FlatSpace, FlatSteps, FlatDraws}
 
 abbrev Apart : Type 0
 Apart = _≡_ {A = ℕ} 0 1
 
+-- ---- one lent array
+
+module _ {A B : Type 0} (f : A → List B) (x : Says A) (old : List B) where
+  pub given : (a : A) → gives a ≡ x → Tells f x old (f a) 0
+  given a e = record { refusal = ap refusalOf e; answer = ap (told f old) e }
+
+  pub refused : (k : Refusal) → refuses k ≡ x → (r : ℕ) → r ≡ refusalNumber k → Tells f x old old r
+  refused k e r p = record { refusal = p ∙ ap refusalOf e; answer = ap (told f old) e }
+
+  -- the same of what is equal
+  pub tells-by : (y : Says A) (new : List B) (r : ℕ) → Tells f x old new r → x ≡ y → Tells f y old new r
+  tells-by y new r t e = record { refusal = t .refusal ∙ ap refusalOf e; answer = t .answer ∙ ap (told f old) e }
+
+pub value-told : (a : Number) (n : ℕ) → a ≡ Value n → (old : List ℕ) → Tells one (saysNumber a) old (n ∷ []) 0
+value-told a n e old = given one (saysNumber a) old n (ap saysNumber (sym e))
+
+pub number-refused : (a : Number) (k : Refusal) → a ≡ RefusedNumber k → (old : List ℕ) (r : ℕ) → r ≡ refusalNumber k → Tells one (saysNumber a) old old r
+number-refused a k e old = refused one (saysNumber a) old k (ap saysNumber (sym e))
+
+module _ (w : List ℕ) (a : LengthCell) (q : Keys w a) (old : List ℕ) where
+  pub key-told : (n : ℕ) → a ≡ Key n → Tells keyNumbers (keySays w) old (1 ∷ n ∷ []) 0
+  key-told n e = given keyNumbers (keySays w) old (some n) (ap saysKey (sym e) ∙ q .answer)
+
+  pub no-key-told : a ≡ NoKey → Tells keyNumbers (keySays w) old (0 ∷ 0 ∷ []) 0
+  no-key-told e = given keyNumbers (keySays w) old none (ap saysKey (sym e) ∙ q .answer)
+
+  pub key-refused : (k : Refusal) → a ≡ RefusedKey k → (r : ℕ) → r ≡ refusalNumber k → Tells keyNumbers (keySays w) old old r
+  key-refused k e = refused keyNumbers (keySays w) old k (ap saysKey (sym e) ∙ q .answer)
+
+module _ (w : List ℕ) (a : Actor) (q : ActsNext w a) (old : List ℕ) where
+  pub chance-told : a ≡ Chance → Tells bitNumber (actorSays w) old (1 ∷ []) 0
+  chance-told e = given bitNumber (actorSays w) old true (ap saysActor (sym e) ∙ q .answer)
+
+  pub all-told : a ≡ Simultaneous → Tells bitNumber (actorSays w) old (0 ∷ []) 0
+  all-told e = given bitNumber (actorSays w) old false (ap saysActor (sym e) ∙ q .answer)
+
+  pub actor-refused : (k : Refusal) → a ≡ RefusedActor k → (r : ℕ) → r ≡ refusalNumber k → Tells bitNumber (actorSays w) old old r
+  actor-refused k e = refused bitNumber (actorSays w) old k (ap saysActor (sym e) ∙ q .answer)
+
+module _ (w : List ℕ) (i : ℕ) (a : Legal) (q : Allows w i a) (old : List ℕ) where
+  pub any-told : a ≡ AnyAction → Tells actionNumbers (legalSays w i) old (3 ∷ []) 0
+  any-told e = given actionNumbers (legalSays w i) old (0 ∷ 1 ∷ 2 ∷ []) (ap saysLegal (sym e) ∙ q .answer)
+
+  pub none-told : a ≡ NoAction → Tells actionNumbers (legalSays w i) old (0 ∷ []) 0
+  none-told e = given actionNumbers (legalSays w i) old [] (ap saysLegal (sym e) ∙ q .answer)
+
+  pub legal-refused : (k : Refusal) → a ≡ RefusedLegal k → (r : ℕ) → r ≡ refusalNumber k → Tells actionNumbers (legalSays w i) old old r
+  legal-refused k e = refused actionNumbers (legalSays w i) old k (ap saysLegal (sym e) ∙ q .answer)
+
+module _ (b : List ℕ) (i : ℕ) (a : PageFound) (q : Pages b i a) (old : List ℕ) where
+  pub page-told : (s n : ℕ) → a ≡ Part s n → Tells spanNumbers (pageSays b i) old (s ∷ n ∷ []) 0
+  page-told s n e = given spanNumbers (pageSays b i) old (record { start = s; len = n }) (ap saysPage (sym e) ∙ q .answer)
+
+  pub page-refused : (k : Refusal) → a ≡ RefusedPage k → (r : ℕ) → r ≡ refusalNumber k → Tells spanNumbers (pageSays b i) old old r
+  page-refused k e = refused spanNumbers (pageSays b i) old k (ap saysPage (sym e) ∙ q .answer)
+
+-- e is what the caller's bytes are read as
+module _ (w : List ℕ) (i : ℕ) (e e′ : Event) (a : Truncated) (q : Truncates w i e a) (p : e ≡ e′) (old : List ℕ) where
+  same-mark : saysMark a ≡ truncationSays w i e′
+  same-mark = q .answer ∙ ap (truncationSays w i) p
+
+  pub mark-told : (m : Event) → a ≡ Marked m → (bytes : List ℕ) → bytes ≡ eventBytes m → Tells eventBytes (truncationSays w i e′) old bytes 0
+  mark-told m t bytes b = rw b (given eventBytes (truncationSays w i e′) old m (ap saysMark (sym t) ∙ same-mark))
+
+  pub mark-refused : (k : Refusal) → a ≡ RefusedMark k → (r : ℕ) → r ≡ refusalNumber k → Tells eventBytes (truncationSays w i e′) old old r
+  mark-refused k t = refused eventBytes (truncationSays w i e′) old k (ap saysMark (sym t) ∙ same-mark)
+
+module _ (w w′ : Weights) (e e′ : Event) (a : Reward) (q : Rewards w e a) (p : w ≡ w′) (s : e ≡ e′) (old : List Float) where
+  same-sum : saysSum a ≡ rewardSays w′ e′
+  same-sum = q .answer ∙ ap₂ rewardSays p s
+
+  pub sum-told : (x : Float) → a ≡ Sum x → Tells one (rewardSays w′ e′) old (x ∷ []) 0
+  sum-told x t = given one (rewardSays w′ e′) old x (ap saysSum (sym t) ∙ same-sum)
+
+  pub sum-refused : (k : Refusal) → a ≡ RefusedSum k → (r : ℕ) → r ≡ refusalNumber k → Tells one (rewardSays w′ e′) old old r
+  sum-refused k t = refused one (rewardSays w′ e′) old k (ap saysSum (sym t) ∙ same-sum)
+
+-- ---- no lent array
+
+module _ (w : List ℕ) (b : Bool) (q : Checks w b) where
+  pub formed-told : b ≡ true → 0 ≡ formedNumber (wellFormed w)
+  formed-told e = ap formedNumber (sym e ∙ q .answer)
+
+  pub malformed-told : b ≡ false → 20 ≡ formedNumber (wellFormed w)
+  malformed-told e = ap formedNumber (sym e ∙ q .answer)
+
+module _ (s s′ : Setting) (a : Verdict) (q : Validates s a) (p : s ≡ s′) where
+  pub setting-accepted : a ≡ Accepted → 0 ≡ refusalOf (settingSays s′)
+  setting-accepted e = ap refusalOf (ap saysVerdict (sym e) ∙ q .answer ∙ ap settingSays p)
+
+  pub setting-refused : (k : Refusal) → a ≡ RefusedVerdict k → (r : ℕ) → r ≡ refusalNumber k → r ≡ refusalOf (settingSays s′)
+  setting-refused k e r n = n ∙ ap refusalOf (ap saysVerdict (sym e) ∙ q .answer ∙ ap settingSays p)
+
 -- ---- a space
 
-pub box-tells : (a : Space) (p h w : ℕ) (l t : Float) → a ≡ Box p h w l t
-    → record { refusal = 0; discrete = false; count = 0; planes = p; rows = h; cols = w; low = l; high = t } ≡ flatSpace (saysSpace a)
-box-tells a p h w l t e = rw e
+pub box-told : (a : Space) (p h w : ℕ) (l t : Float) → a ≡ Box p h w l t → (old : List ℕ) (bounds : List Float)
+    → FlatSpace (saysSpace a) old (0 ∷ 0 ∷ p ∷ h ∷ w ∷ []) bounds (l ∷ t ∷ []) 0
+box-told a p h w l t e old bounds = record {
+  refusal = ap (λ (a : Space). refusalOf (saysSpace a)) (sym e);
+  sizes = ap (λ (a : Space). told shapeNumbers old (saysSpace a)) (sym e);
+  bounds = ap (λ (a : Space). told shapeBounds bounds (saysSpace a)) (sym e);
+}
 
-pub no-box-tells : (a : Space) (k : Refusal) → a ≡ RefusedSpace k → (r : FlatSpace) → r ≡ noBox (k .number) false 0 → r ≡ flatSpace (saysSpace a)
-no-box-tells a k e r p = p ∙ rw e
+pub space-refused : (a : Space) (k : Refusal) → a ≡ RefusedSpace k → (old : List ℕ) (bounds : List Float) (r : ℕ) → r ≡ refusalNumber k → FlatSpace (saysSpace a) old old bounds bounds r
+space-refused a k e old bounds r n = record {
+  refusal = n ∙ ap (λ (a : Space). refusalOf (saysSpace a)) (sym e);
+  sizes = ap (λ (a : Space). told shapeNumbers old (saysSpace a)) (sym e);
+  bounds = ap (λ (a : Space). told shapeBounds bounds (saysSpace a)) (sym e);
+}
 
--- ---- the first image, and an observation
+pub discrete-told : (a : Space) (n : ℕ) → a ≡ Discrete n → (old : List ℕ) (bounds : List Float)
+    → FlatSpace (saysSpace a) old (1 ∷ n ∷ 0 ∷ 0 ∷ 0 ∷ []) bounds (lit false ∷ lit false ∷ []) 0
+discrete-told a n e old bounds = record {
+  refusal = ap (λ (a : Space). refusalOf (saysSpace a)) (sym e);
+  sizes = ap (λ (a : Space). told shapeNumbers old (saysSpace a)) (sym e);
+  bounds = ap (λ (a : Space). told shapeBounds bounds (saysSpace a)) (sym e);
+}
 
-pub start-tells : (s s′ : Setting) (old new : List ℕ) (a : Answer) → Starts s old new a → s ≡ s′ → (r : FlatWritten) → r ≡ flatWritten (says a) → FlatStarts s′ old new r
-start-tells s s′ old new a q p r e = rw (← p) (record { answer = e ∙ ap flatWritten (q .answer); words = q .words })
+module _ (a : Space) (old new : List ℕ) (bounds newBounds : List Float) (r : ℕ) (t : FlatSpace (saysSpace a) old new bounds newBounds r) where
+  same-space : (x : Says Shape) → saysSpace a ≡ x → FlatSpace x old new bounds newBounds r
+  same-space x e = record { refusal = t .refusal ∙ ap refusalOf e; sizes = t .sizes ∙ ap (told shapeNumbers old) e; bounds = t .bounds ∙ ap (told shapeBounds bounds) e }
 
-pub observe-tells : (w : List ℕ) (i : ℕ) (old new : List Float) (a : Answer) → Observes w i old new a → (r : FlatWritten) → r ≡ flatWritten (says a) → FlatObserves w i old new r
-observe-tells w i old new a q r e = record { answer = e ∙ ap flatWritten (q .answer); numbers = q .numbers }
+  -- g is what the caller's number is read as
+  pub seen-space : (g g′ : ℤ) → ObservationSpace g a → g ≡ g′ → FlatSpace (spaceSays g′) old new bounds newBounds r
+  seen-space g g′ q p = same-space (spaceSays g′) (q .answer ∙ ap spaceSays p)
+
+  pub action-space : ActionSpace a → FlatSpace actionSays old new bounds newBounds r
+  action-space q = same-space actionSays (q .answer)
+
+-- ---- a buffer, and how many words were written
+
+pub words-told : (a : Answer) (n : ℕ) → a ≡ Done n → (old : List ℕ) → Tells one (says a) old (n ∷ []) 0
+words-told a n e old = given one (says a) old n (ap says (sym e))
+
+pub words-refused : (a : Answer) (k : Refusal) → a ≡ Refused k → (old : List ℕ) (r : ℕ) → r ≡ refusalNumber k → Tells one (says a) old old r
+words-refused a k e old = refused one (says a) old k (ap says (sym e))
+
+module _ {A B : Type 0} (f : A → List B) where
+  same-refusal : (x : Says A) → refusalOf (seen (λ a. length (f a)) x) ≡ refusalOf x
+  same-refusal (refuses k) = refl
+  same-refusal (gives a) = refl
+
+  same-count : (count : List ℕ) (x : Says A) → told one count (seen (λ a. length (f a)) x) ≡ told (λ a. one (length (f a))) count x
+  same-count count (refuses k) = refl
+  same-count count (gives a) = refl
+
+  pub written : (x : Says A) (old new : List B) (a : Answer) (count now : List ℕ) (r : ℕ) → Tells one (says a) count now r → says a ≡ seen (λ a. length (f a)) x → new ≡ lent f old x
+      → Writes f x old new count now r
+  written x old new a count now r t e q = record {
+    refusal = t .refusal ∙ ap refusalOf e ∙ same-refusal x;
+    count = t .answer ∙ ap (told one count) e ∙ same-count count x;
+    words = q;
+  }
+
+module _ (a : Answer) (count now : List ℕ) (r : ℕ) (t : Tells one (says a) count now r) where
+  pub start-told : (s s′ : Setting) (old new : List ℕ) → Starts s old new a → s ≡ s′ → Writes imageOf (initialSays s′ (length old)) old new count now r
+  start-told s s′ old new q p = rw (← p) (written imageOf (initialSays s (length old)) old new a count now r t (q .answer) (q .words))
+
+  pub view-told : (w : List ℕ) (i : ℕ) (old new : List Float) → Observes w i old new a → Writes whole (observeSays w i (length old)) old new count now r
+  view-told w i old new q = written whole (observeSays w i (length old)) old new a count now r t (q .answer) (q .numbers)
+
+  pub book-told : (s s′ : Setting) (p : ℕ) (row old new : List ℕ) → Binds s p row old new a → s ≡ s′ → Writes whole (writeSays s′ p row (length old)) old new count now r
+  book-told s s′ p row old new q e = rw (← e) (written whole (writeSays s p row (length old)) old new a count now r t (q .answer) (q .words))
 
 -- ---- a draw
 
-drawn-is : (x : Says Draw) (t : Answer) (n : ℕ) → says t ≡ seen (λ d. length (imageOf (d .next))) x → n ≡ beside (λ d. length (d .cells)) 0 x → partIn t n ≡ flatDrawn x
-drawn-is (refuses k) (Done m) n p q = let z : Apart = cc in absurd (omega arith)
-drawn-is (refuses k) (Refused j) n p q = let e : j ≡ k = cc in ap₂ (λ (a : Refusal) (b : ℕ). partIn (Refused a) b) e q
-drawn-is (gives d) (Done m) n p q = let e : m ≡ length (imageOf (d .next)) = cc in ap₂ (λ (a b : ℕ). partIn (Done a) b) e q
-drawn-is (gives d) (Refused j) n p q = let z : Apart = cc in absurd (omega arith)
+module _ (old new list after counts : List ℕ) where
+  drawn-done : (x : Says Draw) (n m : ℕ) → gives n ≡ seen (λ d. length (imageOf (d .next))) x → m ≡ beside (λ d. length (d .cells)) 0 x → new ≡ lent (λ d. imageOf (d .next)) old x
+      → after ≡ lent (λ d. d .cells) list x → FlatDraws x old new list after counts (n ∷ m ∷ []) 0
+  drawn-done (refuses k) n m p c q l = let z : Apart = cc in absurd (omega arith)
+  drawn-done (gives d) n m p c q l =
+      let e : n ≡ length (imageOf (d .next)) = cc in
+      record { refusal = refl; words = q; list = l; counts = ap₂ (λ (a b : ℕ). a ∷ b ∷ []) e c }
 
-pub draw-tells : (w : List ℕ) (i : ℕ) (old new list after : List ℕ) (d : Drawn) → Draws w i old new list after d → (r : FlatDrawn) → r ≡ drawnParts d → FlatDraws w i old new list after r
-draw-tells w i old new list after d q r e =
-    record { answer = e ∙ drawn-is (drawSays w i (length old) (length list)) (d .answer) (d .cells) (q .answer) (q .cells); words = q .words; list = q .list }
+  not-drawn : (x : Says Draw) (k : Refusal) → refuses k ≡ seen (λ d. length (imageOf (d .next))) x → new ≡ lent (λ d. imageOf (d .next)) old x → after ≡ lent (λ d. d .cells) list x
+      → (r : ℕ) → r ≡ refusalNumber k → FlatDraws x old new list after counts counts r
+  not-drawn (refuses j) k p q l r e = let s : k ≡ j = cc in record { refusal = e ∙ ap refusalNumber s; words = q; list = l; counts = refl }
+  not-drawn (gives d) k p q l r e = let z : Apart = cc in absurd (omega arith)
 
--- ---- a step with room for the events
+module _ (w : List ℕ) (i : ℕ) (old new list after : List ℕ) (d : Drawn) (q : Draws w i old new list after d) (counts : List ℕ) where
+  pub draw-told : (n : ℕ) → d .answer ≡ Done n → FlatDraws (drawSays w i (length old) (length list)) old new list after counts (n ∷ d .cells ∷ []) 0
+  draw-told n e = drawn-done old new list after counts (drawSays w i (length old) (length list)) n (d .cells) (ap says (sym e) ∙ q .answer) (q .cells) (q .words) (q .list)
 
-module _ (old new told : List ℕ) where
-  refused-is : (x : Says Transition) (k : Refusal) → refuses k ≡ seen (λ o. length (imageOf (o .next))) x → new ≡ lent (λ o. imageOf (o .next)) old x
-      → Tells x old new told told (record { refusal = k .number; terminal = false; words = 0 })
-  refused-is (refuses j) k p q =
-      let e : k ≡ j = cc in
-      record { answer = ap (λ (n : Refusal). flatStepped (refuses n)) e; words = q; events = refl }
-  refused-is (gives o) k p q = let z : Apart = cc in absurd (omega arith)
+  pub draw-refused : (k : Refusal) → d .answer ≡ Refused k → (r : ℕ) → r ≡ refusalNumber k → FlatDraws (drawSays w i (length old) (length list)) old new list after counts counts r
+  draw-refused k e = not-drawn old new list after counts (drawSays w i (length old) (length list)) k (ap says (sym e) ∙ q .answer) (q .words) (q .list)
 
-  done-is : (x : Says Transition) (n : ℕ) (b : Bool) (tells : List ℕ) → gives n ≡ seen (λ o. length (imageOf (o .next))) x → b ≡ beside (λ o. o .terminal) false x
-      → new ≡ lent (λ o. imageOf (o .next)) old x → ((o : Transition) → x ≡ gives o → tells ≡ overFront (tellsOf (eight (o .events))) told)
-      → Tells x old new told tells (record { refusal = 0; terminal = b; words = n })
-  done-is (refuses j) n b tells p t q e = let z : Apart = cc in absurd (omega arith)
-  done-is (gives o) n b tells p t q e =
-      let l : n ≡ length (imageOf (o .next)) = cc in
-      record { answer = ap₂ (λ (m : ℕ) (c : Bool). record { refusal = 0; terminal = c; words = m }) l t; words = q; events = e o refl }
+-- ---- a step
 
-module _ (s : Setting) (w acts old new : List ℕ) (d : Stepped) (q : Steps s w acts old new d) (told : List ℕ) where
-  pub told-refused : (k : Refusal) → d .answer ≡ Refused k
-      → Tells (stepSays s w acts (length old)) old new told told (record { refusal = k .number; terminal = false; words = 0 })
-  told-refused k p = refused-is old new told (stepSays s w acts (length old)) k (ap says (sym p) ∙ q .answer) (q .words)
+module _ (old new : List ℕ) (events : List (List ℕ)) (end : List ℕ) where
+  moved : (x : Says Transition) (n : ℕ) (b : Bool) (es : List Event) → gives n ≡ seen (λ o. length (imageOf (o .next))) x → b ≡ beside (λ o. o .terminal) false x
+      → es ≡ beside (λ o. eight (o .events)) (replicate 8 blank) x → new ≡ lent (λ o. imageOf (o .next)) old x → FlatSteps x old new events (eventsBytes es) end (n ∷ bit b ∷ []) 0
+  moved (refuses k) n b es p t v q = let z : Apart = cc in absurd (omega arith)
+  moved (gives o) n b es p t v q =
+      let e : n ≡ length (imageOf (o .next)) = cc in
+      record { refusal = refl; words = q; events = ap eventsBytes v; end = ap₂ (λ (a : ℕ) (c : Bool). a ∷ bit c ∷ []) e t }
 
-  pub told-done : (n : ℕ) → d .answer ≡ Done n → (tells : List ℕ) → tells ≡ overFront (tellsOf (d .events)) told
-      → Tells (stepSays s w acts (length old)) old new told tells (record { refusal = 0; terminal = d .terminal; words = n })
-  told-done n p tells e =
-      let same : (o : Transition) → stepSays s w acts (length old) ≡ gives o → d .events ≡ eight (o .events) =
-      λ o x. q .events ∙ ap (beside (λ (o : Transition). eight (o .events)) (replicate 8 blank)) x in
-      done-is old new told (stepSays s w acts (length old)) n (d .terminal) tells (ap says (sym p) ∙ q .answer) (q .terminal) (q .words)
-      (λ o x. e ∙ ap (λ (es : List Event). overFront (tellsOf es) told) (same o x))
+  not-moved : (x : Says Transition) (k : Refusal) → refuses k ≡ seen (λ o. length (imageOf (o .next))) x → new ≡ lent (λ o. imageOf (o .next)) old x → (r : ℕ) → r ≡ refusalNumber k
+      → FlatSteps x old new events events end end r
+  not-moved (refuses j) k p q r e = let s : k ≡ j = cc in record { refusal = e ∙ ap refusalNumber s; words = q; events = refl; end = refl }
+  not-moved (gives o) k p q r e = let z : Apart = cc in absurd (omega arith)
 
--- ---- a step without room for them: it refuses, by 29 or by what comes before it
+module _ (s s′ : Setting) (w acts old new : List ℕ) (d : Stepped) (q : Steps s w acts old new d) (p : s ≡ s′) (events : List (List ℕ)) (end : List ℕ) where
+  pub step-told : (n : ℕ) → d .answer ≡ Done n → (bytes : List (List ℕ)) → bytes ≡ eventsBytes (d .events) → (b : ℕ) → b ≡ bit (d .terminal)
+      → FlatSteps (stepSays s′ w acts (length old)) old new events bytes end (n ∷ b ∷ []) 0
+  step-told n e bytes v b t =
+      rw (v, t, ← p) (moved old new events end (stepSays s w acts (length old)) n (d .terminal) (d .events) (ap says (sym e) ∙ q .answer) (q .terminal) (q .events) (q .words))
 
-pub data Refuses {A : Type 0} (x : Says A) : Type 0 where
-  refused : (k : Refusal) → x ≡ refuses k → Refuses x
+  pub step-refused : (k : Refusal) → d .answer ≡ Refused k → (r : ℕ) → r ≡ refusalNumber k → FlatSteps (stepSays s′ w acts (length old)) old new events events end end r
+  step-refused k e r n = rw (← p) (not-moved old new events end (stepSays s w acts (length old)) k (ap says (sym e) ∙ q .answer) (q .words) r n)
 
--- what gives nothing refuses
-no-gift : {A : Type 0} (x : Says A) → ((a : A) → x ≡ gives a → ⊥) → Refuses x
-no-gift (refuses k) h = refused k refl
-no-gift (gives a) h = absurd (h a refl)
+-- ---- a turn
 
-some-words : (t : State) → 0 < length (imageOf t)
-unfolding imageOf
-some-words t = omega arith
-
-no-room : (s : Setting) (w acts : List ℕ) → Refuses (stepSays s w acts 0)
-unfolding stepSays
-no-room s w acts =
-    let o = stepped s (stateOf w) acts in
-    no-gift (stepSays s w acts 0) (λ t e. false≢true (sym (given-out (stepOrder s w acts 0) o t e 17) ∙ lt-ltb 0 (length (imageOf (o .next))) (some-words (o .next))))
-
-untold-is : (x : Says Transition) → Refuses x → (r : FlatWritten) → r ≡ flatWritten (seen (λ o. length (imageOf (o .next))) x)
-    → (front old : List ℕ) → front ≡ lent (λ o. imageOf (o .next)) [] x
-    → Untold x old (front ++ old) (record { refusal = r .refusal; terminal = false; words = 0 })
-untold-is (refuses k) n r e front old q = record {
-  answer = ap (λ (v : FlatWritten). record { refusal = v .refusal; terminal = false; words = 0 }) e;
-  words = ap (λ (v : List ℕ). v ++ old) q;
-}
-untold-is (gives o) (refused k p) r e front old q = let z : Apart = cc in absurd (omega arith)
-
--- the step is asked with no word of the caller's buffer
-pub step-untold : (s : Setting) (w acts front : List ℕ) (d : Stepped) → Steps s w acts [] front d → (r : FlatWritten) → r ≡ flatWritten (says (d .answer))
-    → (old : List ℕ) → Untold (stepSays s w acts 0) old (front ++ old) (record { refusal = r .refusal; terminal = false; words = 0 })
-step-untold s w acts front d q r e old = untold-is (stepSays s w acts 0) (no-room s w acts) r (e ∙ ap flatWritten (q .answer)) front old (q .words)
-
-untold-tells : (x : Says Transition) → Refuses x → (old new told : List ℕ) (r : FlatStepped) → Untold x old new r → Tells x old new told told r
-untold-tells (refuses k) n old new told r u = record { answer = u .answer; words = u .words; events = refl }
-untold-tells (gives o) (refused k p) old new told r u = let z : Apart = cc in absurd (omega arith)
-
--- ---- the step, in both cases; s is what the caller's setting means
-
-short-room : (room events : ℕ) → events < 8 → roomBeside room events ≡ 0
-unfolding roomBeside
-short-room room events h = rw (lt-ltb events 8 h)
-
-full-room : (room events : ℕ) → 8 ≤ events → roomBeside room events ≡ room
-unfolding roomBeside
-full-room room events h = rw (le-ltb events 8 h)
-
-module _ (s s′ : Setting) (w acts old new told : List ℕ) (r : FlatStepped) where
-  pub step-short : Untold (stepSays s w acts 0) old new r → s ≡ s′ → length told < 8 → Tells (stepSays s′ w acts (roomBeside (length old) (length told))) old new told told r
-  step-short u p h = rw (← p, short-room (length old) (length told) h) (untold-tells (stepSays s w acts 0) (no-room s w acts) old new told r u)
-
-  pub step-full : (tells : List ℕ) → Tells (stepSays s w acts (length old)) old new told tells r → s ≡ s′ → 8 ≤ length told
-      → Tells (stepSays s′ w acts (roomBeside (length old) (length told))) old new told tells r
-  step-full tells q p h = rw (← p, full-room (length old) (length told) h) q
+pub turn-told : (h h′ : Heading) (a a′ : RelativeAction) (to : Heading) → Turns h a to → h ≡ h′ → a ≡ a′ → (n : ℕ) → n ≡ numberOf to → (old : List ℕ)
+    → Tells one (gives (numberOf (turned h′ a′))) old (n ∷ []) 0
+turn-told h h′ a a′ to q p s n e old = record { refusal = refl; answer = ap one (e ∙ ap numberOf (q .answer ∙ ap₂ turned p s)) }

@@ -1,21 +1,26 @@
--- The flat forms lose nothing: an event's number tells the event, refusal 0 that an answer came, and two flat answers that meet one
--- promise are equal, with the lent memory. Assumes nothing.
+-- The flat answers lose nothing: refusal 0 says that an answer came, reading the flat form back gives what the call says, and two answers that meet
+-- one promise are equal, with the lent memory. Assumes nothing.
 use Prim.Native.Nat.{ℕ}
 use mathlib.Core.Path.{_≡_, refl, sym, ap, _∙_}
 use mathlib.Core.Bool.{Bool, true, false, not, _&&_}
 use mathlib.Core.List.{List, [], _∷_}
+use mathlib.Core.Option.{Option, none, some}
 use lib.Dec.{eqb, ltb}
-use borrow.Author.Tests.{eqb-true}
+use borrow.Author.Tests.{ltb-true, ne-eqb}
+use native.Mathlib.Omega.{arith}
 use lib.IntN.{ℤ}
-use lib.Ieee.{Float}
-use lib.ListN.{getD}
+use lib.Ieee.{Float, nan}
+use lib.ListN.{length, getD, take, drop}
+use lib.Seq.{take-append-seam}
 use Rattle.lists.specs.Choice.{_if_else_}
-use Rattle.lists.specs.Lists.{every, all}
-use Rattle.rules.specs.Tables.{Table}
-use Rattle.lists.proofs.Tests.{and-left, and-right, every-at}
+use Rattle.lists.specs.Below.{eachBelow}
+use Rattle.lists.specs.Lists.{all, overFront}
+use Rattle.rules.specs.Tables.{Table, by}
+use Rattle.lists.proofs.Tests.{and-left, and-right}
 use Rattle.rules.proofs.Tables.{numbered}
-use Rattle.rules.specs.State.{snakeOf}
-use Rattle.rules.specs.Image.{stateOf}
+use Rattle.rules.specs.State.{State, snakeOf}
+use Rattle.rules.specs.Events.{blank, eight}
+use Rattle.rules.specs.Image.{imageOf, stateOf}
 use Rattle.rules.specs.Step.{Transition, stepped}
 use Rattle.rules.specs.Chance.{outcomes, drawn, afterDraw, rankOf}
 use Rattle.rules.specs.View.{view, lit}
@@ -23,86 +28,15 @@ use Rattle.rules.specs.LengthKey.{lengthKey}
 use Rattle.rules.specs.Turns.{chanceActs, legalFor, truncated}
 use Rattle.rules.specs.Reward.{rewardOf}
 use Rattle.rules.specs.Setting.{settingOrder, sideOf, initialState}
-use Rattle.rules.specs.Says.{Says, refuses, gives, byTable, box}
-use Rattle.rules.specs.Calls.{settingSays, initialSays, stepSays, observeSays, countSays, drawSays, rankSays, actorSays, legalSays, keySays, truncationSays, rewardSays, spaceSays}
+use Rattle.rules.specs.Says.{Says, refuses, gives, byTable, lent, Shape, box, discrete}
+use Rattle.rules.specs.Calls.{settingSays, initialSays, stepSays, observeSays, countSays, Draw, drawSays, rankSays, actorSays, legalSays, keySays, truncationSays, rewardSays, spaceSays}
 use Rattle.rules.specs.Orders.{initialOrder, stepOrder, observeOrder, countOrder, drawOrder, rankOrder, imageOrder, agentOrder, rewardOrder, spaceOrder}
 use Rattle.rules.specs.declared.Setting.{Setting}
 use Rattle.rules.specs.declared.Weights.{Weights}
-use Rattle.rules.specs.declared.Cause.{Cause}
-use Rattle.rules.specs.declared.Cause.the-variants.{NoCause, Wall, SelfBody, OppBody, HeadOn}
 use Rattle.rules.specs.declared.Event.{Event}
-use Rattle.bindings.specs.declared.FlatWritten.{FlatWritten}
-use Rattle.bindings.specs.declared.FlatStepped.{FlatStepped}
-use Rattle.bindings.specs.declared.FlatDrawn.{FlatDrawn}
-use Rattle.bindings.specs.declared.FlatPart.{FlatPart}
-use Rattle.events.specs.Causes.{causeIn, causeNumber}
-use Rattle.bindings.specs.Flat.{eventIn, eventNumber, FlatBody, FlatStarts, Tells, FlatObserves, FlatDraws}
-
--- ---- the number of an event, read again, is the event: tried for all 640
-
-unfoldable bothFlags : (Bool → Bool) → Bool
-bothFlags p = p true && p false
-
-flag-of : (p : Bool → Bool) → bothFlags p ≡ true → (b : Bool) → p b ≡ true
-unfolding bothFlags
-flag-of p h true = and-left (p true) (p false) h
-flag-of p h false = and-right (p true) (p false) h
-
-unfoldable allCauses : (Cause → Bool) → Bool
-allCauses p = every (p NoCause ∷ p Wall ∷ p SelfBody ∷ p OppBody ∷ p HeadOn ∷ [])
-
-cause-of : (p : Cause → Bool) → allCauses p ≡ true → (c : Cause) → p c ≡ true
-unfolding allCauses
-cause-of p h NoCause = every-at (p NoCause ∷ p Wall ∷ p SelfBody ∷ p OppBody ∷ p HeadOn ∷ []) 0 h
-cause-of p h Wall = every-at (p NoCause ∷ p Wall ∷ p SelfBody ∷ p OppBody ∷ p HeadOn ∷ []) 1 h
-cause-of p h SelfBody = every-at (p NoCause ∷ p Wall ∷ p SelfBody ∷ p OppBody ∷ p HeadOn ∷ []) 2 h
-cause-of p h OppBody = every-at (p NoCause ∷ p Wall ∷ p SelfBody ∷ p OppBody ∷ p HeadOn ∷ []) 3 h
-cause-of p h HeadOn = every-at (p NoCause ∷ p Wall ∷ p SelfBody ∷ p OppBody ∷ p HeadOn ∷ []) 4 h
-
-abbrev event : Cause → Bool → Bool → Bool → Bool → Bool → Bool → Bool → Event
-event c a d k w l x y = record { «ate_food» = a; died = d; «death_cause» = c; «killed_opponent» = k; won = w; lost = l; drew = x; «survived_to_max_ticks» = y }
-
-abbrev allEvents : (Event → Bool) → Bool
-allEvents p =
-    allCauses (λ c. bothFlags (λ a. bothFlags (λ d. bothFlags (λ k. bothFlags (λ w. bothFlags (λ l. bothFlags (λ x. bothFlags (λ y. p (event c a d k w l x y)))))))))
-
-event-of : (p : Event → Bool) → allEvents p ≡ true → (e : Event) → p e ≡ true
-event-of p h e =
-    flag-of _ (flag-of _ (flag-of _ (flag-of _ (flag-of _ (flag-of _ (flag-of _ (cause-of _ h (e .«death_cause»)) (e .«ate_food»)) (e .died)) (e .«killed_opponent»)) (e .won)) (e .lost)) (e .drew)) (e .«survived_to_max_ticks»)
-
-abbrev sameFlag : Bool → Bool → Bool
-sameFlag a b = b if a else not b
-
-flag-is : (a b : Bool) → sameFlag a b ≡ true → a ≡ b
-flag-is true b h = sym h
-flag-is false true h = h
-flag-is false false h = refl
-
-abbrev parts : Event → Event → List Bool
-parts e f =
-    sameFlag (e .«ate_food») (f .«ate_food») ∷ sameFlag (e .died) (f .died) ∷ eqb (causeNumber (e .«death_cause»)) (causeNumber (f .«death_cause»)) ∷ sameFlag (e .«killed_opponent») (f .«killed_opponent»)
-    ∷ sameFlag (e .won) (f .won) ∷ sameFlag (e .lost) (f .lost) ∷ sameFlag (e .drew) (f .drew) ∷ sameFlag (e .«survived_to_max_ticks») (f .«survived_to_max_ticks») ∷ []
-
-cause-back : (c : Cause) → causeIn (causeNumber c) ≡ c
-cause-back NoCause = refl
-cause-back Wall = refl
-cause-back SelfBody = refl
-cause-back OppBody = refl
-cause-back HeadOn = refl
-
-same-event : (e f : Event) → every (parts e f) ≡ true → e ≡ f
-same-event e f h =
-    let at : (k : ℕ) → getD (parts e f) k true ≡ true = λ k. every-at (parts e f) k h in
-    let c = sym (cause-back (e .«death_cause»)) ∙ ap causeIn (eqb-true (causeNumber (e .«death_cause»)) (causeNumber (f .«death_cause»)) (at 2)) ∙ cause-back (f .«death_cause») in
-    λ i. event (c i) (flag-is (e .«ate_food») (f .«ate_food») (at 0) i) (flag-is (e .died) (f .died) (at 1) i) (flag-is (e .«killed_opponent») (f .«killed_opponent») (at 3) i) (flag-is (e .won) (f .won) (at 4) i)
-    (flag-is (e .lost) (f .lost) (at 5) i) (flag-is (e .drew) (f .drew) (at 6) i) (flag-is (e .«survived_to_max_ticks») (f .«survived_to_max_ticks») (at 7) i)
-
-tried : allEvents (λ e. every (parts (eventIn (eventNumber e)) e)) ≡ true
-unfolding bothFlags allCauses eventNumber every
-tried = refl
-
-pub event-back : (e : Event) → eventIn (eventNumber e) ≡ e
-event-back e = same-event (eventIn (eventNumber e)) e (event-of (λ e. every (parts (eventIn (eventNumber e)) e)) tried e)
+use Rattle.flat.specs.Flat.{flagIn, eventIn, eventsBytes}
+use Rattle.flat.proofs.Theorems.{flag-back, event-back}
+use Rattle.bindings.specs.Exports.{one, bitNumber, keyNumbers, actionNumbers, shapeNumbers, shapeBounds, Tells, Writes, FlatSpace, FlatSteps, FlatDraws, FlatBody}
 
 -- ---- no call refuses by 0, so that refusal 0 says that an answer came
 
@@ -173,21 +107,107 @@ pub space-named : (g : ℤ) → named (spaceSays g) ≡ true
 unfolding spaceSays all
 space-named g = table-named (spaceOrder g) (box 5 (sideOf g) (sideOf g) (lit false) (lit true)) refl
 
+-- ---- reading back
+
+-- a refusal's number, or what g reads in the lent array
+unfoldable pub readAs : {A B : Type 0} → (List B → A) → ℕ → List B → Says A
+readAs g r new = gives (g new) if eqb r 0 else refuses (by r)
+
+no-zero : (k : ℕ) → ltb 0 k ≡ true → eqb k 0 ≡ false
+no-zero k h = ne-eqb k 0 (λ e. let p = ltb-true 0 k h in absurd (omega arith))
+
+module _ {A B : Type 0} (f : A → List B) (g : List B → A) (back : (a : A) → g (f a) ≡ a) (old new : List B) (r : ℕ) where
+  pub read-back : (x : Says A) → named x ≡ true → Tells f x old new r → readAs g r new ≡ x
+  unfolding named readAs
+  read-back (refuses k) h t = rw (t .refusal, no-zero (k .number) h)
+  read-back (gives a) h t = rw (t .refusal) (ap gives (ap g (t .answer) ∙ back a))
+
+-- what each array is read by: a number, a flag, a key, an event, a sum
+pub number-back : (n : ℕ) → getD (one n) 0 0 ≡ n
+number-back n = refl
+
+pub sum-back : (x : Float) → getD (one x) 0 nan ≡ x
+sum-back x = refl
+
+pub bit-back : (b : Bool) → flagIn (getD (bitNumber b) 0 0) ≡ b
+bit-back b = flag-back b
+
+abbrev keyIn : List ℕ → Option ℕ
+keyIn l = some (getD l 1 0) if flagIn (getD l 0 0) else none
+
+pub key-back : (k : Option ℕ) → keyIn (keyNumbers k) ≡ k
+key-back none = refl
+key-back (some n) = refl
+
+-- the actions below a number: of 3 all, of 0 none, which is what a snake may do
+actions-in : (b : Bool) → let l : List ℕ = (0 ∷ 1 ∷ 2 ∷ []) if b else [] in eachBelow (length l) (λ i. i) ≡ l
+unfolding eachBelow
+actions-in true = refl
+actions-in false = refl
+
+pub actions-back : (s : State) (a : ℕ) → eachBelow (getD (actionNumbers (legalFor s a)) 0 0) (λ i. i) ≡ legalFor s a
+actions-back s a = actions-in (snakeOf s a .alive && not (chanceActs s))
+
+abbrev shapeIn : List ℕ → List Float → Shape
+shapeIn l b = discrete (getD l 1 0) if flagIn (getD l 0 0) else box (getD l 2 0) (getD l 3 0) (getD l 4 0) (getD b 0 nan) (getD b 1 nan)
+
+pub shape-back : (s : Shape) → shapeIn (shapeNumbers s) (shapeBounds s) ≡ s
+shape-back (box p h w l t) = refl
+shape-back (discrete n) = refl
+
+-- as many words as the count says, of a buffer that an answer wrote: the answer
+front-is : {B : Type 0} (s d : List B) → take (length s) (overFront s d) ≡ s
+unfolding overFront
+front-is s d = take-append-seam s (drop (length s) d)
+
+pub words-back : {A B : Type 0} (f : A → List B) (a : A) (old new : List B) (count now : List ℕ) (r : ℕ) → Writes f (gives a) old new count now r → take (getD now 0 0) new ≡ f a
+words-back f a old new count now r t = rw (t .count, t .words) (front-is (f a) old)
+
+-- a step's image, end and events
+eight-back : (es : List Event) → eachBelow 8 (λ i. eventIn (getD (eventsBytes es) i [])) ≡ eachBelow 8 (λ i. getD es i blank)
+unfolding eachBelow eventsBytes
+eight-back es = simp event-back
+
+module _ (o : Transition) (old new : List ℕ) (events tells : List (List ℕ)) (end now : List ℕ) (r : ℕ) (t : FlatSteps (gives o) old new events tells end now r) where
+  pub next-back : take (getD now 0 0) new ≡ imageOf (o .next)
+  next-back = rw (t .end, t .words) (front-is (imageOf (o .next)) old)
+
+  pub terminal-back : flagIn (getD now 1 0) ≡ o .terminal
+  terminal-back = rw (t .end) (flag-back (o .terminal))
+
+  pub events-back : eachBelow 8 (λ i. eventIn (getD tells i [])) ≡ eachBelow 8 (λ i. getD (eight (o .events)) i blank)
+  events-back = rw (t .events) (eight-back (eight (o .events)))
+
+-- a draw's image and list
+module _ (d : Draw) (old new list after counts now : List ℕ) (r : ℕ) (t : FlatDraws (gives d) old new list after counts now r) where
+  pub after-back : take (getD now 0 0) new ≡ imageOf (d .next)
+  after-back = rw (t .counts, t .words) (front-is (imageOf (d .next)) old)
+
+  pub cells-back : take (getD now 1 0) after ≡ d .cells
+  cells-back = rw (t .counts, t .list) (front-is (d .cells) list)
+
 -- ---- two answers that meet one promise
 
-pub one-body : (w : List ℕ) (i : ℕ) (r r′ : FlatPart) → FlatBody w i r → FlatBody w i r′ → r ≡ r′
-one-body w i r r′ p p′ = λ k. record { start = (p .start ∙ sym (p′ .start)) k; len = (p .len ∙ sym (p′ .len)) k }
+pub one-answer : {A B : Type 0} (f : A → List B) (x : Says A) (old new new′ : List B) (r r′ : ℕ) → Tells f x old new r → Tells f x old new′ r′ → (r ≡ r′) × (new ≡ new′)
+one-answer f x old new new′ r r′ p p′ = (p .refusal ∙ sym (p′ .refusal), p .answer ∙ sym (p′ .answer))
 
-pub one-start : (s : Setting) (old new new′ : List ℕ) (r r′ : FlatWritten) → FlatStarts s old new r → FlatStarts s old new′ r′ → (r ≡ r′) × (new ≡ new′)
-one-start s old new new′ r r′ p p′ = (p .answer ∙ sym (p′ .answer), p .words ∙ sym (p′ .words))
+pub one-writing : {A B : Type 0} (f : A → List B) (x : Says A) (old new new′ : List B) (count now now′ : List ℕ) (r r′ : ℕ) → Writes f x old new count now r → Writes f x old new′ count now′ r′
+    → (r ≡ r′) × (new ≡ new′) × (now ≡ now′)
+one-writing f x old new new′ count now now′ r r′ p p′ = (p .refusal ∙ sym (p′ .refusal), p .words ∙ sym (p′ .words), p .count ∙ sym (p′ .count))
 
-pub one-step : (x : Says Transition) (old new new′ told tells tells′ : List ℕ) (r r′ : FlatStepped) → Tells x old new told tells r → Tells x old new′ told tells′ r′
-    → (r ≡ r′) × (new ≡ new′) × (tells ≡ tells′)
-one-step x old new new′ told tells tells′ r r′ p p′ = (p .answer ∙ sym (p′ .answer), p .words ∙ sym (p′ .words), p .events ∙ sym (p′ .events))
+pub one-space : (x : Says Shape) (old new new′ : List ℕ) (bounds now now′ : List Float) (r r′ : ℕ) → FlatSpace x old new bounds now r → FlatSpace x old new′ bounds now′ r′
+    → (r ≡ r′) × (new ≡ new′) × (now ≡ now′)
+one-space x old new new′ bounds now now′ r r′ p p′ = (p .refusal ∙ sym (p′ .refusal), p .sizes ∙ sym (p′ .sizes), p .bounds ∙ sym (p′ .bounds))
 
-pub one-view : (w : List ℕ) (a : ℕ) (old new new′ : List Float) (r r′ : FlatWritten) → FlatObserves w a old new r → FlatObserves w a old new′ r′ → (r ≡ r′) × (new ≡ new′)
-one-view w a old new new′ r r′ p p′ = (p .answer ∙ sym (p′ .answer), p .numbers ∙ sym (p′ .numbers))
+pub one-step : (x : Says Transition) (old new new′ : List ℕ) (events tells tells′ : List (List ℕ)) (end now now′ : List ℕ) (r r′ : ℕ) → FlatSteps x old new events tells end now r
+    → FlatSteps x old new′ events tells′ end now′ r′ → (r ≡ r′) × (new ≡ new′) × (tells ≡ tells′) × (now ≡ now′)
+one-step x old new new′ events tells tells′ end now now′ r r′ p p′ =
+    (p .refusal ∙ sym (p′ .refusal), p .words ∙ sym (p′ .words), p .events ∙ sym (p′ .events), p .end ∙ sym (p′ .end))
 
-pub one-draw : (w : List ℕ) (i : ℕ) (old new new′ list new-list new-list′ : List ℕ) (r r′ : FlatDrawn) → FlatDraws w i old new list new-list r → FlatDraws w i old new′ list new-list′ r′
-    → (r ≡ r′) × (new ≡ new′) × (new-list ≡ new-list′)
-one-draw w i old new new′ list new-list new-list′ r r′ p p′ = (p .answer ∙ sym (p′ .answer), p .words ∙ sym (p′ .words), p .list ∙ sym (p′ .list))
+pub one-draw : (x : Says Draw) (old new new′ list after after′ counts now now′ : List ℕ) (r r′ : ℕ) → FlatDraws x old new list after counts now r → FlatDraws x old new′ list after′ counts now′ r′
+    → (r ≡ r′) × (new ≡ new′) × (after ≡ after′) × (now ≡ now′)
+one-draw x old new new′ list after after′ counts now now′ r r′ p p′ =
+    (p .refusal ∙ sym (p′ .refusal), p .words ∙ sym (p′ .words), p .list ∙ sym (p′ .list), p .counts ∙ sym (p′ .counts))
+
+pub one-body : (w : List ℕ) (i : ℕ) (part part′ : List ℕ) (r r′ : ℕ) → FlatBody w i part r → FlatBody w i part′ r′ → (r ≡ r′) × (part ≡ part′)
+one-body w i part part′ r r′ p p′ = (p .refusal ∙ sym (p′ .refusal), p .start-len ∙ sym (p′ .start-len))

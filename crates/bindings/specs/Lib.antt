@@ -1,2 +1,1 @@
-pub mod Flat
-pub mod FlatBooks
+pub mod Exports

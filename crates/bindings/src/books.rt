@@ -1,51 +1,40 @@
 // The calls on a match book: one is written, a page of it is found.
-use crate::FlatPage;
-use crate::FlatSetting;
-use crate::FlatWritten;
-use crate::answers::written;
-use crate::readings::setting_in;
+use crate::tells::tell_words;
 use contents::PageFound;
-ghost use mathlib.Core.Path.{_≡_};
-ghost use Rattle.contents.specs.Calls.{saysPage};
-ghost use Rattle.book.specs.Calls.{pageSays};
-ghost use Rattle.bindings.specs.Flat.{settingIn};
-ghost use Rattle.bindings.specs.FlatBooks.{flatPage, FlatWrites};
+use flat::refusal_number;
+use flat::setting_in;
+ghost use lib.ListN.{length};
+ghost use Rattle.book.specs.Calls.{writeSays, pageSays};
+ghost use Rattle.flat.specs.Flat.{settingIn};
+ghost use Rattle.bindings.specs.Exports.{whole, spanNumbers, Tells, Writes};
 
-// Refusals 1 to 12, 42, then 20 and 21 page by page, 29.
+// How many words. Refusals 1 to 12, 42, then 20 and 21 page by page, 29.
 #[no_mangle]
-pub extern "C" fn lundaspro_write_book(
-    setting: FlatSetting,
+pub extern "C" fn lundaspro_flat_write_book(
+    setting: &[u64; 9],
     pages: u64,
     row: &[u16],
     out: &mut [u16],
-) -> FlatWritten
-    ensures { λ r. ⌜ FlatWrites (settingIn setting) pages (now (row .entry)) (now (out .entry)) (now (out .exit)) r ⌝ }
+    written: &mut [u64; 1],
+) -> u64
+    ensures { λ r. ⌜ Writes whole (writeSays (settingIn (now (setting .entry))) pages (now (row .entry)) (length (now (out .entry)))) (now (out .entry)) (now (out .exit)) (now (written .entry)) (now (written .exit)) r ⌝ }
 {
     let s = setting_in(setting);
-    written(book::write(s, pages, row, out))
+    let a = book::write(s, pages, row, out);
+    tell_words(a, written)
 }
 
-fn found(a: PageFound) -> FlatPage
-    ensures { λ r. ⌜ r ≡ flatPage (saysPage a) ⌝ }
-{
-    match a {
-        PageFound::Part { start, len } => FlatPage {
-            refusal: 0,
-            start,
-            len,
-        },
-        PageFound::Refused(r) => FlatPage {
-            refusal: r.number,
-            start: 0,
-            len: 0,
-        },
-    }
-}
-
-// Refusals 40, 41, 20, 21.
+// Where the page lies in the book, a start and a length. Refusals 40, 41, 20, 21.
 #[no_mangle]
-pub extern "C" fn lundaspro_page(book: &[u16], page: u64) -> FlatPage
-    ensures { λ r. ⌜ r ≡ flatPage (pageSays (now (book .entry)) page) ⌝ }
+pub extern "C" fn lundaspro_flat_page(book: &[u16], page: u64, part: &mut [u64; 2]) -> u64
+    ensures { λ r. ⌜ Tells spanNumbers (pageSays (now (book .entry)) page) (now (part .entry)) (now (part .exit)) r ⌝ }
 {
-    found(book::page_in(book, page))
+    let a = book::page_in(book, page);
+    match a {
+        PageFound::Part { start, len } => {
+            *part = [start as u64, len as u64];
+            0
+        }
+        PageFound::Refused(r) => refusal_number(r),
+    }
 }

@@ -1,57 +1,47 @@
 // The calls on chance: count, draw, rank.
-use crate::FlatDrawn;
-use crate::FlatNumber;
-use crate::answers::number;
+use crate::tells::tell_number;
+use flat::refusal_number;
 use rules::Answer;
-use rules::Drawn;
-ghost use mathlib.Core.Path.{_≡_};
-ghost use Rattle.rules.specs.Calls.{countSays, rankSays};
-ghost use Rattle.bindings.specs.Flat.{flatNumber, drawnParts, FlatDraws};
+ghost use lib.ListN.{length};
+ghost use Rattle.rules.specs.Calls.{countSays, drawSays, rankSays};
+ghost use Rattle.bindings.specs.Exports.{one, Tells, FlatDraws};
 
-// Refusals 20, 23, 28.
+// How many outcomes. Refusals 20, 23, 28.
 #[no_mangle]
-pub extern "C" fn lundaspro_count(image: &[u16]) -> FlatNumber
-    ensures { λ r. ⌜ r ≡ flatNumber (countSays (now (image .entry))) ⌝ }
+pub extern "C" fn lundaspro_flat_count(image: &[u16], value: &mut [u64; 1]) -> u64
+    ensures { λ r. ⌜ Tells one (countSays (now (image .entry))) (now (value .entry)) (now (value .exit)) r ⌝ }
 {
-    number(arena::count(image))
+    let a = arena::count(image);
+    tell_number(a, value)
 }
 
-fn drawn(a: Drawn) -> FlatDrawn
-    ensures { λ r. ⌜ r ≡ drawnParts a ⌝ }
-{
-    let cells = a.cells;
-    let answer = a.answer;
-    match answer {
-        Answer::Done(n) => FlatDrawn {
-            refusal: 0,
-            words: n,
-            cells,
-        },
-        Answer::Refused(r) => FlatDrawn {
-            refusal: r.number,
-            words: 0,
-            cells,
-        },
-    }
-}
-
-// Refusals 20, 23, 28, 27, 29.
+// The words of the image, the cells of the list. Refusals 20, 23, 28, 27, 29.
 #[no_mangle]
-pub extern "C" fn lundaspro_draw(
+pub extern "C" fn lundaspro_flat_draw(
     image: &[u16],
     index: u64,
     out: &mut [u16],
     list: &mut [u16],
-) -> FlatDrawn
-    ensures { λ r. ⌜ FlatDraws (now (image .entry)) index (now (out .entry)) (now (out .exit)) (now (list .entry)) (now (list .exit)) r ⌝ }
+    drawn: &mut [u64; 2],
+) -> u64
+    ensures { λ r. ⌜ FlatDraws (drawSays (now (image .entry)) index (length (now (out .entry))) (length (now (list .entry)))) (now (out .entry)) (now (out .exit)) (now (list .entry)) (now (list .exit)) (now (drawn .entry)) (now (drawn .exit)) r ⌝ }
 {
-    drawn(arena::draw(image, index, out, list))
+    let a = arena::draw(image, index, out, list);
+    let answer = a.answer;
+    match answer {
+        Answer::Done(words) => {
+            *drawn = [words as u64, a.cells as u64];
+            0
+        }
+        Answer::Refused(r) => refusal_number(r),
+    }
 }
 
-// Refusals 20, 23, 28, 30.
+// The index. Refusals 20, 23, 28, 30.
 #[no_mangle]
-pub extern "C" fn lundaspro_rank(image: &[u16], list: &[u16]) -> FlatNumber
-    ensures { λ r. ⌜ r ≡ flatNumber (rankSays (now (image .entry)) (now (list .entry))) ⌝ }
+pub extern "C" fn lundaspro_flat_rank(image: &[u16], list: &[u16], index: &mut [u64; 1]) -> u64
+    ensures { λ r. ⌜ Tells one (rankSays (now (image .entry)) (now (list .entry))) (now (index .entry)) (now (index .exit)) r ⌝ }
 {
-    number(arena::rank(image, list))
+    let a = arena::rank(image, list);
+    tell_number(a, index)
 }

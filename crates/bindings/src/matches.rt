@@ -1,134 +1,105 @@
 // The calls that start a match and move it on, and those on an image alone.
-use crate::FlatPart;
-use crate::FlatSetting;
-use crate::FlatStepped;
-use crate::FlatWritten;
-use crate::answers::verdict;
-use crate::answers::written;
-use crate::readings::setting_in;
-use crate::tells::put_events;
+use crate::tells::tell_words;
+use flat::bit;
+use flat::events_bytes;
+use flat::refusal_number;
+use flat::setting_in;
 use layout::length_at;
 use layout::start_at;
 use rules::Answer;
-use rules::Setting;
+use rules::Verdict;
 ghost use mathlib.Core.Path.{_≡_};
-ghost use Prim.Native.Nat.{_≤_};
 ghost use lib.ListN.{length};
 ghost use Rattle.rules.specs.Facts.{Sound};
-ghost use Rattle.rules.specs.Image.{wellFormed};
-ghost use Rattle.rules.specs.Calls.{settingSays, stepSays};
-ghost use Rattle.bindings.specs.Flat.{settingIn, flatVerdict, FlatBody, FlatStarts, Tells, Untold, FlatSteps};
+ghost use Rattle.rules.specs.Image.{wellFormed, imageOf};
+ghost use Rattle.rules.specs.Calls.{settingSays, initialSays, stepSays};
+ghost use Rattle.flat.specs.Flat.{settingIn};
+ghost use Rattle.bindings.specs.Exports.{refusalOf, formedNumber, FlatBody, Writes, FlatSteps};
 
+// 0, or 20 for a malformed image.
 #[no_mangle]
-pub extern "C" fn lundaspro_well_formed(image: &[u16]) -> bool
-    ensures { λ r. ⌜ r ≡ wellFormed (now (image .entry)) ⌝ }
+pub extern "C" fn lundaspro_flat_well_formed(image: &[u16]) -> u64
+    ensures { λ r. ⌜ r ≡ formedNumber (wellFormed (now (image .entry))) ⌝ }
 {
-    arena::well_formed(image)
+    if arena::well_formed(image) { 0 } else { 20 }
 }
 
-// Where the body lies; 0 and 0 for a malformed image or no such snake.
+// Where the body lies, a start and a length; 0 and 0 for a malformed image or no such snake. Never refused.
 #[no_mangle]
-pub extern "C" fn lundaspro_body(image: &[u16], snake: u64) -> FlatPart
-    ensures { λ r. ⌜ FlatBody (now (image .entry)) snake r ⌝ }
+pub extern "C" fn lundaspro_flat_body(image: &[u16], snake: u64, part: &mut [u64; 2]) -> u64
+    ensures { λ r. ⌜ FlatBody (now (image .entry)) snake (now (part .exit)) r ⌝ }
 {
     if !arena::well_formed(image) {
-        return FlatPart { start: 0, len: 0 };
+        *part = [0, 0];
+        return 0;
     }
-    part_in(image, snake)
+    tell_body(image, snake, part)
 }
 
 // The same in a checked image.
-fn part_in(image: &[u16], snake: u64) -> FlatPart
+fn tell_body(image: &[u16], snake: u64, part: &mut [u64; 2]) -> u64
     requires { ⌜ Sound (now image) ⌝ }
-    ensures { λ r. ⌜ FlatBody (now (image .entry)) snake r ⌝ }
+    ensures { λ r. ⌜ FlatBody (now (image .entry)) snake (now (part .exit)) r ⌝ }
 {
     if image[0] as u64 <= snake {
-        return FlatPart { start: 0, len: 0 };
+        *part = [0, 0];
+        return 0;
     }
     let i = snake as usize;
-    FlatPart {
-        start: image[start_at(i)] as usize,
-        len: image[length_at(i)] as usize,
+    let start = image[start_at(i)] as u64;
+    let len = image[length_at(i)] as u64;
+    *part = [start, len];
+    0
+}
+
+// Refusals 1 to 12.
+#[no_mangle]
+pub extern "C" fn lundaspro_flat_validate(setting: &[u64; 9]) -> u64
+    ensures { λ r. ⌜ r ≡ refusalOf (settingSays (settingIn (now (setting .entry)))) ⌝ }
+{
+    let a = arena::validate(setting_in(setting));
+    match a {
+        Verdict::Accepted => 0,
+        Verdict::Refused(r) => refusal_number(r),
     }
 }
 
-// 0, or refusals 1 to 12.
+// How many words. Refusals 1 to 12, 29.
 #[no_mangle]
-pub extern "C" fn lundaspro_validate(setting: FlatSetting) -> u8
-    ensures { λ r. ⌜ r ≡ flatVerdict (settingSays (settingIn setting)) ⌝ }
-{
-    verdict(arena::validate(setting_in(setting)))
-}
-
-// Refusals 1 to 12, 29.
-#[no_mangle]
-pub extern "C" fn lundaspro_initial_state(setting: FlatSetting, out: &mut [u16]) -> FlatWritten
-    ensures { λ r. ⌜ FlatStarts (settingIn setting) (now (out .entry)) (now (out .exit)) r ⌝ }
+pub extern "C" fn lundaspro_flat_initial_state(
+    setting: &[u64; 9],
+    out: &mut [u16],
+    written: &mut [u64; 1],
+) -> u64
+    ensures { λ r. ⌜ Writes imageOf (initialSays (settingIn (now (setting .entry))) (length (now (out .entry)))) (now (out .entry)) (now (out .exit)) (now (written .entry)) (now (written .exit)) r ⌝ }
 {
     let s = setting_in(setting);
-    written(arena::initial_state(s, out))
+    let a = arena::initial_state(s, out);
+    tell_words(a, written)
 }
 
-// A step with room for the events.
-fn step_told(
-    setting: Setting,
+// The eight events; how many words, and whether the match is over. Refusals 1 to 12, 20, 21, 22, 24, 25, 29.
+#[no_mangle]
+pub extern "C" fn lundaspro_flat_step(
+    setting: &[u64; 9],
     image: &[u16],
     actions: &[u64],
     out: &mut [u16],
-    events: &mut [u16],
-) -> FlatStepped
-    requires { ⌜ 8 ≤ length (now events) ⌝ }
-    ensures { λ r. ⌜ Tells (stepSays setting (now (image .entry)) (now (actions .entry)) (length (now (out .entry)))) (now (out .entry)) (now (out .exit)) (now (events .entry)) (now (events .exit)) r ⌝ }
+    events: &mut [[u8; 8]; 8],
+    end: &mut [u64; 2],
+) -> u64
+    ensures { λ r. ⌜ FlatSteps (stepSays (settingIn (now (setting .entry))) (now (image .entry)) (now (actions .entry)) (length (now (out .entry)))) (now (out .entry)) (now (out .exit)) (now (events .entry)) (now (events .exit)) (now (end .entry)) (now (end .exit)) r ⌝ }
 {
-    let done = arena::step(setting, image, actions, out);
-    let terminal = done.terminal;
-    let told = done.events;
+    let s = setting_in(setting);
+    let done = arena::step(s, image, actions, out);
     let answer = done.answer;
     match answer {
-        Answer::Refused(r) => FlatStepped {
-            refusal: r.number,
-            terminal: false,
-            words: 0,
-        },
         Answer::Done(words) => {
-            put_events(events, told);
-            FlatStepped {
-                refusal: 0,
-                terminal,
-                words,
-            }
+            let told = done.events;
+            *events = events_bytes(told);
+            *end = [words as u64, bit(done.terminal)];
+            0
         }
+        Answer::Refused(r) => refusal_number(r),
     }
-}
-
-// No room for the events is no room: 29 where it comes, or what comes before it.
-fn step_untold(setting: Setting, image: &[u16], actions: &[u64], out: &mut [u16]) -> FlatStepped
-    ensures { λ r. ⌜ Untold (stepSays setting (now (image .entry)) (now (actions .entry)) 0) (now (out .entry)) (now (out .exit)) r ⌝ }
-{
-    let done = arena::step(setting, image, actions, &mut out[0..0]);
-    let answer = done.answer;
-    let a = written(answer);
-    FlatStepped {
-        refusal: a.refusal,
-        terminal: false,
-        words: 0,
-    }
-}
-
-// Refusals 1 to 12, 20, 21, 22, 24, 25, 29; 29 where `out` or `events` is too short.
-#[no_mangle]
-pub extern "C" fn lundaspro_step(
-    setting: FlatSetting,
-    image: &[u16],
-    actions: &[u64],
-    out: &mut [u16],
-    events: &mut [u16],
-) -> FlatStepped
-    ensures { λ r. ⌜ FlatSteps (settingIn setting) (now (image .entry)) (now (actions .entry)) (now (out .entry)) (now (out .exit)) (now (events .entry)) (now (events .exit)) r ⌝ }
-{
-    let s = setting_in(setting);
-    if events.len() < 8 {
-        return step_untold(s, image, actions, out);
-    }
-    step_told(s, image, actions, out, events)
 }

@@ -16,7 +16,7 @@ pub const ALL: &[(&str, fn())] = &[
     ("short_buffers", short_buffers),
     ("rewards", rewards),
     ("turns", turns),
-    ("events_as_numbers", events_as_numbers),
+    ("events_as_bytes", events_as_bytes),
     ("spaces", spaces),
     ("books", books),
     ("refused_books", refused_books),
@@ -462,12 +462,23 @@ fn turns() {
     );
 }
 
-// Every event goes out as a number and comes back with the survival flag of a living and of a dead agent.
-fn events_as_numbers() {
+// Every event goes out as bytes and comes back with the survival flag of a living and of a dead agent.
+fn events_as_bytes() {
     let image = one_dead();
-    for number in (0..5u16).flat_map(|cause| (0..128).map(move |flags| 256 * cause + flags)) {
-        let event = Event::from_number(number);
-        assert_eq!(event.number(), number);
+    for (cause, flags) in (0..5).flat_map(|cause| (0..128).map(move |flags| (cause, flags))) {
+        let bit = |i: u32| (flags >> i & 1) as u8;
+        let bytes = [
+            bit(0),
+            bit(1),
+            cause,
+            bit(2),
+            bit(3),
+            bit(4),
+            bit(5),
+            bit(6),
+        ];
+        let event = Event::from_bytes(bytes);
+        assert_eq!(event.bytes(), bytes);
         assert_eq!(
             image.truncation(0, event),
             Ok(Event {

@@ -1,0 +1,43 @@
+// The numbers that a call may refuse by, each with its sentence.
+
+// tests/sentences holds these to those of clients/c/lundaspro.h
+export const SENTENCES = Object.freeze({
+    1: 'snakes not 2..8',
+    2: 'initial length 0',
+    3: 'food lead 0',
+    4: 'food lead set, snakes not 2',
+    5: 'grid above 32 (space query: or below 1)',
+    6: 'food above g*g (0 when g < 0)',
+    7: 'food above 10,000',
+    8: 'g*g(g*g-1).. of min(snakes, food) factors above 2^53',
+    9: 'some body cannot be traced to its length',
+    10: 'first bad cell: outside',
+    11: 'first bad cell: already taken',
+    12: 'food above the free cells',
+    20: 'image not well-formed',
+    21: 'snakes or grid differ from the setting',
+    22: 'food is due at a step',
+    23: 'none is due at a draw',
+    24: 'action count is not the number of snakes',
+    25: "a living snake's action above 2",
+    26: 'agent not below the number of snakes',
+    27: 'outcome not below the count',
+    28: 'count above 2^64 - 1',
+    29: 'an output buffer shorter than its answer',
+    30: 'list to rank: wrong length, a cell not free, or repeated',
+    31: 'a reward weight not finite',
+    40: "a book's contents: cut short, off their layout, a refused setting, starts out of line, words left in a book of no pages",
+    41: 'no such page',
+    42: 'above 65,535 pages',
+});
+
+// Why a call refused: its number, and what that says.
+export class Refusal extends Error {
+    constructor(number) {
+        const sentence = SENTENCES[number] ?? 'no number that a call gives';
+        super(`refusal ${number}: ${sentence}`);
+        this.name = 'Refusal';
+        this.number = number;
+        this.sentence = sentence;
+    }
+}

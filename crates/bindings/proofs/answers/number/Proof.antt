@@ -1,7 +1,0 @@
--- `bindings::number` meets its contract: each case of the answer is that case of the flat record. Assumes nothing.
-use borrow.Author.Needs.{needs}
-use Rattle.bindings.proofs.answers.number.Statement.{statement}
-use Rattle.bindings.proofs.answers.number.Tie as tie
-
-pub number-spec : {M : Type 1} → statement M
-number-spec = tie.close (tie.spec (λ c. search needs) (λ c. search needs) (λ c. cc) (λ c. cc))

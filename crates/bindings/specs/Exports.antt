@@ -1,0 +1,114 @@
+-- The promises of the exported calls: the refusal, every lent array and every word of the lent buffers, each an equation with the flat form of
+-- what the wrapped call says. old and new are lent memory before and after. Assumes nothing.
+use Prim.Native.Nat.{ℕ}
+use mathlib.Core.Bool.{Bool, true, false}
+use mathlib.Core.List.{List, [], _∷_}
+use mathlib.Core.Option.{Option, none, some}
+use mathlib.Core.Path.{_≡_}
+use lib.Ieee.{Float}
+use lib.ListN.{length, take, drop}
+use Rattle.lists.specs.Choice.{bit}
+use Rattle.rules.specs.Events.{eight}
+use Rattle.rules.specs.Image.{imageOf}
+use Rattle.rules.specs.Step.{Transition}
+use Rattle.rules.specs.Tables.{by}
+use Rattle.rules.specs.View.{lit}
+use Rattle.rules.specs.Says.{Says, refuses, gives, lent, Shape, box, discrete}
+use Rattle.rules.specs.Calls.{Draw, bodyAsked}
+use Rattle.image.specs.Memory.{startAsked}
+use Rattle.contents.specs.Calls.{Span}
+use Rattle.flat.specs.Flat.{refusalNumber, eventsBytes}
+
+-- ---- flat forms
+
+module _ {A : Type 0} where
+  -- 0 for an answer
+  abbrev pub refusalOf : Says A → ℕ
+  refusalOf (refuses k) = refusalNumber k
+  refusalOf (gives a) = 0
+
+-- the check of an image, as every call that takes one refuses it
+abbrev pub formedNumber : Bool → ℕ
+formedNumber true = 0
+formedNumber false = refusalNumber (by 20)
+
+module _ {A B : Type 0} where
+  -- a lent array afterwards: 'A refusal .. leaves all lent words untouched', an answer is the whole array
+  abbrev pub told : (A → List B) → List B → Says A → List B
+  told f old (refuses k) = old
+  told f old (gives a) = f a
+
+abbrev pub one : {A : Type 0} → A → List A
+one x = x ∷ []
+
+abbrev pub bitNumber : Bool → List ℕ
+bitNumber b = bit b ∷ []
+
+-- the words or numbers themselves
+abbrev pub whole : {B : Type 0} → List B → List B
+whole v = v
+
+-- whether there is a key, and the key
+abbrev pub keyNumbers : Option ℕ → List ℕ
+keyNumbers none = 0 ∷ 0 ∷ []
+keyNumbers (some n) = 1 ∷ n ∷ []
+
+-- the legal actions are those below the number
+abbrev pub actionNumbers : List ℕ → List ℕ
+actionNumbers l = length l ∷ []
+
+-- whether it is discrete and of how many numbers; planes, rows, columns
+abbrev pub shapeNumbers : Shape → List ℕ
+shapeNumbers (box p h w l t) = 0 ∷ 0 ∷ p ∷ h ∷ w ∷ []
+shapeNumbers (discrete n) = 1 ∷ n ∷ 0 ∷ 0 ∷ 0 ∷ []
+
+-- low, high
+abbrev pub shapeBounds : Shape → List Float
+shapeBounds (box p h w l t) = l ∷ t ∷ []
+shapeBounds (discrete n) = lit false ∷ lit false ∷ []
+
+-- where a page lies in its book
+abbrev pub spanNumbers : Span → List ℕ
+spanNumbers q = q .start ∷ q .len ∷ []
+
+abbrev pub stepNumbers : Transition → List ℕ
+stepNumbers o = length (imageOf (o .next)) ∷ bit (o .terminal) ∷ []
+
+abbrev pub drawNumbers : Draw → List ℕ
+drawNumbers d = length (imageOf (d .next)) ∷ length (d .cells) ∷ []
+
+-- ---- promises
+
+-- an answer in one lent array
+pub record Tells {A B : Type 0} (f : A → List B) (x : Says A) (old new : List B) (r : ℕ) : Type 0 where
+  pub refusal : r ≡ refusalOf x
+  pub answer : new ≡ told f old x
+
+-- an answer in a lent buffer, and how many words it has in a lent array
+pub record Writes {A B : Type 0} (f : A → List B) (x : Says A) (old new : List B) (oldCount newCount : List ℕ) (r : ℕ) : Type 0 where
+  pub refusal : r ≡ refusalOf x
+  pub count : newCount ≡ told (λ a. one (length (f a))) oldCount x
+  pub words : new ≡ lent f old x
+
+pub record FlatSpace (x : Says Shape) (old new : List ℕ) (oldBounds newBounds : List Float) (r : ℕ) : Type 0 where
+  pub refusal : r ≡ refusalOf x
+  pub sizes : new ≡ told shapeNumbers old x
+  pub bounds : newBounds ≡ told shapeBounds oldBounds x
+
+pub record FlatSteps (x : Says Transition) (old new : List ℕ) (oldEvents newEvents : List (List ℕ)) (oldEnd newEnd : List ℕ) (r : ℕ) : Type 0 where
+  pub refusal : r ≡ refusalOf x
+  pub words : new ≡ lent (λ o. imageOf (o .next)) old x
+  pub events : newEvents ≡ told (λ o. eventsBytes (eight (o .events))) oldEvents x
+  pub end : newEnd ≡ told stepNumbers oldEnd x
+
+pub record FlatDraws (x : Says Draw) (old new oldList newList oldCounts newCounts : List ℕ) (r : ℕ) : Type 0 where
+  pub refusal : r ≡ refusalOf x
+  pub words : new ≡ lent (λ d. imageOf (d .next)) old x
+  pub list : newList ≡ lent (λ d. d .cells) oldList x
+  pub counts : newCounts ≡ told drawNumbers oldCounts x
+
+-- where the body query's part lies in the caller's image
+pub record FlatBody (w : List ℕ) (i : ℕ) (part : List ℕ) (r : ℕ) : Type 0 where
+  pub refusal : r ≡ 0
+  pub start-len : part ≡ startAsked w i ∷ length (bodyAsked w i) ∷ []
+  pub words : take (length (bodyAsked w i)) (drop (startAsked w i) w) ≡ bodyAsked w i
