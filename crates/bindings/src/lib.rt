@@ -15,6 +15,7 @@ pub use chances::lundaspro_flat_rank;
 pub use matches::lundaspro_flat_body;
 pub use matches::lundaspro_flat_initial_state;
 pub use matches::lundaspro_flat_step;
+pub use matches::lundaspro_flat_struck;
 pub use matches::lundaspro_flat_validate;
 pub use matches::lundaspro_flat_well_formed;
 pub use views::lundaspro_flat_action_space;

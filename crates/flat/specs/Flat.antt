@@ -9,6 +9,7 @@ use lib.ListN.{getD}
 use Rattle.lists.specs.Choice.{_if_else_, bit}
 use Rattle.lists.specs.Below.{eachBelow}
 use Rattle.rules.specs.Events.{blank}
+use Rattle.rules.specs.Struck.{noHit}
 use Rattle.events.specs.Causes.{causeNumber, causeIn}
 use Rattle.rules.specs.declared.Limit.{Limit}
 use Rattle.rules.specs.declared.Limit.the-variants.{Unset, Is}
@@ -16,6 +17,7 @@ use Rattle.rules.specs.declared.Refusal.{Refusal}
 use Rattle.rules.specs.declared.Setting.{Setting}
 use Rattle.rules.specs.declared.Weights.{Weights}
 use Rattle.rules.specs.declared.Event.{Event}
+use Rattle.rules.specs.declared.Hit.{Hit}
 
 -- ---- what a caller's numbers mean
 
@@ -80,3 +82,11 @@ eventBytes e =
 -- the eight events of a step
 unfoldable pub eventsBytes : List Event → List (List ℕ)
 eventsBytes es = eachBelow 8 (λ i. eventBytes (getD es i blank))
+
+-- the snake that was hit, and the position
+abbrev pub hitWords : Hit → List ℕ
+hitWords h = h .snake ∷ h .position ∷ []
+
+-- the eight hits
+unfoldable pub hitsWords : List Hit → List (List ℕ)
+hitsWords hs = eachBelow 8 (λ i. hitWords (getD hs i noHit))
