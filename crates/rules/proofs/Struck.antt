@@ -60,18 +60,19 @@ apart-rest g n m i e j l =
 
 -- ---- the first cell behind the head
 
+-- none before it is at p
+before : (g : ℕ) (p : Place) (z : Moved) (l : ℕ) → 1 ≤ l → l < behindHead g p z → standsAt g p z l ≡ false
+before g p z zero a b = absurd (omega arith)
+before g p z (suc l) a b = ap (λ (t : Bool). ltb l (length (z .rest)) && t) (place-first (cellOf g p) (z .rest) l (omega arith)) ∙ and-false (ltb l (length (z .rest)))
+
 pub first-behind : (g : ℕ) (p : Place) (z : Moved) → member (cellOf g p) (z .rest) ≡ true → FirstBehind g p z (behindHead g p z)
 first-behind g p z m =
     let x = cellOf g p in
     record {
       behind = omega arith;
+      first = before g p z;
       there = both (lt-ltb (place x (z .rest)) (length (z .rest)) (place-lt x (z .rest) m)) (eq-eqb x (getD (z .rest) (place x (z .rest)) 0) (sym (getD-place x (z .rest) m)));
-      first = before;
     }
-  where
-    before : (l : ℕ) → 1 ≤ l → l < behindHead g p z → standsAt g p z l ≡ false
-    before zero a b = absurd (omega arith)
-    before (suc l) a b = ap (λ (t : Bool). ltb l (length (z .rest)) && t) (place-first (cellOf g p) (z .rest) l (omega arith)) ∙ and-false (ltb l (length (z .rest)))
 
 -- ---- snake i of n
 

@@ -69,8 +69,8 @@ standsAt g p z (suc k) = ltb k (length (z .rest)) && eqb (cellOf g p) (getD (z .
 -- k is the first position behind the head that is at p
 pub record FirstBehind (g : ℕ) (p : Place) (z : Moved) (k : ℕ) : Type 0 where
   pub behind : 1 ≤ k
-  pub there : standsAt g p z k ≡ true
   pub first : (l : ℕ) → 1 ≤ l → l < k → standsAt g p z l ≡ false
+  pub there : standsAt g p z k ≡ true
 
 -- of n moved snakes m, snake i hit itself
 pub record HitsItself (g : ℕ) (m : ℕ → Moved) (i : ℕ) (h : Hit) : Type 0 where
