@@ -22,7 +22,7 @@ use Rattle.rules.specs.State.{State, snakeOf}
 use Rattle.rules.specs.Events.{blank, eight}
 use Rattle.rules.specs.Image.{imageOf, stateOf}
 use Rattle.rules.specs.Step.{Transition, stepped}
-use Rattle.rules.specs.Struck.{noHit, hitsIn}
+use Rattle.rules.specs.Struck.{hitsIn}
 use Rattle.rules.specs.Chance.{outcomes, drawn, afterDraw, rankOf}
 use Rattle.rules.specs.View.{view, lit}
 use Rattle.rules.specs.LengthKey.{lengthKey}
@@ -36,7 +36,7 @@ use Rattle.rules.specs.declared.Setting.{Setting}
 use Rattle.rules.specs.declared.Weights.{Weights}
 use Rattle.rules.specs.declared.Event.{Event}
 use Rattle.rules.specs.declared.Hit.{Hit}
-use Rattle.flat.specs.Flat.{flagIn, eventIn, eventsBytes, hitsWords}
+use Rattle.flat.specs.Flat.{flagIn, eventIn, eventsBytes, unhit, hitsWords}
 use Rattle.flat.proofs.Theorems.{flag-back, event-back}
 use Rattle.bindings.specs.Exports.{one, bitNumber, keyNumbers, actionNumbers, shapeNumbers, shapeBounds, Tells, Writes, FlatSpace, FlatSteps, FlatDraws, FlatBody}
 
@@ -178,7 +178,7 @@ eight-back es = simp event-back
 abbrev hitIn : List ℕ → Hit
 hitIn l = record { snake = getD l 0 0; position = getD l 1 0 }
 
-pub hits-back : (hs : List Hit) → eachBelow 8 (λ i. hitIn (getD (hitsWords hs) i [])) ≡ eachBelow 8 (λ i. getD hs i noHit)
+pub hits-back : (hs : List Hit) → eachBelow 8 (λ i. hitIn (getD (hitsWords hs) i [])) ≡ eachBelow 8 (λ i. getD hs i unhit)
 unfolding eachBelow hitsWords
 hits-back hs = refl
 

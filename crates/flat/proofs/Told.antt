@@ -6,11 +6,10 @@ use lib.ListN.{getD}
 use Rattle.lists.specs.Choice.{bit}
 use Rattle.lists.specs.Below.{eachBelow}
 use Rattle.rules.specs.Events.{blank}
-use Rattle.rules.specs.Struck.{noHit}
 use Rattle.rules.specs.declared.Event.{Event}
 use Rattle.rules.specs.declared.Hit.{Hit}
 use Rattle.events.specs.Causes.{causeNumber}
-use Rattle.flat.specs.Flat.{eventBytes, eventsBytes, hitWords, hitsWords}
+use Rattle.flat.specs.Flat.{eventBytes, eventsBytes, hitWords, unhit, hitsWords}
 
 pub event-told : (e : Event) (a d c k w l x y : ℕ) → a ≡ bit (e .«ate_food») → d ≡ bit (e .died) → c ≡ causeNumber (e .«death_cause») → k ≡ bit (e .«killed_opponent») → w ≡ bit (e .won)
     → l ≡ bit (e .lost) → x ≡ bit (e .drew) → y ≡ bit (e .«survived_to_max_ticks») → (a ∷ d ∷ c ∷ k ∷ w ∷ l ∷ x ∷ y ∷ []) ≡ eventBytes e
@@ -27,7 +26,7 @@ pub events-told : (es : List Event) (a b c d e f g h : List ℕ) → a ≡ event
 unfolding eventsBytes
 events-told es = eight-told eventBytes blank es
 
-pub hits-told : (hs : List Hit) (a b c d e f g h : List ℕ) → a ≡ hitWords (getD hs 0 noHit) → b ≡ hitWords (getD hs 1 noHit) → c ≡ hitWords (getD hs 2 noHit) → d ≡ hitWords (getD hs 3 noHit)
-    → e ≡ hitWords (getD hs 4 noHit) → f ≡ hitWords (getD hs 5 noHit) → g ≡ hitWords (getD hs 6 noHit) → h ≡ hitWords (getD hs 7 noHit) → (a ∷ b ∷ c ∷ d ∷ e ∷ f ∷ g ∷ h ∷ []) ≡ hitsWords hs
+pub hits-told : (hs : List Hit) (a b c d e f g h : List ℕ) → a ≡ hitWords (getD hs 0 unhit) → b ≡ hitWords (getD hs 1 unhit) → c ≡ hitWords (getD hs 2 unhit) → d ≡ hitWords (getD hs 3 unhit)
+    → e ≡ hitWords (getD hs 4 unhit) → f ≡ hitWords (getD hs 5 unhit) → g ≡ hitWords (getD hs 6 unhit) → h ≡ hitWords (getD hs 7 unhit) → (a ∷ b ∷ c ∷ d ∷ e ∷ f ∷ g ∷ h ∷ []) ≡ hitsWords hs
 unfolding hitsWords
-hits-told hs = eight-told hitWords noHit hs
+hits-told hs = eight-told hitWords unhit hs

@@ -9,7 +9,6 @@ use lib.ListN.{getD}
 use Rattle.lists.specs.Choice.{_if_else_, bit}
 use Rattle.lists.specs.Below.{eachBelow}
 use Rattle.rules.specs.Events.{blank}
-use Rattle.rules.specs.Struck.{noHit}
 use Rattle.events.specs.Causes.{causeNumber, causeIn}
 use Rattle.rules.specs.declared.Limit.{Limit}
 use Rattle.rules.specs.declared.Limit.the-variants.{Unset, Is}
@@ -87,6 +86,10 @@ eventsBytes es = eachBelow 8 (λ i. eventBytes (getD es i blank))
 abbrev pub hitWords : Hit → List ℕ
 hitWords h = h .snake ∷ h .position ∷ []
 
+-- what stands past eight hits: nothing asks for it
+abbrev pub unhit : Hit
+unhit = record { snake = 0; position = 0 }
+
 -- the eight hits
 unfoldable pub hitsWords : List Hit → List (List ℕ)
-hitsWords hs = eachBelow 8 (λ i. hitWords (getD hs i noHit))
+hitsWords hs = eachBelow 8 (λ i. hitWords (getD hs i unhit))
