@@ -9,6 +9,7 @@ const LENT = {
     validate: { arrays: [], buffers: [] },
     initial_state: { arrays: [[3, 8]], buffers: [[1, 2, 2, 3, 0]] },
     step: { arrays: [[7, 64], [8, 16]], buffers: [[5, 6, 2, 8, 0]], events: [7, 4] },
+    struck: { arrays: [[5, 32]], buffers: [] },
     count: { arrays: [[2, 8]], buffers: [] },
     draw: { arrays: [[7, 16]], buffers: [[3, 4, 2, 7, 0], [5, 6, 2, 7, 1]] },
     rank: { arrays: [[4, 8]], buffers: [] },
