@@ -54,6 +54,20 @@ static void refused_steps(void) {
     for (int i = 0; i < 64; i++) CHECK(events[i] == 0);
 }
 
+/* Who was hit where: a refusal writes nothing; a head on the second cell of another's moved body, and nobody else. */
+static void hits_told(void) {
+    lundaspro_setting setting = {.num_snakes = 2, .grid_size = 5, .initial_length = 1};
+    uint16_t both[16] = {2, 5, 0, 0, 0, 13, 1, 1, 1, 14, 2, 3, 1, 7, 8, 9};
+    uint64_t actions[2] = {0, 0};
+    lundaspro_hit hits[LUNDASPRO_HITS];
+    memset(hits, 9, sizeof hits);
+    CHECK(lundaspro_struck(setting, both, 16, actions, 1, hits) == LUNDASPRO_ACTION_COUNT && untouched(hits, sizeof hits));
+    CHECK(lundaspro_struck(setting, both, 15, actions, 2, hits) == LUNDASPRO_MALFORMED && untouched(hits, sizeof hits));
+    CHECK(lundaspro_struck(setting, both, 16, actions, 2, hits) == 0);
+    CHECK(hits[0].snake == 1 && hits[0].position == 1);
+    for (int i = 1; i < LUNDASPRO_HITS; i++) CHECK(hits[i].snake == 8 && hits[i].position == 0);
+}
+
 static void refused_others(void) {
     uint64_t two[2], five[5], setting[9] = {2, 3, 1, 0, 0, 0, 0, 0, 0};
     uint16_t words[20];
@@ -261,6 +275,7 @@ static void sentences(void) {
 
 int main(void) {
     refused_steps();
+    hits_told();
     refused_others();
     matches();
     flags();

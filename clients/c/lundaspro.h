@@ -28,6 +28,7 @@ extern "C" {
 #define LUNDASPRO_IMAGE_WORDS 9253 /* an image: out */
 #define LUNDASPRO_LIST_WORDS 20    /* the cells of one draw: list */
 #define LUNDASPRO_EVENTS 8         /* the events of a step: events, exactly what a step needs */
+#define LUNDASPRO_HITS 8           /* who was hit where: hits, exactly what the call needs */
 #define LUNDASPRO_PLANE_NUMBERS 5120 /* an observation: obs */
 #define LUNDASPRO_BOOK_WORDS(pages, row_len) (17 + 2 * (pages) + (row_len)) /* a book: out, exactly what writing it needs */
 
@@ -101,6 +102,8 @@ uint64_t lundaspro_flat_step(const uint64_t setting[9], const uint16_t *image, u
 uint64_t lundaspro_flat_take_move(const uint64_t setting[9], uint64_t terminal, const uint16_t *image, uint64_t image_len, uint8_t events[64],
     uint64_t match[19]); /* events, match: read and written */
 uint64_t lundaspro_flat_places(const uint64_t setting[9], const uint64_t match[19], uint64_t places[8]);
+uint64_t lundaspro_flat_struck(const uint64_t setting[9], const uint16_t *image, uint64_t image_len, const uint64_t *actions, uint64_t actions_len,
+    uint16_t hits[16]); /* eight times: snake, position */
 uint64_t lundaspro_flat_count(const uint16_t *image, uint64_t image_len, uint64_t value[1]);
 uint64_t lundaspro_flat_draw(const uint16_t *image, uint64_t image_len, uint64_t index, uint16_t *out, uint64_t out_len, uint16_t *list, uint64_t list_len,
     uint64_t drawn[2]); /* words, cells */
@@ -149,6 +152,11 @@ typedef struct {
 typedef struct {
     uint8_t ate_food, died, death_cause, killed_opponent, won, lost, drew, survived_to_max_ticks;
 } lundaspro_event;
+
+/* Whom a snake hit, and at which position of its moved body, the head being 0; 8 and 0 for nobody. */
+typedef struct {
+    uint16_t snake, position;
+} lundaspro_hit;
 
 /* How many words or numbers were written. */
 typedef struct {
@@ -296,6 +304,14 @@ static inline lundaspro_stepped lundaspro_step(lundaspro_setting setting, const 
     uint64_t r = lundaspro_flat_step(s.numbers, image, image_len, actions, actions_len, out, out_len, (uint8_t *)events, end);
     lundaspro_stepped a = {lundaspro_refusal(r), end[1] != 0, (size_t)end[0]};
     return a;
+}
+
+/* Who is hit where by that move: for each snake that dies by its own or another's body the one that is hit and the position, nobody
+ * for any other and from n on, eight in all. 0, or refusals 1 to 12, 20, 21, 22, 24, 25. */
+static inline uint8_t lundaspro_struck(lundaspro_setting setting, const uint16_t *image, size_t image_len, const uint64_t *actions, size_t actions_len,
+    lundaspro_hit hits[LUNDASPRO_HITS]) {
+    lundaspro_numbers s = lundaspro_setting_numbers(setting);
+    return lundaspro_refusal(lundaspro_flat_struck(s.numbers, image, image_len, actions, actions_len, (uint16_t *)hits));
 }
 
 /* How many outcomes the draw has. Refusals 20, 23, 28. */

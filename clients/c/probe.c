@@ -18,6 +18,7 @@ static uint16_t words[MOST_BOOK_WORDS], out[MOST_BOOK_WORDS], list[MOST_WORDS];
 static uint64_t actions[MOST_ACTIONS];
 static float planes[MOST_NUMBERS];
 static lundaspro_event events[LUNDASPRO_EVENTS];
+static lundaspro_hit hits[LUNDASPRO_HITS];
 
 /* ---- the fields of a line: `fine` stays true while it is a call */
 
@@ -169,11 +170,15 @@ static void initial_state(void) {
     ended(kept(out, a.words, room));
 }
 
+static size_t actions_of(void) {
+    size_t count = up_to(MOST_ACTIONS);
+    for (size_t i = 0; i < count; i++) actions[i] = number();
+    return count;
+}
+
 static void step(void) {
     lundaspro_setting s = setting_of();
-    size_t room = lend(out, MOST_WORDS), count = up_to(MOST_ACTIONS);
-    for (size_t i = 0; i < count; i++) actions[i] = number();
-    size_t length = image_of(MOST_WORDS);
+    size_t room = lend(out, MOST_WORDS), count = actions_of(), length = image_of(MOST_WORDS);
     if (!fine) return;
     memset(events, 9, sizeof events);
     lundaspro_stepped a = lundaspro_step(s, words, length, actions, count, out, room, events);
@@ -185,6 +190,19 @@ static void step(void) {
     } else {
         for (size_t i = 0; i < sizeof events; i++) holds = holds && ((unsigned char *)events)[i] == 9;
     }
+    ended(holds);
+}
+
+static void struck(void) {
+    lundaspro_setting s = setting_of();
+    size_t count = actions_of(), length = image_of(MOST_WORDS);
+    if (!fine) return;
+    memset(hits, 9, sizeof hits);
+    bool holds = true;
+    if (begun(lundaspro_struck(s, words, length, actions, count, hits)))
+        for (int i = 0; i < LUNDASPRO_HITS; i++) put(hits[i].snake), put(hits[i].position);
+    else
+        for (size_t i = 0; i < sizeof hits; i++) holds = holds && ((unsigned char *)hits)[i] == 9;
     ended(holds);
 }
 
@@ -350,7 +368,7 @@ static void page(void) {
 static const struct {
     char letter;
     void (*call)(void);
-} calls[] = {{'v', validate}, {'i', initial_state}, {'s', step}, {'c', count}, {'d', draw}, {'k', rank}, {'o', observe}, {'b', body}, {'t', actor}, {'l', legal_actions},
+} calls[] = {{'v', validate}, {'i', initial_state}, {'s', step}, {'H', struck}, {'c', count}, {'d', draw}, {'k', rank}, {'o', observe}, {'b', body}, {'t', actor}, {'l', legal_actions},
     {'z', length_cell}, {'u', truncation}, {'w', reward}, {'n', outcome_of}, {'p', observation_space}, {'q', action_space}, {'h', turn}, {'x', well_formed}, {'B', write_book}, {'P', page}};
 
 /* A line ends at its newline; it may hold any byte, of which 0 is no call's. */

@@ -327,6 +327,22 @@ export class Arena {
         return { next, terminal: this.#long(end, 1) !== 0n, events: list.map((_, i) => this.#event(events + 8 * i)) };
     }
 
+    // Who is hit where by that move: for each snake { snake, position } if it dies by its own or another's body, else null; position 0 is the moved head.
+    // Refusals 1 to 12, 20, 21, 22, 24, 25.
+    struck(setting, image, actions) {
+        const numbers = settingNumbers(setting);
+        const list = Array.from(actions, (action) => unsigned(action, 'action'));
+        const length = lengthOf(image, Uint16Array, 'image');
+        this.#begin();
+        const s = this.#putLongs(numbers);
+        const w = this.#putWords(image);
+        const a = this.#putLongs(list);
+        const hits = this.#room(32);
+        this.#check(this.#exports.lundaspro_flat_struck(s, w, length, a, BigInt(list.length), hits));
+        const words = this.#words.subarray(hits / 2, hits / 2 + 16);
+        return list.map((_, i) => (words[2 * i] < 8 ? { snake: words[2 * i], position: words[2 * i + 1] } : null));
+    }
+
     // ---- a match
 
     // What a step makes of a match: { match, events }, the living marked at max_ticks; `step` is the answer of `step`, `match` stays as it is. Refusal 33.

@@ -151,6 +151,12 @@ const calls = {
         const told = events.flatMap(eventNumbers);
         return [Number(terminal), ...told, ...Array(64 - told.length).fill(0), ...counted(next)];
     },
+    H(f) {
+        const setting = f.setting();
+        const actions = f.counted(MOST_ACTIONS, 2n ** 64n - 1n);
+        const hits = arena.struck(setting, f.image(), actions);
+        return Array.from({ length: 8 }, (_, i) => hits[i] ?? { snake: 8, position: 0 }).flatMap(({ snake, position }) => [snake, position]);
+    },
     c: (f) => [arena.count(f.image())],
     d(f) {
         const out = lendWords(f.upTo(MOST_WORDS));

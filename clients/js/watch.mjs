@@ -12,6 +12,7 @@ const LENT = {
     step: { arrays: [[7, 64], [8, 16]], buffers: [[5, 6, 2, 8, 0]], events: [7, 4] },
     take_move: { arrays: [], buffers: [], both: [[4, 64], [5, 152]] },
     places: { arrays: [[2, 64]], buffers: [] },
+    struck: { arrays: [[5, 32]], buffers: [] },
     count: { arrays: [[2, 8]], buffers: [] },
     draw: { arrays: [[7, 16]], buffers: [[3, 4, 2, 7, 0], [5, 6, 2, 7, 1]] },
     rank: { arrays: [[4, 8]], buffers: [] },

@@ -1,7 +1,7 @@
 //! The calls over slices that the caller lends: nothing is allocated. On a refusal every lent word is untouched; after an answer the
 //! words past those it wrote keep their values.
 use crate::raw;
-use crate::{Event, Refusal, Setting};
+use crate::{Event, Hit, Refusal, Setting};
 
 /// What a step into lent memory answers; `words` is the length of the next image.
 #[derive(Clone, Copy, Debug, PartialEq, Eq)]
@@ -58,6 +58,26 @@ pub fn step(
         terminal: end[1] != 0,
         events: events.map(Event::from_bytes),
     })
+}
+
+/// Whom each snake hits, and where. Refusals 1 to 12, 20, 21, 22, 24, 25.
+pub fn struck(
+    setting: &Setting,
+    image: &[u16],
+    actions: &[u64],
+) -> Result<[Option<Hit>; 8], Refusal> {
+    let mut hits = [[0; 2]; 8];
+    Refusal::check(unsafe {
+        raw::lundaspro_flat_struck(
+            &setting.flat(),
+            image.as_ptr(),
+            image.len(),
+            actions.as_ptr(),
+            actions.len(),
+            &mut hits,
+        )
+    })?;
+    Ok(hits.map(Hit::from_words))
 }
 
 /// Refusals 20, 23, 28.

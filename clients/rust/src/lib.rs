@@ -155,6 +155,21 @@ pub struct Step {
     pub events: Vec<Event>,
 }
 
+/// Whom a snake hit, and at which position of that snake's moved body, its head being 0.
+#[derive(Clone, Copy, Debug, PartialEq, Eq, Hash)]
+pub struct Hit {
+    pub snake: usize,
+    pub position: usize,
+}
+
+impl Hit {
+    /// The words that the library writes; a snake above 7 is none.
+    pub fn from_words(words: [u16; 2]) -> Option<Hit> {
+        let [snake, position] = words.map(usize::from);
+        (snake < 8).then_some(Hit { snake, position })
+    }
+}
+
 /// A draw's answer.
 #[derive(Clone, Debug, PartialEq, Eq)]
 pub struct Draw {
@@ -222,6 +237,17 @@ impl Image {
             terminal: a.terminal,
             events: a.events[..actions.len()].to_vec(),
         })
+    }
+
+    /// For each snake, whom it hits by that move and where, if it dies by its own or another's body. Refusals 1 to 12, 20, 21, 22, 24.
+    pub fn struck(
+        &self,
+        setting: &Setting,
+        actions: &[Action],
+    ) -> Result<Vec<Option<Hit>>, Refusal> {
+        let numbers: Vec<u64> = actions.iter().map(|action| action.number()).collect();
+        let hits = lend::struck(setting, &self.0, &numbers)?;
+        Ok(hits[..actions.len()].to_vec())
     }
 
     /// Refusals 20, 23, 28.

@@ -45,6 +45,14 @@ extern "C" {
         game: &mut Match,
     ) -> u64;
     pub fn lundaspro_flat_places(setting: &Setting, game: &Match, places: &mut [u64; 8]) -> u64;
+    pub fn lundaspro_flat_struck(
+        setting: &Setting,
+        image: *const u16,
+        image_len: usize,
+        actions: *const u64,
+        actions_len: usize,
+        hits: &mut [[u16; 2]; 8],
+    ) -> u64;
     pub fn lundaspro_flat_count(image: *const u16, image_len: usize, value: &mut [u64; 1]) -> u64;
     pub fn lundaspro_flat_draw(
         image: *const u16,

@@ -1,7 +1,7 @@
 // The lines of docs/PROBE.md on the Rust client, read from standard input: so a library for any machine is held against the Rust as the program `probe` is. Lent
 // buffers are filled with a pattern before a call and looked through after it; `!` ends a line where one has changed beyond the answer.
 use lundaspro::{
-    lend, Action, Actor, Cause, Event, Heading, Image, Refusal, Setting, Space, Weights,
+    lend, Action, Actor, Cause, Event, Heading, Hit, Image, Refusal, Setting, Space, Weights,
 };
 use std::io::{self, BufRead, Write};
 
@@ -187,6 +187,20 @@ fn step(f: &mut Fields) -> Option<Answer> {
     })
 }
 
+fn struck(f: &mut Fields) -> Option<Answer> {
+    let setting = f.setting()?;
+    let actions = f.counted(MOST_ACTIONS, u64::MAX)?;
+    let words = f.words()?;
+    let told = |hit: Option<Hit>| {
+        let numbers = hit.map_or([8, 0], |hit| [hit.snake, hit.position]);
+        numbers.map(|n| n as u64)
+    };
+    let hits = lend::struck(&setting, &words, &actions);
+    Some(plain(
+        hits.map(|hits| hits.into_iter().flat_map(told).collect()),
+    ))
+}
+
 fn draw(f: &mut Fields) -> Option<Answer> {
     let (mut out, mut list) = (f.buffer()?, f.buffer()?);
     let index = f.number()?;
@@ -299,6 +313,7 @@ fn call(line: &str) -> Option<Answer> {
         }
         "i" => initial(f),
         "s" => step(f),
+        "H" => struck(f),
         "c" => Some(plain(f.image()?.count().map(|n| vec![n]))),
         "d" => draw(f),
         "k" => {

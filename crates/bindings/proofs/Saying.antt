@@ -13,16 +13,19 @@ use Rattle.rules.specs.Headings.{numberOf, turned}
 use Rattle.rules.specs.Events.{blank, eight}
 use Rattle.rules.specs.Image.{imageOf, wellFormed}
 use Rattle.rules.specs.Step.{Transition}
+use Rattle.rules.specs.Struck.{noHit}
 use Rattle.rules.specs.View.{lit}
 use Rattle.rules.specs.Says.{Says, refuses, gives, says, saysVerdict, saysNumber, saysKey, saysActor, saysLegal, saysMark, saysSum, saysSpace, seen, beside, lent, Shape}
-use Rattle.rules.specs.Calls.{settingSays, initialSays, stepSays, observeSays, Draw, drawSays, actorSays, legalSays, keySays, truncationSays, rewardSays, spaceSays, actionSays}
-use Rattle.rules.specs.Promises.{Turns, Checks, Validates, Starts, Steps, Observes, Draws, ActsNext, Allows, Keys, Truncates, Rewards, ObservationSpace, ActionSpace}
+use Rattle.rules.specs.Calls.{settingSays, initialSays, stepSays, struckSays, observeSays, Draw, drawSays, actorSays, legalSays, keySays, truncationSays, rewardSays, spaceSays, actionSays}
+use Rattle.rules.specs.Promises.{Turns, Checks, Validates, Starts, Steps, Strikes, Observes, Draws, ActsNext, Allows, Keys, Truncates, Rewards, ObservationSpace, ActionSpace}
 use Rattle.rules.specs.declared.Heading.{Heading}
 use Rattle.rules.specs.declared.RelativeAction.{RelativeAction}
 use Rattle.rules.specs.declared.Refusal.{Refusal}
 use Rattle.rules.specs.declared.Setting.{Setting}
 use Rattle.rules.specs.declared.Weights.{Weights}
 use Rattle.rules.specs.declared.Event.{Event}
+use Rattle.rules.specs.declared.Hit.{Hit}
+use Rattle.rules.specs.declared.Hits.{Hits}
 use Rattle.rules.specs.declared.Verdict.{Verdict}
 use Rattle.rules.specs.declared.Verdict.the-variants.{Accepted, Refused as RefusedVerdict}
 use Rattle.rules.specs.declared.Answer.{Answer}
@@ -48,7 +51,7 @@ use Rattle.contents.specs.declared.PageFound.{PageFound}
 use Rattle.contents.specs.declared.PageFound.the-variants.{Part, Refused as RefusedPage}
 use Rattle.book.specs.Calls.{writeSays, pageSays}
 use Rattle.book.specs.Promises.{Pages, Writes as Binds}
-use Rattle.flat.specs.Flat.{refusalNumber, eventBytes, eventsBytes}
+use Rattle.flat.specs.Flat.{refusalNumber, eventBytes, eventsBytes, hitsWords}
 use Rattle.bindings.specs.Exports.{refusalOf, formedNumber, told, one, bitNumber, whole, keyNumbers, actionNumbers, shapeNumbers, shapeBounds, spanNumbers, Tells, Writes, FlatSpace, FlatSteps, FlatDraws}
 
 abbrev Apart : Type 0
@@ -263,6 +266,24 @@ module _ (s s′ : Setting) (w acts old new : List ℕ) (d : Stepped) (q : Steps
 
   pub step-refused : (k : Refusal) → d .answer ≡ Refused k → (r : ℕ) → r ≡ refusalNumber k → FlatSteps (stepSays s′ w acts (length old)) old new events events end end r
   step-refused k e r n = rw (← p) (not-moved old new events end (stepSays s w acts (length old)) k (ap says (sym e) ∙ q .answer) (q .words) r n)
+
+-- ---- who was hit where
+
+module _ (old : List (List ℕ)) where
+  hit-done : (x : Says (List Hit)) → _≡_ {A = Says (Unit {0})} (gives tt) (seen (λ h. tt) x) → (hs : List Hit) → hs ≡ beside (λ h. h) (replicate 8 noHit) x → Tells hitsWords x old (hitsWords hs) 0
+  hit-done (refuses k) p hs q = let z : Apart = cc in absurd (omega arith)
+  hit-done (gives l) p hs q = record { refusal = refl; answer = ap hitsWords q }
+
+  not-hit : (x : Says (List Hit)) (k : Refusal) → _≡_ {A = Says (Unit {0})} (refuses k) (seen (λ h. tt) x) → (r : ℕ) → r ≡ refusalNumber k → Tells hitsWords x old old r
+  not-hit (refuses j) k p r e = let s : k ≡ j = cc in record { refusal = e ∙ ap refusalNumber s; answer = refl }
+  not-hit (gives l) k p r e = let z : Apart = cc in absurd (omega arith)
+
+module _ (s s′ : Setting) (w acts : List ℕ) (d : Hits) (q : Strikes s w acts d) (p : s ≡ s′) (old : List (List ℕ)) where
+  pub struck-told : d .verdict ≡ Accepted → (new : List (List ℕ)) → new ≡ hitsWords (d .hits) → Tells hitsWords (struckSays s′ w acts) old new 0
+  struck-told e new v = rw (v, ← p) (hit-done old (struckSays s w acts) (ap saysVerdict (sym e) ∙ q .answer) (d .hits) (q .hits))
+
+  pub struck-refused : (k : Refusal) → d .verdict ≡ RefusedVerdict k → (r : ℕ) → r ≡ refusalNumber k → Tells hitsWords (struckSays s′ w acts) old old r
+  struck-refused k e r n = rw (← p) (not-hit old (struckSays s w acts) k (ap saysVerdict (sym e) ∙ q .answer) r n)
 
 -- ---- a turn
 

@@ -22,6 +22,7 @@ use Rattle.rules.specs.State.{State, snakeOf}
 use Rattle.rules.specs.Events.{blank, eight}
 use Rattle.rules.specs.Image.{imageOf, stateOf}
 use Rattle.rules.specs.Step.{Transition, stepped}
+use Rattle.rules.specs.Struck.{hitsIn}
 use Rattle.rules.specs.Chance.{outcomes, drawn, afterDraw, rankOf}
 use Rattle.rules.specs.View.{view, lit}
 use Rattle.rules.specs.LengthKey.{lengthKey}
@@ -29,15 +30,16 @@ use Rattle.rules.specs.Turns.{chanceActs, legalFor, truncated}
 use Rattle.rules.specs.Reward.{rewardOf}
 use Rattle.rules.specs.Setting.{settingOrder, sideOf, initialState}
 use Rattle.rules.specs.Says.{Says, refuses, gives, byTable, lent, Shape, box, discrete}
-use Rattle.rules.specs.Calls.{settingSays, initialSays, stepSays, observeSays, countSays, Draw, drawSays, rankSays, actorSays, legalSays, keySays, truncationSays, rewardSays, spaceSays}
-use Rattle.rules.specs.Orders.{initialOrder, stepOrder, observeOrder, countOrder, drawOrder, rankOrder, imageOrder, agentOrder, rewardOrder, spaceOrder}
+use Rattle.rules.specs.Calls.{settingSays, initialSays, stepSays, struckSays, observeSays, countSays, Draw, drawSays, rankSays, actorSays, legalSays, keySays, truncationSays, rewardSays, spaceSays}
+use Rattle.rules.specs.Orders.{initialOrder, stepOrder, struckOrder, observeOrder, countOrder, drawOrder, rankOrder, imageOrder, agentOrder, rewardOrder, spaceOrder}
 use Rattle.unit.specs.UnitNumber.{outcomeOf}
 use Rattle.unit.specs.Orders.{outcomeOrder}
 use Rattle.unit.specs.Calls.{outcomeSays}
 use Rattle.rules.specs.declared.Setting.{Setting}
 use Rattle.rules.specs.declared.Weights.{Weights}
 use Rattle.rules.specs.declared.Event.{Event}
-use Rattle.flat.specs.Flat.{flagIn, eventIn, eventsBytes}
+use Rattle.rules.specs.declared.Hit.{Hit}
+use Rattle.flat.specs.Flat.{flagIn, eventIn, eventsBytes, unhit, hitsWords}
 use Rattle.flat.proofs.Theorems.{flag-back, event-back}
 use Rattle.bindings.specs.Exports.{one, bitNumber, keyNumbers, actionNumbers, shapeNumbers, shapeBounds, Tells, Writes, FlatSpace, FlatSteps, FlatDraws, FlatBody}
 
@@ -101,6 +103,10 @@ module _ (s : Setting) where
   pub step-named : (w acts : List ℕ) (room : ℕ) → named (stepSays s w acts room) ≡ true
   unfolding stepSays all
   step-named w acts room = table-named (stepOrder s w acts room) (stepped s (stateOf w) acts) refl
+
+  pub struck-named : (w acts : List ℕ) → named (struckSays s w acts) ≡ true
+  unfolding struckSays all
+  struck-named w acts = table-named (struckOrder s w acts) (hitsIn (stateOf w) acts) refl
 
 pub reward-named : (w : Weights) (e : Event) → named (rewardSays w e) ≡ true
 unfolding rewardSays all
@@ -174,6 +180,14 @@ words-back f a old new count now r t = rw (t .count, t .words) (front-is (f a) o
 eight-back : (es : List Event) → eachBelow 8 (λ i. eventIn (getD (eventsBytes es) i [])) ≡ eachBelow 8 (λ i. getD es i blank)
 unfolding eachBelow eventsBytes
 eight-back es = simp event-back
+
+-- eight hits
+abbrev hitIn : List ℕ → Hit
+hitIn l = record { snake = getD l 0 0; position = getD l 1 0 }
+
+pub hits-back : (hs : List Hit) → eachBelow 8 (λ i. hitIn (getD (hitsWords hs) i [])) ≡ eachBelow 8 (λ i. getD hs i unhit)
+unfolding eachBelow hitsWords
+hits-back hs = refl
 
 module _ (o : Transition) (old new : List ℕ) (events tells : List (List ℕ)) (end now : List ℕ) (r : ℕ) (t : FlatSteps (gives o) old new events tells end now r) where
   pub next-back : take (getD now 0 0) new ≡ imageOf (o .next)

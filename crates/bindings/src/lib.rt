@@ -19,6 +19,7 @@ pub use games::lundaspro_flat_take_move;
 pub use matches::lundaspro_flat_body;
 pub use matches::lundaspro_flat_initial_state;
 pub use matches::lundaspro_flat_step;
+pub use matches::lundaspro_flat_struck;
 pub use matches::lundaspro_flat_validate;
 pub use matches::lundaspro_flat_well_formed;
 pub use views::lundaspro_flat_action_space;

@@ -2,6 +2,7 @@
 use crate::tells::tell_words;
 use flat::bit;
 use flat::events_bytes;
+use flat::hits_words;
 use flat::refusal_number;
 use flat::setting_in;
 use layout::length_at;
@@ -12,9 +13,9 @@ ghost use mathlib.Core.Path.{_≡_};
 ghost use lib.ListN.{length};
 ghost use Rattle.rules.specs.Facts.{Sound};
 ghost use Rattle.rules.specs.Image.{wellFormed, imageOf};
-ghost use Rattle.rules.specs.Calls.{settingSays, initialSays, stepSays};
-ghost use Rattle.flat.specs.Flat.{settingIn};
-ghost use Rattle.bindings.specs.Exports.{refusalOf, formedNumber, FlatBody, Writes, FlatSteps};
+ghost use Rattle.rules.specs.Calls.{settingSays, initialSays, stepSays, struckSays};
+ghost use Rattle.flat.specs.Flat.{settingIn, hitsWords};
+ghost use Rattle.bindings.specs.Exports.{refusalOf, formedNumber, FlatBody, Tells, Writes, FlatSteps};
 
 // 0, or 20 for a malformed image.
 #[no_mangle]
@@ -101,5 +102,28 @@ pub extern "C" fn lundaspro_flat_step(
             0
         }
         Answer::Refused(r) => refusal_number(r),
+    }
+}
+
+// Whom each snake hits and at which position of its moved body, 8 and 0 for nobody. Refusals 1 to 12, 20, 21, 22, 24, 25.
+#[no_mangle]
+pub extern "C" fn lundaspro_flat_struck(
+    setting: &[u64; 9],
+    image: &[u16],
+    actions: &[u64],
+    hits: &mut [[u16; 2]; 8],
+) -> u64
+    ensures { λ r. ⌜ Tells hitsWords (struckSays (settingIn (now (setting .entry))) (now (image .entry)) (now (actions .entry))) (now (hits .entry)) (now (hits .exit)) r ⌝ }
+{
+    let s = setting_in(setting);
+    let done = arena::struck(s, image, actions);
+    let verdict = done.verdict;
+    match verdict {
+        Verdict::Accepted => {
+            let told = done.hits;
+            *hits = hits_words(told);
+            0
+        }
+        Verdict::Refused(r) => refusal_number(r),
     }
 }

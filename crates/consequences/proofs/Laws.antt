@@ -12,7 +12,10 @@ use borrow.Author.Tests.{not-true, not-false}
 use Rattle.lists.specs.Choice.{bit}
 use Rattle.lists.specs.Below.{countBelow, sumBelow}
 use Rattle.lists.specs.Lists.{member}
+use Rattle.lists.specs.Search.{foundIn, isFound}
+use Rattle.lists.specs.declared.Found.{Found}
 use Rattle.lists.proofs.Tests.{bit-le}
+use Rattle.lists.proofs.Search.{found-member}
 use Rattle.lists.proofs.Below.{count-none, count-next, sum-none, sum-next}
 use Rattle.rules.specs.declared.Event.{Event}
 use Rattle.rules.specs.Events.{dies, byBody, blank}
@@ -106,11 +109,13 @@ module _ (w : List ℕ) (i : ℕ) (a : After) (q : PartIn w i a) (k : ℕ) (e : 
   pub part-fits : getD w k 0 + a .keep ≤ length w
   part-fits = rw e (q .fits)
 
-  pub cell-held : (cell : ℕ) → not (a .lives) ≡ false → (b : Bool) → b ≡ member cell (take (a .keep) (drop (getD w k 0) w)) → HasCell w i a cell (eqb cell (a .cell) || b)
+  -- f is where the cell is found, b whether it is
+  pub cell-held : (cell : ℕ) → not (a .lives) ≡ false → (f : Found) → f ≡ foundIn (take (a .keep) (drop (getD w k 0) w)) cell → (b : Bool) → b ≡ isFound f
+      → HasCell w i a cell (eqb cell (a .cell) || b)
   unfolding member
-  cell-held cell h b p = record {
-    is = rw (not-false (a .lives) h) (ap (λ (b : Bool). eqb cell (a .cell) || b) (p ∙ ap (λ (k : ℕ). member cell (take (a .keep) (drop (getD w k 0) w))) e));
-  }
+  cell-held cell h f p b q =
+      let told = q ∙ ap isFound p ∙ found-member cell (take (a .keep) (drop (getD w k 0) w)) in
+      record { is = rw (not-false (a .lives) h) (ap (λ (b : Bool). eqb cell (a .cell) || b) (told ∙ ap (λ (k : ℕ). member cell (take (a .keep) (drop (getD w k 0) w))) e)) }
 
 pub part-in : (w : List ℕ) (all : List After) (n : ℕ) → InImage w all n → (j : ℕ) → j < n → PartIn w j (getD all j gone)
 part-in w all n h j l = h .parts j l

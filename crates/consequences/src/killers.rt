@@ -1,5 +1,6 @@
 // Who is credited with a death: 'An OppBody victim credits the lowest-numbered survivor whose body holds the fatal cell, if any'.
 use crate::after::After;
+use lists::is_found;
 use rules::Cause;
 ghost use mathlib.Core.Path.{_≡_};
 ghost use Prim.Native.Nat.{_<_, _≤_};
@@ -29,7 +30,8 @@ fn has_cell(image: &[u16], j: usize, a: After, cell: u16) -> bool
         return false;
     }
     let start = image[layout::start_at(j)] as usize;
-    at_head | image::holds_in(image, start, a.keep as usize, cell)
+    let found = image::find_in(image, start, a.keep as usize, cell);
+    at_head | is_found(found)
 }
 
 // The lowest-numbered survivor whose body holds a cell, or n.

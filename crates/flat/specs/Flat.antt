@@ -16,6 +16,7 @@ use Rattle.rules.specs.declared.Refusal.{Refusal}
 use Rattle.rules.specs.declared.Setting.{Setting}
 use Rattle.rules.specs.declared.Weights.{Weights}
 use Rattle.rules.specs.declared.Event.{Event}
+use Rattle.rules.specs.declared.Hit.{Hit}
 
 -- ---- what a caller's numbers mean
 
@@ -80,3 +81,15 @@ eventBytes e =
 -- the eight events of a step
 unfoldable pub eventsBytes : List Event → List (List ℕ)
 eventsBytes es = eachBelow 8 (λ i. eventBytes (getD es i blank))
+
+-- the snake that was hit, and the position
+abbrev pub hitWords : Hit → List ℕ
+hitWords h = h .snake ∷ h .position ∷ []
+
+-- what stands past eight hits: nothing asks for it
+abbrev pub unhit : Hit
+unhit = record { snake = 0; position = 0 }
+
+-- the eight hits
+unfoldable pub hitsWords : List Hit → List (List ℕ)
+hitsWords hs = eachBelow 8 (λ i. hitWords (getD hs i unhit))

@@ -14,4 +14,5 @@ pub use readings::weights_in;
 pub use tells::bit;
 pub use tells::event_bytes;
 pub use tells::events_bytes;
+pub use tells::hits_words;
 pub use tells::refusal_number;

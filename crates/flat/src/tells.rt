@@ -1,10 +1,11 @@
-// What is told in numbers: a refusal, a flag, an event's bytes.
+// What is told in numbers: a refusal, a flag, an event's bytes, a hit's words.
 use events::cause_number;
 use rules::Event;
+use rules::Hit;
 use rules::Refusal;
 ghost use mathlib.Core.Path.{_≡_};
 ghost use Rattle.lists.specs.Choice.{bit};
-ghost use Rattle.flat.specs.Flat.{refusalNumber, eventBytes, eventsBytes};
+ghost use Rattle.flat.specs.Flat.{refusalNumber, eventBytes, eventsBytes, hitWords, hitsWords};
 
 // 256 and above is free for more than the paper's number.
 pub fn refusal_number(r: Refusal) -> u64
@@ -53,5 +54,27 @@ pub fn events_bytes(e: [Event; 8]) -> [[u8; 8]; 8]
         event_bytes(e[5]),
         event_bytes(e[6]),
         event_bytes(e[7]),
+    ]
+}
+
+// The snake that was hit, and the position.
+fn hit_words(h: Hit) -> [u16; 2]
+    ensures { λ r. ⌜ r ≡ hitWords h ⌝ }
+{
+    [h.snake as u16, h.position]
+}
+
+pub fn hits_words(h: [Hit; 8]) -> [[u16; 2]; 8]
+    ensures { λ r. ⌜ r ≡ hitsWords h ⌝ }
+{
+    [
+        hit_words(h[0]),
+        hit_words(h[1]),
+        hit_words(h[2]),
+        hit_words(h[3]),
+        hit_words(h[4]),
+        hit_words(h[5]),
+        hit_words(h[6]),
+        hit_words(h[7]),
     ]
 }

@@ -10,7 +10,7 @@ use mir.Syntax.{w64}
 use mir.Val.{Fits}
 use denote.Ref.{RefT, now}
 use Rattle.lists.specs.Choice.{bit}
-use Rattle.lists.specs.Lists.{member, writeAt}
+use Rattle.lists.specs.Lists.{writeAt}
 use Rattle.lists.specs.Search.{foundIn}
 use Rattle.lists.specs.declared.Found.{Found}
 use Rattle.lists.proofs.Lists.{part-is, rest-is}
@@ -59,9 +59,6 @@ food-read w k e = rest-is w k ∙ ap (λ (j : ℕ). drop j w) e
 module _ (w : List ℕ) (a n cell : ℕ) where
   pub found-part : (r : Found) → r ≡ foundIn (take (a + n - a) (drop a w)) cell → r ≡ foundIn (take n (drop a w)) cell
   found-part r e = e ∙ ap (λ (l : List ℕ). foundIn l cell) (part-is w a n)
-
-  pub holds-part : (r : Bool) → r ≡ member cell (take (a + n - a) (drop a w)) → r ≡ member cell (take n (drop a w))
-  holds-part r e = e ∙ ap (member cell) (part-is w a n)
 
 -- ---- the record, read and written
 

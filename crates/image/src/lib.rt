@@ -11,7 +11,6 @@ pub use lists::Found;
 pub use parts::body;
 pub use parts::find_in;
 pub use parts::food_of;
-pub use parts::holds_in;
 use rules::Heading;
 pub use table::record_at;
 pub use wellformed::well_formed;

@@ -6,7 +6,6 @@ use wellformed::well_formed;
 ghost use mathlib.Core.Path.{_≡_};
 ghost use Prim.Native.Nat.{_+_, _<_, _≤_};
 ghost use lib.ListN.{length, take, drop};
-ghost use Rattle.lists.specs.Lists.{member};
 ghost use Rattle.lists.specs.Search.{foundIn};
 ghost use Rattle.rules.specs.Facts.{Sound};
 ghost use Rattle.rules.specs.Image.{snakesIn, startAt, foodStart, bodyAt, foodAt};
@@ -63,12 +62,4 @@ pub fn find_in(image: &[u16], start: usize, len: usize, cell: u16) -> Found
     ensures { λ r. ⌜ r ≡ foundIn (take len (drop start (now (image .entry)))) cell ⌝ }
 {
     lists::find(&image[start..start + len], cell)
-}
-
-// Whether a cell stands in that part.
-pub fn holds_in(image: &[u16], start: usize, len: usize, cell: u16) -> bool
-    requires { ⌜ start + len ≤ length (now image) ⌝ }
-    ensures { λ r. ⌜ r ≡ member cell (take len (drop start (now (image .entry)))) ⌝ }
-{
-    lists::holds(&image[start..start + len], cell)
 }

@@ -4,43 +4,48 @@ use native.Mathlib.Omega.{arith}
 use mathlib.Core.Path.{_≡_, refl, sym, ap, _∙_}
 use mathlib.Core.Bool.{Bool, true, false, not, _&&_, _||_, and-false, false≢true}
 use mathlib.Core.List.{List}
-use lib.Dec.{eqb}
+use lib.Dec.{eqb, ltb}
 use lib.IntN.{pos}
 use lib.ListN.{length, getD, take, drop, set, replicate}
 use mir.Val.{Fits}
 use mir.Syntax.{w64}
-use borrow.Author.Tests.{eq-eqb, ne-eqb, not-true, not-false}
+use borrow.Author.Tests.{eq-eqb, ne-eqb, not-true, not-false, lt-ltb, le-ltb}
 use Rattle.lists.specs.Choice.{_if_else_}
-use Rattle.lists.specs.Below.{someBelow, eachBelow, filled}
-use Rattle.lists.specs.Lists.{member}
-use Rattle.lists.proofs.Lists.{rest-is}
+use Rattle.lists.specs.Below.{someBelow, eachBelow, lowestFrom, filled}
+use Rattle.lists.specs.Lists.{member, place}
+use Rattle.lists.specs.Search.{foundIn, isFound}
+use Rattle.lists.specs.declared.Found.{Found}
+use Rattle.lists.specs.declared.Found.the-variants.{At, Nothing}
+use Rattle.lists.proofs.Lists.{rest-is, part-long}
+use Rattle.lists.proofs.Lowest.{some-lowest}
+use Rattle.lists.proofs.Members.{place-lt}
+use Rattle.lists.proofs.Search.{found-member, found-holds, found-place}
 use Rattle.lists.proofs.Missing.{missing-part}
 use Rattle.lists.proofs.Tests.{ordered, less, more}
-use Rattle.lists.proofs.Below.{some-ext, some-never, some-false, each-at, each-past, each-map, filled-is}
+use Rattle.lists.proofs.Below.{some-ext, some-false, each-at, each-past, each-map, filled-is}
 use Rattle.rules.specs.Grid.{same, inside, cellOf}
 use Rattle.rules.specs.State.{nobody}
 use Rattle.rules.specs.Image.{front, snakesIn, sideIn, startAt, foodAt, stateOf}
 use Rattle.rules.specs.Facts.{Sound}
 use Rattle.rules.proofs.Parts.{state-count}
+use Rattle.rules.proofs.Struck.{apart-rest}
 use Rattle.rules.specs.Step.{Moved, stays, movedOf, another, onBody, causeOf, transitionOf, stepped}
+use Rattle.rules.specs.Struck.{noHit, stopsHead}
 use Rattle.rules.specs.declared.Cause.{Cause}
 use Rattle.rules.specs.declared.Cause.the-variants.{NoCause, Wall, SelfBody, OppBody, HeadOn}
+use Rattle.rules.specs.declared.Hit.{Hit}
 use Rattle.rules.specs.declared.Place.{Place}
 use Rattle.rules.specs.declared.Setting.{Setting}
 use Rattle.judge.specs.declared.Move.{Move}
 use Rattle.judge.specs.declared.Judged.{Judged}
 use Rattle.judge.specs.World.{still, shown, world, untouched, movesOf, causesOf, judgedWorld, movedWorld, Judges}
-use Rattle.judge.specs.Loops.{Filling, Seeking}
+use Rattle.judge.specs.Loops.{Filling, Seeking, Passing}
 use Rattle.judge.specs.Moving.{moveAt}
-use Rattle.judge.specs.Judging.{Rests, RestIn, RestHolds, Judging, meetsAt, stopsAt, bodyCause, Meets, Stops, Stopped, OnBody, judgedAt}
-use Rattle.judge.proofs.Loops.{fill-none, fill-next, fill-all, seek-next, seek-all, seek-found, seek-on}
+use Rattle.judge.specs.Judging.{Rests, RestIn, RestFound, Judging, meetsAt, hitIn, HitFits, stopsBy, stopsAt, stopFound, otherHit, bodyCause, Meets, Stops, Stopped, OnBody, judgedAt}
+use Rattle.judge.proofs.Loops.{fill-none, fill-next, fill-all, seek-next, seek-all, pass-here, pass-on, pass-all}
 use Rattle.judge.proofs.Moving.{origin-cell, shown-move, move-part, move-short, move-cell, move-inner}
 
 -- ---- one cause
-
-only-rest : (x a b : Bool) → (x && a) ≡ false → (x && b) ≡ (x && (a || b))
-only-rest true a b e = rw e
-only-rest false a b e = refl
 
 module _ (g n : ℕ) (m : ℕ → Moved) (i : ℕ) where
   cause-by : {a b c d e : Bool} → m i .moves ≡ a → another g n m i (λ j. same (m i .head) (m j .head)) ≡ b → inside (pos g) (m i .head) ≡ c
@@ -52,11 +57,7 @@ module _ (g n : ℕ) (m : ℕ → Moved) (i : ℕ) where
   -- where no two heads meet, a head on another's cell is on its rest
   heads-apart : another g n m i (λ j. same (m i .head) (m j .head)) ≡ false
       → another g n m i (onBody g n m (m i .head)) ≡ another g n m i (λ j. member (cellOf g (m i .head)) (m j .rest))
-  heads-apart e =
-      let p : ℕ → Bool = λ j. not (eqb i j) && m j .moves in
-      let s : ℕ → Bool = λ j. same (m i .head) (m j .head) in
-      let r : ℕ → Bool = λ j. member (cellOf g (m i .head)) (m j .rest) in
-      sym (some-ext n (λ j. p j && r j) (λ j. p j && (s j || r j)) (λ j l. only-rest (p j) (s j) (r j) (some-never (λ j. p j && s j) n j l e)))
+  heads-apart e = some-ext n (stopsHead g n m i) (λ j. not (eqb i j) && m j .moves && member (cellOf g (m i .head)) (m j .rest)) (apart-rest g n m i e)
 
 -- the cause of a head on the grid, by its two tests
 module _ (w : List ℕ) (all : List Move) (n i cell : ℕ) where
@@ -126,8 +127,8 @@ module _ (w : List ℕ) (j : ℕ) (m : Move) (q : RestIn w j m) (k : ℕ) (e : k
   pub rest-fits : getD w k 0 + m .keep ≤ length w
   rest-fits = rw e (q .fits)
 
-  pub rest-held : (cell : ℕ) (r : Bool) → r ≡ member cell (take (m .keep) (drop (getD w k 0) w)) → RestHolds w j m cell r
-  rest-held cell r h = record { is = h ∙ ap (λ (k : ℕ). member cell (take (m .keep) (drop (getD w k 0) w))) e }
+  pub rest-found : (cell : ℕ) (r : Found) → r ≡ foundIn (take (m .keep) (drop (getD w k 0) w)) cell → RestFound w j m cell r
+  rest-found cell r h = record { is = h ∙ ap (λ (k : ℕ). foundIn (take (m .keep) (drop (getD w k 0) w)) cell) e }
 
 pub rest-in : (w : List ℕ) (all : List Move) (n i : ℕ) → Judging w all n i → (j : ℕ) → j < n → RestIn w j (getD all j still)
 rest-in w all n i q j l =
@@ -140,49 +141,113 @@ rest-in w all n i q j l =
       fits = q .rests .fits j h;
     }
 
+-- what is found in a rest has a small place
+pub found-fits : (w : List ℕ) (all : List Move) (n i : ℕ) → Judging w all n i → (j : ℕ) → j < n → (cell k : ℕ) → At k ≡ foundIn (world w all j .rest) cell → HitFits j k
+found-fits w all n i q j l cell k e =
+    let f = rest-in w all n i q j l .fits in
+    let short = place-lt cell (world w all j .rest) (found-holds cell (world w all j .rest) k e) in
+    let size = part-long w (startAt w j) (getD all j still .keep) f in
+    record {
+      few = omega (arith, q .sound .snakes-max, q .snakes);
+      short = omega (arith, short, size, found-place cell (world w all j .rest) k e, f, q .sound .small);
+    }
+
 pub own-in : (w : List ℕ) (all : List Move) (n i : ℕ) → Judging w all n i → RestIn w i (getD all i still)
 own-in w all n i q = rest-in w all n i q i (q .one)
 
 -- ---- another's rest
 
 module _ (w : List ℕ) (i j : ℕ) (m : Move) (cell : ℕ) where
-  stops-by : {a b : Bool} → eqb i j ≡ a → m .moves ≡ b → (r : Bool) → r ≡ (not a && b && member cell (shown w j m .rest)) → Stops w i j m cell r
-  stops-by p q r e = record { is = e ∙ sym (λ k. not (p k) && q k && member cell (shown w j m .rest)) }
+  abbrev rest : List ℕ
+  rest = shown w j m .rest
 
-  pub stops-self : i ≡ j → Stops w i j m cell false
-  stops-self e = stops-by (eq-eqb i j e) refl false refl
+  stops-by : {a b : Bool} → eqb i j ≡ a → m .moves ≡ b → (r : Found) → r ≡ (foundIn rest cell if not a && b else Nothing) → Stops w i j m cell r
+  stops-by p q r e = record { is = e ∙ sym (λ k. foundIn rest cell if not (p k) && q k else Nothing) }
+
+  pub stops-self : i ≡ j → Stops w i j m cell Nothing
+  stops-self e = stops-by (eq-eqb i j e) refl Nothing refl
 
   module _ (o : i ≡ j → ⊥) where
-    pub stops-still : not (m .moves) ≡ true → Stops w i j m cell false
-    stops-still h = stops-by (ne-eqb i j o) (not-true (m .moves) h) false refl
+    pub stops-still : not (m .moves) ≡ true → Stops w i j m cell Nothing
+    stops-still h = stops-by (ne-eqb i j o) (not-true (m .moves) h) Nothing refl
 
-    pub stops-held : not (m .moves) ≡ false → (r : Bool) → RestHolds w j m cell r → Stops w i j m cell r
-    stops-held h r e = stops-by (ne-eqb i j o) (not-false (m .moves) h) r (e .is)
+    pub stops-found : not (m .moves) ≡ false → (r : Found) → RestFound w j m cell r → Stops w i j m cell r
+    stops-found h r e = stops-by (ne-eqb i j o) (not-false (m .moves) h) r (e .is)
+
+  -- the cell is found exactly where the snake stops a head there
+  stop-told : isFound (stopFound w i j m cell) ≡ stopsBy w i j m cell
+  stop-told = go (not (eqb i j) && m .moves)
+    where
+      go : (b : Bool) → isFound (foundIn rest cell if b else Nothing) ≡ (b && member cell rest)
+      go true = found-member cell rest
+      go false = refl
+
+  module _ (k : ℕ) (e : At k ≡ stopFound w i j m cell) where
+    stop-rest : At k ≡ foundIn rest cell
+    stop-rest = go (not (eqb i j) && m .moves) e
+      where
+        go : (b : Bool) → At k ≡ (foundIn rest cell if b else Nothing) → At k ≡ foundIn rest cell
+        go true h = h
+        go false h = absurd (false≢true (sym (ap isFound h)))
+
+    stop-place : k ≡ place cell rest
+    stop-place = found-place cell rest k stop-rest
 
 module _ (w : List ℕ) (all : List Move) (n i cell : ℕ) where
-  module _ (j : ℕ) (r : Bool) (s : Stops w i j (getD all j still) cell r) (l : j < n) where
-    pub stopped-here : r ≡ true → Stopped w all n i cell true
-    stopped-here t = record { is = seek-found (stopsAt w all i cell) n j l r (s .is) t }
+  module _ (j : ℕ) (l : j < n) (r : Found) (s : Stops w i j (getD all j still) cell r) where
+    pub other-on : Passing (stopsAt w all i cell) n j → r ≡ Nothing → Passing (stopsAt w all i cell) n (j + 1)
+    other-on q e = pass-on (stopsAt w all i cell) n j q l (sym (stop-told w i j (getD all j still) cell) ∙ ap isFound (sym (s .is) ∙ e))
 
-    pub stopped-next : Seeking (stopsAt w all i cell) n j false → r ≡ false → Seeking (stopsAt w all i cell) n (j + 1) false
-    stopped-next q t = seek-on (stopsAt w all i cell) n j l r (s .is) q t
+    module _ (k : ℕ) (e : r ≡ At k) where
+      pub hit-fits : Judging w all n i → HitFits j k
+      hit-fits q = found-fits w all n i q j l cell k (stop-rest w i j (getD all j still) cell k (sym e ∙ s .is))
 
-  pub stopped-none : (j : ℕ) → Seeking (stopsAt w all i cell) n j false → n ≤ j → Stopped w all n i cell false
-  stopped-none j q l = record { is = seek-all (stopsAt w all i cell) n j false q l }
+      pub other-here : Passing (stopsAt w all i cell) n j → (h : Hit) → h ≡ hitIn j k → Stopped w all n i cell h
+      other-here q h p =
+          let here : At k ≡ stopFound w i j (getD all j still) cell = sym e ∙ s .is in
+          let low = pass-here (stopsAt w all i cell) n j q l (sym (stop-told w i j (getD all j still) cell) ∙ ap isFound (sym here)) in
+          record {
+            is = p
+                ∙ ap (hitIn j) (stop-place w i j (getD all j still) cell k here)
+                ∙ sym (ap (λ (b : Bool). hitIn j (place cell (world w all j .rest)) if b else noHit) (lt-ltb j n l))
+                ∙ ap (λ (j : ℕ). hitIn j (place cell (world w all j .rest)) if ltb j n else noHit) low;
+          }
+
+  pub other-none : (j : ℕ) → Passing (stopsAt w all i cell) n j → n ≤ j → (h : Hit) → h ≡ noHit → Stopped w all n i cell h
+  other-none j q l h p = record {
+    is = p
+        ∙ sym (ap (λ (b : Bool). hitIn j (place cell (world w all j .rest)) if b else noHit) (le-ltb j n l))
+        ∙ ap (λ (j : ℕ). hitIn j (place cell (world w all j .rest)) if ltb j n else noHit) (pass-all (stopsAt w all i cell) n j q l);
+  }
+
+  -- a snake is hit exactly where one stops the head
+  other-told : n ≤ 8 → ltb (otherHit w all n i cell .snake) 8 ≡ someBelow n (stopsAt w all i cell)
+  other-told few =
+      let p = stopsAt w all i cell in
+      elim (ordered (lowestFrom p 0 n) n) [
+        | less l t ↦ rw t (lt-ltb (lowestFrom p 0 n) 8 (omega arith) ∙ sym (some-lowest p n ∙ t))
+        | more l t ↦ rw t (sym (some-lowest p n ∙ t))
+      ]
 
 -- ---- the cause of a head on the grid
 
-module _ (w : List ℕ) (all : List Move) (n i cell : ℕ) where
-  module _ (b : Bool) (e : RestHolds w i (getD all i still) cell b) where
+module _ (w : List ℕ) (all : List Move) (n i : ℕ) (q : Judging w all n i) (cell : ℕ) where
+  module _ (own : Found) (e : RestFound w i (getD all i still) cell own) (b : Bool) (t : b ≡ isFound own) where
+    own-told : member cell (world w all i .rest) ≡ b
+    own-told = sym (found-member cell (world w all i .rest)) ∙ ap isFound (sym (e .is)) ∙ sym t
+
     pub body-own : b ≡ true → OnBody w all n i cell SelfBody
-    body-own t = body-by w all n i cell (sym (e .is) ∙ t) refl SelfBody refl
+    body-own h = body-by w all n i cell (own-told ∙ h) refl SelfBody refl
 
-    module _ (f : b ≡ false) (s : Bool) (z : Stopped w all n i cell s) where
-      pub body-other : s ≡ true → OnBody w all n i cell OppBody
-      body-other t = body-by w all n i cell (sym (e .is) ∙ f) (sym (z .is) ∙ t) OppBody refl
+    module _ (f : b ≡ false) (other : Hit) (z : Stopped w all n i cell other) where
+      stopped-told : someBelow n (stopsAt w all i cell) ≡ ltb (other .snake) 8
+      stopped-told = sym (other-told w all n i cell (omega (arith, q .sound .snakes-max, q .snakes))) ∙ ap (λ (h : Hit). ltb (h .snake) 8) (sym (z .is))
 
-      pub body-clear : s ≡ false → OnBody w all n i cell NoCause
-      body-clear t = body-by w all n i cell (sym (e .is) ∙ f) (sym (z .is) ∙ t) NoCause refl
+      pub body-other : other .snake < 8 → OnBody w all n i cell OppBody
+      body-other h = body-by w all n i cell (own-told ∙ f) (stopped-told ∙ lt-ltb (other .snake) 8 h) OppBody refl
+
+      pub body-clear : 8 ≤ other .snake → OnBody w all n i cell NoCause
+      body-clear h = body-by w all n i cell (own-told ∙ f) (stopped-told ∙ le-ltb (other .snake) 8 h) NoCause refl
 
 -- ---- the array of moves
 
@@ -228,7 +293,7 @@ module _ (w acts : List ℕ) (s : Sound w) (all : List Move) (q : all ≡ filled
     | more l t ↦ ap (shown w j) (past-still j l) ∙ sym (each-past (snakesIn w) (movedOf (stateOf w) acts) (stays nobody) j l)
   ]
 
-  world-is : world w all ≡ movedWorld w acts
+  pub world-is : world w all ≡ movedWorld w acts
   world-is = λ k j. world-at j k
 
   -- ---- the judged array

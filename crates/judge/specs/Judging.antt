@@ -1,21 +1,26 @@
 -- What the loops over the other snakes ask, of an array of moves. Assumes nothing.
-use Prim.Native.Nat.{ℕ, _+_, _*_, _<_, _≤_}
+use Prim.Native.Nat.{ℕ, suc, _+_, _*_, _<_, _≤_}
 use mathlib.Core.Path.{_≡_}
 use mathlib.Core.Bool.{Bool, true, false, not, _&&_}
 use mathlib.Core.List.{List}
-use lib.Dec.{eqb}
+use lib.Dec.{eqb, ltb}
 use lib.IntN.{pos}
 use lib.ListN.{length, getD, drop}
 use Rattle.lists.specs.Choice.{_if_else_}
-use Rattle.lists.specs.Below.{someBelow}
-use Rattle.lists.specs.Lists.{member}
+use Rattle.lists.specs.Below.{someBelow, lowestFrom}
+use Rattle.lists.specs.Lists.{member, place}
+use Rattle.lists.specs.Search.{foundIn}
+use Rattle.lists.specs.declared.Found.{Found}
+use Rattle.lists.specs.declared.Found.the-variants.{Nothing}
 use Rattle.rules.specs.declared.Cause.{Cause}
 use Rattle.rules.specs.declared.Cause.the-variants.{NoCause, SelfBody, OppBody}
+use Rattle.rules.specs.declared.Hit.{Hit}
 use Rattle.rules.specs.declared.Place.{Place}
 use Rattle.rules.specs.Grid.{inside, same, cellOf}
 use Rattle.rules.specs.Image.{front, snakesIn, sideIn, startAt}
 use Rattle.rules.specs.Facts.{Sound}
 use Rattle.rules.specs.Step.{causeOf}
+use Rattle.rules.specs.Struck.{noHit}
 use Rattle.judge.specs.declared.Move.{Move}
 use Rattle.judge.specs.declared.Judged.{Judged}
 use Rattle.judge.specs.World.{still, shown, world}
@@ -45,12 +50,31 @@ pub record Judging (w : List ℕ) (all : List Move) (n i : ℕ) : Type 0 where
 abbrev pub meetsAt : List Move → ℕ → Place → ℕ → Bool
 meetsAt all i p j = not (eqb i j) && getD all j still .moves && same p (getD all j still .head)
 
+-- snake j, hit at place k of the rest of its body
+abbrev pub hitIn : ℕ → ℕ → Hit
+hitIn j k = record { snake = j; position = suc k }
+
+-- the numbers of a hit are small
+pub record HitFits (j k : ℕ) : Type 0 where
+  pub few : j < 8
+  pub short : k < 65535
+
 -- snake j, moved so, is another than i that has the cell in the rest of its body
 abbrev pub stopsBy : List ℕ → ℕ → ℕ → Move → ℕ → Bool
 stopsBy w i j m cell = not (eqb i j) && m .moves && member cell (shown w j m .rest)
 
 abbrev pub stopsAt : List ℕ → List Move → ℕ → ℕ → ℕ → Bool
 stopsAt w all i cell j = stopsBy w i j (getD all j still) cell
+
+-- where it has the cell
+abbrev pub stopFound : List ℕ → ℕ → ℕ → Move → ℕ → Found
+stopFound w i j m cell = foundIn (shown w j m .rest) cell if not (eqb i j) && m .moves else Nothing
+
+-- the lowest-numbered of them is hit
+abbrev pub otherHit : List ℕ → List Move → ℕ → ℕ → ℕ → Hit
+otherHit w all n i cell =
+    let j = lowestFrom (stopsAt w all i cell) 0 n in
+    hitIn j (place cell (world w all j .rest)) if ltb j n else noHit
 
 -- the cause of a head on the grid, at this cell, that meets no head
 abbrev pub bodyCause : List ℕ → List Move → ℕ → ℕ → ℕ → Cause
@@ -61,14 +85,14 @@ bodyCause w all n i cell = SelfBody if member cell (world w all i .rest) else Op
 pub record Meets (all : List Move) (n i : ℕ) (p : Place) (r : Bool) : Type 0 where
   pub is : r ≡ someBelow n (meetsAt all i p)
 
-pub record RestHolds (w : List ℕ) (j : ℕ) (m : Move) (cell : ℕ) (r : Bool) : Type 0 where
-  pub is : r ≡ member cell (shown w j m .rest)
+pub record RestFound (w : List ℕ) (j : ℕ) (m : Move) (cell : ℕ) (r : Found) : Type 0 where
+  pub is : r ≡ foundIn (shown w j m .rest) cell
 
-pub record Stops (w : List ℕ) (i j : ℕ) (m : Move) (cell : ℕ) (r : Bool) : Type 0 where
-  pub is : r ≡ stopsBy w i j m cell
+pub record Stops (w : List ℕ) (i j : ℕ) (m : Move) (cell : ℕ) (r : Found) : Type 0 where
+  pub is : r ≡ stopFound w i j m cell
 
-pub record Stopped (w : List ℕ) (all : List Move) (n i cell : ℕ) (r : Bool) : Type 0 where
-  pub is : r ≡ someBelow n (stopsAt w all i cell)
+pub record Stopped (w : List ℕ) (all : List Move) (n i cell : ℕ) (r : Hit) : Type 0 where
+  pub is : r ≡ otherHit w all n i cell
 
 pub record OnBody (w : List ℕ) (all : List Move) (n i cell : ℕ) (r : Cause) : Type 0 where
   pub is : r ≡ bodyCause w all n i cell

@@ -1,9 +1,14 @@
 // All causes of death, judged on the one world of all moves: resolve_collisions of the Rust.
 use crate::Judged;
 use crate::Move;
+use crate::hits::hit_at;
+use crate::hits::no_hit;
 use crate::moves::move_all;
+use lists::Found;
+use lists::is_found;
 use rules::Cause;
 use rules::Heading;
+use rules::Hit;
 use rules::Place;
 ghost use mathlib.Core.Path.{_≡_};
 ghost use Prim.Native.Nat.{_≤_};
@@ -12,7 +17,7 @@ ghost use Rattle.rules.specs.Image.{snakesIn, sideIn};
 ghost use Rattle.rules.specs.Facts.{Sound};
 ghost use Rattle.rules.specs.Step.{causeOf};
 ghost use Rattle.judge.specs.World.{world, Judges};
-ghost use Rattle.judge.specs.Judging.{RestIn, RestHolds, Judging, Meets, Stops, Stopped, OnBody};
+ghost use Rattle.judge.specs.Judging.{RestIn, RestFound, Judging, Meets, Stops, Stopped, OnBody};
 
 // Whether another snake than i moved to the same place.
 fn head_on(all: [Move; 8], n: usize, i: usize, head: Place) -> bool
@@ -29,43 +34,45 @@ fn head_on(all: [Move; 8], n: usize, i: usize, head: Place) -> bool
     found
 }
 
-// Whether the rest of snake j's body holds a cell.
-fn rest_holds(image: &[u16], j: usize, you: Move, cell: u16) -> bool
+// The first place of a cell in the rest of snake j's body.
+pub fn find_rest(image: &[u16], j: usize, you: Move, cell: u16) -> Found
     requires { ⌜ RestIn (now image) j you ⌝ }
-    ensures { λ r. ⌜ RestHolds (now (image .entry)) j you cell r ⌝ }
+    ensures { λ r. ⌜ RestFound (now (image .entry)) j you cell r ⌝ }
 {
     let start = image[layout::start_at(j)] as usize;
-    image::holds_in(image, start, you.keep as usize, cell)
+    image::find_in(image, start, you.keep as usize, cell)
 }
 
-// Whether snake j is another than i that moved and has the cell in the rest of its body; a corpse is not searched.
-fn stops(image: &[u16], i: usize, j: usize, you: Move, cell: u16) -> bool
+// The same of a snake that is another than i and moved; a corpse is not searched.
+fn find_on(image: &[u16], i: usize, j: usize, you: Move, cell: u16) -> Found
     requires { ⌜ RestIn (now image) j you ⌝ }
     ensures { λ r. ⌜ Stops (now (image .entry)) i j you cell r ⌝ }
 {
     if i == j {
-        return false;
+        return Found::Nothing;
     }
     if !you.moves {
-        return false;
+        return Found::Nothing;
     }
-    rest_holds(image, j, you, cell)
+    find_rest(image, j, you, cell)
 }
 
-// Whether some snake has the cell so. Heads are not asked: a head there was head-on.
-fn stopped(image: &[u16], all: [Move; 8], n: usize, i: usize, cell: u16) -> bool
+// The lowest-numbered snake that has the cell so, and its position there. Heads are not asked: a head there was head-on.
+pub fn find_other(image: &[u16], all: [Move; 8], n: usize, i: usize, cell: u16) -> Hit
     requires { ⌜ Judging (now image) all n i ⌝ }
     ensures { λ r. ⌜ Stopped (now (image .entry)) all n i cell r ⌝ }
 {
     let mut j = 0;
     while j < n {
         let you = all[j];
-        if stops(image, i, j, you, cell) {
-            return true;
-        }
-        j += 1;
+        let found = find_on(image, i, j, you, cell);
+        let Found::At(k) = found else {
+            j += 1;
+            continue;
+        };
+        return hit_at(j, k);
     }
-    false
+    no_hit()
 }
 
 // The cause of a head on the grid that meets no other: the own rest, then the others'.
@@ -74,16 +81,18 @@ fn body_cause(image: &[u16], all: [Move; 8], n: usize, i: usize, cell: u16) -> C
     ensures { λ r. ⌜ OnBody (now (image .entry)) all n i cell r ⌝ }
 {
     let me = all[i];
-    if rest_holds(image, i, me, cell) {
+    let own = find_rest(image, i, me, cell);
+    if is_found(own) {
         return Cause::SelfBody;
     }
-    if stopped(image, all, n, i, cell) {
+    let other = find_other(image, all, n, i, cell);
+    if other.snake < 8 {
         return Cause::OppBody;
     }
     Cause::NoCause
 }
 
-fn cause_of(image: &[u16], all: [Move; 8], n: usize, i: usize) -> Cause
+pub fn cause_of(image: &[u16], all: [Move; 8], n: usize, i: usize) -> Cause
     requires { ⌜ Judging (now image) all n i ⌝ }
     ensures { λ r. ⌜ r ≡ causeOf (sideIn (now (image .entry))) n (world (now (image .entry)) all) i ⌝ }
 {

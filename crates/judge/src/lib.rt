@@ -1,8 +1,15 @@
 // All living snakes move, and all are judged on that one world.
 mod causes;
+mod hits;
 mod moves;
 
+pub use causes::cause_of;
+pub use causes::find_other;
+pub use causes::find_rest;
 pub use causes::judge;
+pub use hits::hit_at;
+pub use hits::no_hit;
+pub use moves::move_all;
 use rules::Cause;
 use rules::Heading;
 use rules::Place;

@@ -97,6 +97,13 @@ unfolding place
 getD-place c [] h = absurd (member-none c h)
 getD-place c (x ∷ l) h = elim (compared c x) [ same e t ↦ rw t (sym e) | other n t ↦ rw t (getD-place c l (member-rest c x l n h)) ]
 
+-- none before the first
+pub place-first : (c : ℕ) (l : List ℕ) (k : ℕ) → k < place c l → eqb c (getD l k 0) ≡ false
+unfolding place
+place-first c [] k h = absurd (not-suc-le-zero h)
+place-first c (x ∷ l) zero h = elim (compared c x) [ same e t ↦ absurd (not-suc-le-zero (rw t at h)) | other n t ↦ t ]
+place-first c (x ∷ l) (suc k) h = elim (compared c x) [ same e t ↦ absurd (not-suc-le-zero (rw t at h)) | other n t ↦ place-first c l k (le-of-suc-le-suc (rw t at h)) ]
+
 pub place-getD : (l : List ℕ) (d : ℕ) → distinct l ≡ true → d < length l → place (getD l d 0) l ≡ d
 unfolding place
 place-getD [] d u h = absurd (not-suc-le-zero h)

@@ -1,6 +1,6 @@
 -- What the loops of the search need. Assumes nothing.
 use Prim.Native.Nat.{ℕ, suc, _+_, _<_}
-use mathlib.Core.Path.{_≡_, sym, ap, _∙_}
+use mathlib.Core.Path.{_≡_, refl, sym, ap, _∙_}
 use mathlib.Core.Bool.{Bool, true, false, _||_, or-assoc}
 use mathlib.Core.List.{List}
 use native.Mathlib.Numerals.{add-one}
@@ -8,8 +8,9 @@ use lib.Dec.{eqb}
 use lib.ListN.{length, getD, drop}
 use lib.Seq.{drop-cons}
 use borrow.Author.Tests.{eq-eqb, ne-eqb}
+use Rattle.lists.specs.Choice.{_if_else_}
 use Rattle.lists.specs.Lists.{member, place}
-use Rattle.lists.specs.Search.{foundIn}
+use Rattle.lists.specs.Search.{foundIn, isFound}
 use Rattle.lists.specs.declared.Found.the-variants.{At, Nothing}
 use Rattle.lists.proofs.Tests.{eqb-sym}
 use Rattle.lists.proofs.Lists.{member-left}
@@ -35,3 +36,20 @@ module _ (x : ℕ) (l : List ℕ) where
   pub found-at : member x l ≡ true → foundIn l x ≡ At (place x l)
   unfolding foundIn
   found-at e = rw e
+
+-- a number is found exactly where it is a member: so what asked for membership asks for the place
+pub found-member : (x : ℕ) (l : List ℕ) → isFound (foundIn l x) ≡ member x l
+unfolding foundIn
+found-member x l = go (member x l)
+  where
+    go : (b : Bool) → isFound (At (place x l) if b else Nothing) ≡ b
+    go true = refl
+    go false = refl
+
+-- what is found stands there, at its first place
+module _ (x : ℕ) (l : List ℕ) (k : ℕ) (e : At k ≡ foundIn l x) where
+  pub found-holds : member x l ≡ true
+  found-holds = sym (found-member x l) ∙ sym (ap isFound e)
+
+  pub found-place : k ≡ place x l
+  found-place = let h : At k ≡ At (place x l) = e ∙ found-at x l found-holds in cc

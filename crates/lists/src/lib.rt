@@ -9,7 +9,7 @@ ghost use mathlib.Core.Bool.{true};
 ghost use Prim.Native.Nat.{_+_, _≤_};
 ghost use lib.ListN.{length, getD};
 ghost use Rattle.lists.specs.Lists.{writeAt, member, place};
-ghost use Rattle.lists.specs.Search.{foundIn};
+ghost use Rattle.lists.specs.Search.{foundIn, isFound};
 
 // The first place of a number in a list, if it stands there.
 pub enum Found {
@@ -75,4 +75,13 @@ pub fn find(list: &[u16], x: u16) -> Found
         return Found::Nothing;
     }
     Found::At(place_of(list, x))
+}
+
+pub fn is_found(f: Found) -> bool
+    ensures { λ r. ⌜ r ≡ isFound f ⌝ }
+{
+    match f {
+        Found::At(_) => true,
+        Found::Nothing => false,
+    }
 }

@@ -23,7 +23,7 @@ fn reply(letter: u8, s: &[u8], words: &mut [u16]) -> Reply {
 // The fields of a call are the bytes behind its letter and a space.
 fn call(letter: u8, s: &[u8], words: &mut [u16], text: &mut [u8], at: usize) -> usize {
     match letter {
-        b'i' | b's' | b'B' => steps::setting_line(letter, s, words, text, at),
+        b'i' | b's' | b'H' | b'B' => steps::setting_line(letter, s, words, text, at),
         b'd' | b'o' | b'b' => replies::image_line(letter, s, words, text, at),
         b'P' => books::page_line(s, words, text, at),
         _ => put_reply(text, at, reply(letter, s, words)),

@@ -1,4 +1,4 @@
-// The calls that take a setting: the check, the initial state, the step and, in `books`, the writer. A setting is read from its text just before
+// The calls that take a setting: the check, the initial state, the step, who was hit where and, in `books`, the writer. A setting is read from its text just before
 // it is used, since each step of a proof speaks of every value at hand.
 use crate::books::write_line;
 use parsing::First;
@@ -16,6 +16,7 @@ use replies::last_words;
 use replies::numbers_in;
 use replies::put;
 use replies::put_events;
+use replies::put_hits;
 use replies::put_number;
 use replies::put_words;
 use replies::put_written;
@@ -96,10 +97,52 @@ fn step(
     put_step(text, at, stepped, out)
 }
 
-// `s S cap K a1..aK W`; s starts at cap.
-fn step_line(setting: &[u8], s: &[u8], words: &mut [u16], text: &mut [u8], at: usize) -> usize {
+// Who was hit where, with the first k actions.
+fn struck(
+    setting: &[u8],
+    words: &[u16],
+    actions: [u64; 64],
+    k: usize,
+    text: &mut [u8],
+    at: usize,
+) -> usize
+    requires { ⌜ k ≤ 64 ⌝ }
+{
+    let First::Opens(setting) = read_first(setting) else {
+        return NOWHERE;
+    };
+    let struck = arena::struck(setting, words, &actions[0..k]);
+    let verdict = struck.verdict;
+    match verdict {
+        Verdict::Accepted => {
+            let a = put(text, at, b'a');
+            let hits = struck.hits;
+            let b = put_hits(text, a, hits);
+            end(text, b, true)
+        }
+        Verdict::Refused(r) => refuse(text, at, r.number, true),
+    }
+}
+
+// How many numbers stand before the actions, of two: `s` has a buffer's length and their count, `H` their count.
+fn missing(letter: u8) -> usize
+    ensures { λ r. ⌜ r ≤ 2 ⌝ }
+{
+    if letter == b's' { 0 } else { 1 }
+}
+
+// `s S cap K a1..aK W` or `H S K a1..aK W`; s starts behind S.
+fn acting_line(
+    letter: u8,
+    setting: &[u8],
+    s: &[u8],
+    words: &mut [u16],
+    text: &mut [u8],
+    at: usize,
+) -> usize {
     let mut values = [0u64; 2];
-    let from = numbers_in(s, 0, &mut values);
+    let first = missing(letter);
+    let from = numbers_in(s, 0, &mut values[first..2]);
     let k = values[1];
     if 64 < k {
         return NOWHERE;
@@ -109,6 +152,9 @@ fn step_line(setting: &[u8], s: &[u8], words: &mut [u16], text: &mut [u8], at: u
     let n = last_words(s, next, 16384, words);
     if words.len() < n {
         return NOWHERE;
+    }
+    if letter == b'H' {
+        return struck(setting, &words[0..n], actions, k as usize, text, at);
     }
     step(
         setting,
@@ -121,7 +167,7 @@ fn step_line(setting: &[u8], s: &[u8], words: &mut [u16], text: &mut [u8], at: u
     )
 }
 
-// `i`, `s` or `B`: S stands before the eighth field.
+// `i`, `s`, `H` or `B`: S stands before the eighth field.
 pub fn setting_line(letter: u8, s: &[u8], words: &mut [u16], text: &mut [u8], at: usize) -> usize {
     let eighth = start_of(s, 7);
     if eighth < 1 {
@@ -134,7 +180,7 @@ pub fn setting_line(letter: u8, s: &[u8], words: &mut [u16], text: &mut [u8], at
     let rest = &s[eighth..];
     match letter {
         b'i' => initial_line(setting, rest, text, at),
-        b's' => step_line(setting, rest, words, text, at),
+        b's' | b'H' => acting_line(letter, setting, rest, words, text, at),
         _ => write_line(setting, rest, words, text, at),
     }
 }

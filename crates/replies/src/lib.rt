@@ -21,6 +21,7 @@ pub use fields::last_words;
 pub use fields::numbers_in;
 pub use marks::bit;
 pub use marks::put_events;
+pub use marks::put_hits;
 pub use reply::NO_CALL;
 pub use reply::NOTHING;
 pub use reply::Reply;

@@ -7,7 +7,7 @@ use native.Mathlib.Omega.{arith}
 use lib.IntN.{ℤ}
 use lib.Ieee.{Float}
 use Rattle.rules.specs.Says.{says, saysVerdict, saysNumber, saysKey, saysActor, saysLegal, saysMark, saysSum, saysSpace}
-use Rattle.rules.specs.Promises.{Turns, Checks, Validates, Starts, Steps, Observes, Counts, Draws, Ranks, ActsNext, Allows, Keys, Truncates, Rewards, ObservationSpace, ActionSpace, Parts}
+use Rattle.rules.specs.Promises.{Turns, Checks, Validates, Starts, Steps, Strikes, Observes, Counts, Draws, Ranks, ActsNext, Allows, Keys, Truncates, Rewards, ObservationSpace, ActionSpace, Parts}
 use Rattle.rules.specs.declared.Heading.{Heading}
 use Rattle.rules.specs.declared.RelativeAction.{RelativeAction}
 use Rattle.rules.specs.declared.Setting.{Setting}
@@ -18,6 +18,7 @@ use Rattle.rules.specs.declared.Verdict.the-variants.{Accepted, Refused 
 use Rattle.rules.specs.declared.Answer.{Answer}
 use Rattle.rules.specs.declared.Answer.the-variants.{Done, Refused as RefusedAnswer}
 use Rattle.rules.specs.declared.Stepped.{Stepped}
+use Rattle.rules.specs.declared.Hits.{Hits}
 use Rattle.rules.specs.declared.Drawn.{Drawn}
 use Rattle.rules.specs.declared.Number.{Number}
 use Rattle.rules.specs.declared.Number.the-variants.{Value, Refused as RefusedNumber}
@@ -142,6 +143,9 @@ one-step s w acts old new other r q p o = (
   },
   p .words ∙ sym (o .words),
 )
+
+pub one-struck : (s : Setting) (w acts : List ℕ) (r q : Hits) → Strikes s w acts r → Strikes s w acts q → r ≡ q
+one-struck s w acts r q p o = λ t. record { verdict = verdict-one (r .verdict) (q .verdict) (p .answer ∙ sym (o .answer)) t; hits = (p .hits ∙ sym (o .hits)) t }
 
 pub one-view : (w : List ℕ) (a : ℕ) (old new other : List Float) (r q : Answer) → Observes w a old new r → Observes w a old other q → (r ≡ q) × (new ≡ other)
 one-view w a old new other r q p o = (answer-one r q (p .answer ∙ sym (o .answer)), p .numbers ∙ sym (o .numbers))

@@ -4,6 +4,7 @@ pub mod Words
 pub mod Holdable
 pub mod Answers
 pub mod Step
+pub mod Struck
 pub mod Parts
 pub mod Examples
 pub mod Grid

@@ -11,15 +11,17 @@ use Rattle.rules.specs.State.{State, snakeOf}
 use Rattle.rules.specs.Image.{snakesIn, bodyAt, stateOf, wellFormed}
 use Rattle.rules.specs.Setting.{settingOrder, sideOf, initialState}
 use Rattle.rules.specs.Step.{Transition, stepped}
+use Rattle.rules.specs.Struck.{hitsIn}
 use Rattle.rules.specs.Chance.{outcomes, drawn, afterDraw, rankOf}
 use Rattle.rules.specs.View.{view, lit}
 use Rattle.rules.specs.LengthKey.{lengthKey}
 use Rattle.rules.specs.Turns.{chanceActs, legalFor, truncated}
 use Rattle.rules.specs.Reward.{rewardOf}
 use Rattle.rules.specs.Says.{Says, gives, byTable, Shape, box, discrete}
-use Rattle.rules.specs.Orders.{initialOrder, stepOrder, observeOrder, countOrder, drawOrder, rankOrder, imageOrder, agentOrder, rewardOrder, spaceOrder}
+use Rattle.rules.specs.Orders.{initialOrder, stepOrder, struckOrder, observeOrder, countOrder, drawOrder, rankOrder, imageOrder, agentOrder, rewardOrder, spaceOrder}
 use Rattle.rules.specs.declared.Setting.{Setting}
 use Rattle.rules.specs.declared.Event.{Event}
+use Rattle.rules.specs.declared.Hit.{Hit}
 use Rattle.rules.specs.declared.Weights.{Weights}
 
 unfoldable pub settingSays : Setting → Says (Unit {0})
@@ -31,6 +33,9 @@ initialSays s room = byTable (initialOrder s room) (gives (initialState s))
 
 unfoldable pub stepSays : Setting → List ℕ → List ℕ → ℕ → Says Transition
 stepSays s w acts room = byTable (stepOrder s w acts room) (gives (stepped s (stateOf w) acts))
+
+unfoldable pub struckSays : Setting → List ℕ → List ℕ → Says (List Hit)
+struckSays s w acts = byTable (struckOrder s w acts) (gives (hitsIn (stateOf w) acts))
 
 -- room counts numbers
 unfoldable pub observeSays : List ℕ → ℕ → ℕ → Says (List Float)

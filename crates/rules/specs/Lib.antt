@@ -10,6 +10,7 @@ pub mod SettingParts
 pub mod SettingFacts
 pub mod Events
 pub mod Step
+pub mod Struck
 pub mod Chance
 pub mod View
 pub mod LengthKey

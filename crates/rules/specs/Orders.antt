@@ -55,6 +55,10 @@ askedOrder s w acts = settingOrder s ++ (imageRows w ++ askedRows s w acts)
 abbrev pub stepOrder : Setting → List ℕ → List ℕ → ℕ → Table
 stepOrder s w acts room = askedOrder s w acts ++ ((by 29, ltb room (length (imageOf (stepped s (stateOf w) acts .next)))) ∷ [])
 
+-- who was hit where: the step's order without 29
+abbrev pub struckOrder : Setting → List ℕ → List ℕ → Table
+struckOrder s w acts = askedOrder s w acts
+
 -- 'Observation: 20, 26, 29'
 abbrev pub observeOrder : List ℕ → ℕ → ℕ → Table
 observeOrder w a room = imageRows w ++ ((by 26, not (ltb a (snakesIn w))) ∷ (by 29, ltb room (5 * areaIn w)) ∷ [])

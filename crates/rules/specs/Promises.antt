@@ -10,8 +10,9 @@ use lib.ListN.{length, replicate}
 use Rattle.rules.specs.Headings.{turned}
 use Rattle.rules.specs.Events.{blank, eight}
 use Rattle.rules.specs.Image.{imageOf, wellFormed}
+use Rattle.rules.specs.Struck.{noHit}
 use Rattle.rules.specs.Says.{seen, beside, lent, says, saysVerdict, saysNumber, saysKey, saysActor, saysLegal, saysMark, saysSum, saysSpace}
-use Rattle.rules.specs.Calls.{settingSays, initialSays, stepSays, observeSays, countSays, drawSays, rankSays, actorSays, legalSays, keySays, truncationSays, rewardSays, spaceSays, actionSays, bodyAsked}
+use Rattle.rules.specs.Calls.{settingSays, initialSays, stepSays, struckSays, observeSays, countSays, drawSays, rankSays, actorSays, legalSays, keySays, truncationSays, rewardSays, spaceSays, actionSays, bodyAsked}
 use Rattle.rules.specs.declared.Heading.{Heading}
 use Rattle.rules.specs.declared.RelativeAction.{RelativeAction}
 use Rattle.rules.specs.declared.Setting.{Setting}
@@ -20,6 +21,7 @@ use Rattle.rules.specs.declared.Weights.{Weights}
 use Rattle.rules.specs.declared.Verdict.{Verdict}
 use Rattle.rules.specs.declared.Answer.{Answer}
 use Rattle.rules.specs.declared.Stepped.{Stepped}
+use Rattle.rules.specs.declared.Hits.{Hits}
 use Rattle.rules.specs.declared.Drawn.{Drawn}
 use Rattle.rules.specs.declared.Number.{Number}
 use Rattle.rules.specs.declared.LengthCell.{LengthCell}
@@ -47,6 +49,10 @@ pub record Steps (s : Setting) (w acts old new : List ℕ) (r : Stepped) : Type 
   pub terminal : r .terminal ≡ beside (λ o. o .terminal) false (stepSays s w acts (length old))
   pub events : r .events ≡ beside (λ o. eight (o .events)) (replicate 8 blank) (stepSays s w acts (length old))
   pub words : new ≡ lent (λ o. imageOf (o .next)) old (stepSays s w acts (length old))
+
+pub record Strikes (s : Setting) (w acts : List ℕ) (r : Hits) : Type 0 where
+  pub answer : saysVerdict (r .verdict) ≡ seen (λ h. tt) (struckSays s w acts)
+  pub hits : r .hits ≡ beside (λ h. h) (replicate 8 noHit) (struckSays s w acts)
 
 pub record Observes (w : List ℕ) (a : ℕ) (old new : List Float) (r : Answer) : Type 0 where
   pub answer : says r ≡ seen (λ v. length v) (observeSays w a (length old))

@@ -94,6 +94,18 @@ pub struct Stepped {
     pub events: [Event; 8],
 }
 
+// Whom a snake hit, and at which position of its moved body, the head being 0; 8 and 0 where nobody was hit.
+pub struct Hit {
+    pub snake: u8,
+    pub position: u16,
+}
+
+// Whom each snake of a step hits; on a refusal nobody.
+pub struct Hits {
+    pub verdict: Verdict,
+    pub hits: [Hit; 8],
+}
+
 // A draw's answer, and how many cells its list has; 0 on a refusal.
 pub struct Drawn {
     pub answer: Answer,

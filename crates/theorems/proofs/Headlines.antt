@@ -1,7 +1,7 @@
 -- The headline theorems by name, each under the demand that it answers; the file named has the statement. Assumes nothing.
 
 -- Demand 1: each call says what its table of refusals says (rules/specs/Calls), and the tables have document 01's numbers in its order, but for 7
-pub use Rattle.theorems.proofs.Refusals.{setting-order, initial-order, step-order, observe-order, count-order, draw-order, rank-order, image-order, agent-order, reward-order, space-order}
+pub use Rattle.theorems.proofs.Refusals.{setting-order, initial-order, step-order, struck-order, observe-order, count-order, draw-order, rank-order, image-order, agent-order, reward-order, space-order}
 -- Demand 1 and request 14: 01's own table of the setting has 7, its row changes no answer, and 7 is never given
 pub use Rattle.theorems.proofs.Refusals.{chain-order}
 pub use Rattle.rules.proofs.ChainLimit.{without-7, never-7}
@@ -9,7 +9,7 @@ pub use Rattle.rules.proofs.ChainLimit.{without-7, never-7}
 pub use Rattle.rules.proofs.Tables.{table-gives, table-refuses, table-first}
 -- Demand 1: so a call is refused by k if and only if k is the number of its table's first row that holds
 pub use Rattle.theorems.specs.Answers.{RefusedBy}
-pub use Rattle.theorems.proofs.Refusals.{validate-refused, initial-refused, step-refused, observe-refused, count-refused, draw-refused, rank-refused, actor-refused, legal-refused, key-refused, truncation-refused, reward-refused, space-refused}
+pub use Rattle.theorems.proofs.Refusals.{validate-refused, initial-refused, step-refused, struck-refused, observe-refused, count-refused, draw-refused, rank-refused, actor-refused, legal-refused, key-refused, truncation-refused, reward-refused, space-refused}
 -- Demand 1: a refusal leaves every lent word, both buffers of a draw
 pub use Rattle.theorems.proofs.Refusals.{initial-untouched, step-untouched, observe-untouched, draw-untouched}
 -- Demand 1: an answer is a count of words, and the words after them keep their values
@@ -60,8 +60,15 @@ pub use Rattle.theorems.proofs.Placings.{replay-ends, places-by-lead}
 -- A match as a value: what the replay makes of a line is what a server's calls make of it, refusals, marked events, the end and the places included
 pub use Rattle.theorems.specs.Server.{servedBy, Served}
 pub use Rattle.theorems.proofs.Server.{move-served, over-served, line-served, places-served, replay-served, one-taken}
+-- Document 02, wish 7: a hit is told exactly where the step's event has one of the two causes by a body, and nobody is hit from n on
+pub use Rattle.theorems.proofs.Struck.{struck-is, struck-told, struck-nobody, struck-past}
+-- Document 02, wish 7: the place at that position of that moved body is the victim's head, no position before it is, and it is at least 1; of several snakes the lowest-numbered
+pub use Rattle.rules.specs.Struck.{standsAt, FirstBehind, HitsItself, HitsAnother}
+pub use Rattle.theorems.proofs.Struck.{struck-itself, struck-another}
+-- Document 02, wish 7: a number is found exactly where it is a member, so what asked for membership did not move
+pub use Rattle.lists.proofs.Search.{found-member}
 -- Tightness: two answers that meet one promise are equal, and so are the lent buffers
-pub use Rattle.rules.proofs.Answers.{one-turn, one-check, one-verdict, one-start, one-step, one-view, one-count, one-draw, one-rank, one-actor, one-legal, one-key, one-truncation, one-reward, one-space, one-action-space, one-body}
+pub use Rattle.rules.proofs.Answers.{one-turn, one-check, one-verdict, one-start, one-step, one-struck, one-view, one-count, one-draw, one-rank, one-actor, one-legal, one-key, one-truncation, one-reward, one-space, one-action-space, one-body}
 -- Tightness: two parts that the body query may hand back have equal words at one address
 pub use Rattle.theorems.proofs.Definitions.{one-part}
 -- One image for each state

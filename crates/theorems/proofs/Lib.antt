@@ -3,6 +3,7 @@ pub mod Eaten
 pub mod Lead
 pub mod Placings
 pub mod Server
+pub mod Struck
 pub mod Longest
 pub mod Definitions
 pub mod Books

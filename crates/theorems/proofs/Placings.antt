@@ -138,14 +138,16 @@ events-long : (s : Setting) (t : State) (acts : List ℕ) → length (stepped s 
 unfolding stepped transitionOf
 events-long s t acts = each-long (count t) _
 
+-- of the eight places those of the snakes are the step's
+pub event-at : (s : Setting) (t : State) (acts : List ℕ) (i : ℕ) → i < count t → getD (eight (stepped s t acts .events)) i blank ≡ getD (stepped s t acts .events) i blank
+event-at s t acts i h =
+    let es = stepped s t acts .events in
+    let l = events-long s t acts in
+    List·getD-append es (replicate (8 - length es) blank) blank i (omega arith)
+
 module _ (m : Match) (t : State) (acts : List ℕ) (k : Known m t) where
   abbrev o : Transition
   o = stepped (m .setting) t acts
-
-  event-at : (i : ℕ) → i < count t → getD (eight (o .events)) i blank ≡ getD (o .events) i blank
-  event-at i h =
-      let l = events-long (m .setting) t acts in
-      List·getD-append (o .events) (replicate (8 - length (o .events)) blank) blank i (omega arith)
 
   few : (i : ℕ) → i < count t → i < 8
   few i h = omega (arith, k .same, k .accepted .snakes-max)
@@ -160,12 +162,12 @@ module _ (m : Match) (t : State) (acts : List ℕ) (k : Known m t) where
         deaths = λ i h e.
             let l : i < count t = omega (arith, kept) in
             let v = survives (m .setting) t acts i l e in
-            let d : getD es i blank .died ≡ false = ap (λ (x : Event). x .died) (event-at i l) ∙ v .spared in
+            let d : getD es i blank .died ≡ false = ap (λ (x : Event). x .died) (event-at (m .setting) t acts i l) ∙ v .spared in
             filled-at (deathAt (counted (m .moves)) (m .deaths) es) 8 8 0 0 i (few i l)
             ∙ ap (λ (b : Bool). counted (m .moves) if b else getD (m .deaths) i 0) d ∙ k .deaths i l (v .lived);
         behind = λ i h.
             let l : i < count t = omega (arith, kept) in
-            filled-at (behindAt es) 8 8 false false i (few i l) ∙ ap lostAlive (event-at i l) ∙ living-lost (m .setting) t acts i l;
+            filled-at (behindAt es) 8 8 false false i (few i l) ∙ ap lostAlive (event-at (m .setting) t acts i l) ∙ living-lost (m .setting) t acts i l;
         over = λ e. ap (λ (b : Bool). b || endsBy m b) (lead-terminal (m .setting) t acts e);
       }
 

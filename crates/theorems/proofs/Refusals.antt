@@ -15,14 +15,15 @@ use Rattle.rules.specs.State.{snakeOf}
 use Rattle.rules.specs.Image.{imageOf, stateOf}
 use Rattle.rules.specs.Setting.{sideOf, settingOrder, chainOrder, initialState}
 use Rattle.rules.specs.Step.{Transition, stepped}
+use Rattle.rules.specs.Struck.{hitsIn}
 use Rattle.rules.specs.Chance.{outcomes, drawn, afterDraw, rankOf}
 use Rattle.rules.specs.View.{view, lit}
 use Rattle.rules.specs.LengthKey.{lengthKey}
 use Rattle.rules.specs.Turns.{chanceActs, legalFor, truncated}
 use Rattle.rules.specs.Reward.{rewardOf}
 use Rattle.rules.specs.Says.{Says, refuses, gives, byTable, seen, beside, lent, says, saysVerdict, saysNumber, saysKey, saysActor, saysLegal, saysMark, saysSum, box, saysSpace}
-use Rattle.rules.specs.Calls.{settingSays, initialSays, stepSays, observeSays, countSays, Draw, drawSays, rankSays, actorSays, legalSays, keySays, truncationSays, rewardSays, spaceSays}
-use Rattle.rules.specs.Promises.{Validates, Starts, Steps, Observes, Counts, Draws, Ranks, ActsNext, Allows, Keys, Truncates, Rewards, ObservationSpace}
+use Rattle.rules.specs.Calls.{settingSays, initialSays, stepSays, struckSays, observeSays, countSays, Draw, drawSays, rankSays, actorSays, legalSays, keySays, truncationSays, rewardSays, spaceSays}
+use Rattle.rules.specs.Promises.{Validates, Starts, Steps, Strikes, Observes, Counts, Draws, Ranks, ActsNext, Allows, Keys, Truncates, Rewards, ObservationSpace}
 use Rattle.rules.specs.declared.Setting.{Setting}
 use Rattle.rules.specs.declared.Event.{Event}
 use Rattle.rules.specs.declared.Weights.{Weights}
@@ -32,6 +33,8 @@ use Rattle.rules.specs.declared.Verdict.the-variants.{Refused as RefusedVerdict
 use Rattle.rules.specs.declared.Answer.{Answer}
 use Rattle.rules.specs.declared.Answer.the-variants.{Done, Refused as RefusedAnswer}
 use Rattle.rules.specs.declared.Stepped.{Stepped}
+use Rattle.rules.specs.declared.Hit.{Hit}
+use Rattle.rules.specs.declared.Hits.{Hits}
 use Rattle.rules.specs.declared.Drawn.{Drawn}
 use Rattle.rules.specs.declared.Number.{Number}
 use Rattle.rules.specs.declared.Number.the-variants.{Refused as RefusedNumber}
@@ -47,7 +50,7 @@ use Rattle.rules.specs.declared.Reward.{Reward}
 use Rattle.rules.specs.declared.Reward.the-variants.{Refused as RefusedSum}
 use Rattle.rules.specs.declared.Space.{Space}
 use Rattle.rules.specs.declared.Space.the-variants.{Refused as RefusedSpace}
-use Rattle.rules.specs.Orders.{initialOrder, stepOrder, observeOrder, countOrder, drawOrder, rankOrder, imageOrder, agentOrder, rewardOrder, spaceOrder}
+use Rattle.rules.specs.Orders.{initialOrder, stepOrder, struckOrder, observeOrder, countOrder, drawOrder, rankOrder, imageOrder, agentOrder, rewardOrder, spaceOrder}
 use Rattle.rules.proofs.Tables.{table-refuses, table-first, table-seen}
 use Rattle.rules.proofs.Answers.{answer-one, verdict-one, number-one, key-one, actor-one, legal-one, mark-one, sum-one, space-one}
 use Rattle.theorems.specs.Answers.{RefusedBy}
@@ -71,6 +74,9 @@ initial-order s room = refl
 
 pub step-order : (s : Setting) (w acts : List ℕ) (room : ℕ) → numbers (stepOrder s w acts room) ≡ settingNumbers ++ (20 ∷ 21 ∷ 22 ∷ 24 ∷ 25 ∷ 29 ∷ [])
 step-order s w acts room = refl
+
+pub struck-order : (s : Setting) (w acts : List ℕ) → numbers (struckOrder s w acts) ≡ settingNumbers ++ (20 ∷ 21 ∷ 22 ∷ 24 ∷ 25 ∷ [])
+struck-order s w acts = refl
 
 pub observe-order : (w : List ℕ) (a room : ℕ) → numbers (observeOrder w a room) ≡ 20 ∷ 26 ∷ 29 ∷ []
 observe-order w a room = refl
@@ -126,6 +132,11 @@ initial-refused s old new r p = by-words _ (initialOrder s (length old)) (initia
 pub step-refused : (s : Setting) (w acts old new : List ℕ) (r : Stepped) → Steps s w acts old new r → RefusedBy RefusedAnswer (stepOrder s w acts (length old)) (r .answer)
 unfolding stepSays
 step-refused s w acts old new r p = by-words _ (stepOrder s w acts (length old)) (stepped s (stateOf w) acts) (r .answer) (p .answer)
+
+pub struck-refused : (s : Setting) (w acts : List ℕ) (r : Hits) → Strikes s w acts r → RefusedBy RefusedVerdict (struckOrder s w acts) (r .verdict)
+unfolding struckSays
+struck-refused s w acts r p =
+    by-rows saysVerdict RefusedVerdict (λ k. refl) verdict-one (struckOrder s w acts) tt (r .verdict) (p .answer ∙ table-seen (λ (h : List Hit). tt) (struckOrder s w acts) (hitsIn (stateOf w) acts))
 
 pub observe-refused : (w : List ℕ) (a : ℕ) (old new : List Float) (r : Answer) → Observes w a old new r → RefusedBy RefusedAnswer (observeOrder w a (length old)) r
 unfolding observeSays

@@ -8,6 +8,7 @@ use reinfors_core::{Reward, Space, StateEncoder};
 use crate::paper::{self, Number, Setting, State};
 use crate::paper_books::{self, Refused};
 use crate::paper_rules;
+use crate::paper_struck::{self, Hit};
 use crate::rust;
 use crate::snake::{self, EgocentricSnake, StepEvent};
 
@@ -81,6 +82,24 @@ pub fn step_image(
     let next = image(&stepped.next);
     paper::check_room(room, next.len())?;
     Ok((stepped.terminal, stepped.events, next))
+}
+
+/// Who was hit where: the causes are the Rust's, the rest is the paper's. A moved head is hit by nobody: two heads that
+/// meet are another cause.
+pub fn struck(s: &Setting, words: &[u16], actions: &[u64]) -> Result<[Hit; 8], Number> {
+    let stepped = step(s, words, actions)?;
+    let state = paper::check_step(s, words, actions)?;
+    let causes: Vec<u64> = stepped.events.iter().map(|e| rust::event_numbers(e)[2]).collect();
+    let hits = paper_struck::struck(&state, actions, &causes);
+    assert!(hits.iter().all(|&(snake, position)| (snake == 8) == (position == 0)), "a position is at least 1");
+    Ok(hits)
+}
+
+/// Of each hit on another snake, how many moved bodies held the cell.
+pub fn holders(s: &Setting, words: &[u16], actions: &[u64]) -> Vec<usize> {
+    let (Ok(hits), Ok(state)) = (struck(s, words, actions), paper::check_step(s, words, actions)) else { return Vec::new() };
+    let on_others = (0..8).filter(|&i| hits[i].0 < 8 && hits[i].0 != i);
+    on_others.map(|i| paper_struck::holders(&state, actions, i)).collect()
 }
 
 /// The Rust's count of a state with food due; it panics above 2^64 - 1.

@@ -11,7 +11,7 @@ use crate::random::Random;
 pub const BASE: &str = "vvvissssssssccdddddkkkkkooobbtllzzuuwwwpqhxx";
 
 /// Letters of document 02.
-pub const LATER: &str = "BBPPPnn";
+pub const LATER: &str = "BBPPPHHHnn";
 
 /// As many words as a line with a book or a row may hold.
 const MOST_BOOK_WORDS: u64 = 262_144;
@@ -88,6 +88,7 @@ impl Generator {
             b'q' => "q".to_string(),
             b'h' => self.turn(),
             b'x' => self.well_formed(),
+            b'H' => self.struck(),
             b'B' => self.write_book(),
             b'P' => self.read_page(),
             other => panic!("no call has the letter {}", char::from(other)),
@@ -310,6 +311,24 @@ impl Generator {
         let needed = calls::step_image(&s, &words, &actions, u64::MAX).map_or(words.len(), |a| a.2.len());
         let room = self.room(needed, 16_384);
         format!("s {} {room}{}{}", s.print(), listed(&actions), listed(&words))
+    }
+
+    /// Half of the positions are crowded: a head enters a cell that lies anywhere in the bodies of the others.
+    fn struck(&mut self) -> String {
+        let (mut s, mut state) = self.position();
+        let crowded = self.size != Size::Full && self.rng.once_in(2);
+        let mut actions = self.actions(&state);
+        if crowded {
+            let i = images::crowd(&mut self.rng, &mut state);
+            if let Some(action) = actions.get_mut(i) {
+                *action = 0;
+            }
+        }
+        let words = self.perhaps_damaged(&state, 20);
+        if self.rng.once_in(20) {
+            self.unsettle(&mut s);
+        }
+        format!("H {}{}{}", s.print(), listed(&actions), listed(&words))
     }
 
     // ---- chance

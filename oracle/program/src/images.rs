@@ -263,6 +263,43 @@ fn set_up(rng: &mut Random, state: &mut State) {
     }
 }
 
+/// A body with this cell anywhere in it; seldom short of the length, where there is no room.
+fn through(rng: &mut Random, side: u16, cell: u16, length: usize) -> Vec<u16> {
+    let before = rng.below(length as u64) as usize;
+    let mut body = walk_on(rng, side, &[cell], before + 1, &[]);
+    body.reverse();
+    walk_on(rng, side, &body, length, &[])
+}
+
+/// Sets one snake before a cell that lies anywhere in the bodies of the others, corpses and itself among them: its number.
+pub fn crowd(rng: &mut Random, state: &mut State) -> usize {
+    let side = state.side;
+    let i = rng.below(state.snakes.len() as u64) as usize;
+    let head = rng.below(u64::from(side) * u64::from(side)) as u16;
+    let heading = rng.below(4) as u16;
+    let target = match neighbour(side, head, heading) {
+        Some(target) => target,
+        None => return i,
+    };
+    let room = u64::from(side) * u64::from(side);
+    for k in 0..state.snakes.len() {
+        if k == i || rng.once_in(4) {
+            continue;
+        }
+        let length = rng.between(1, room.min(24)) as usize;
+        let body = through(rng, side, target, length);
+        state.snakes[k] = Snake { heading: rng.below(4) as u16, alive: !rng.once_in(4), body };
+    }
+    let length = rng.between(1, room.min(24)) as usize;
+    let own = through(rng, side, target, length);
+    state.snakes[i] = match own.iter().position(|&c| c == head) {
+        // its own body leads back to the cell
+        Some(0) => Snake { heading, alive: true, body: own },
+        _ => facing(rng, side, head, heading, length),
+    };
+    i
+}
+
 /// A lead at, one above or one below the difference of two lengths.
 pub fn lead_near(rng: &mut Random, state: &State) -> u64 {
     let lengths: Vec<u64> = state.snakes.iter().map(|s| s.body.len() as u64).collect();

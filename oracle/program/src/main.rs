@@ -12,6 +12,7 @@ mod matches;
 mod paper;
 mod paper_books;
 mod paper_rules;
+mod paper_struck;
 mod probe;
 mod random;
 mod replay;

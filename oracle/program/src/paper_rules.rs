@@ -26,11 +26,11 @@ pub fn turn(heading: u16, action: u64) -> u16 {
 }
 
 /// A living snake after its move and before any judgement.
-struct Moved {
+pub struct Moved {
     heading: u16,
     /// A signed pair: it may be off the grid.
-    head: (i32, i32),
-    rest: Vec<u16>,
+    pub head: (i32, i32),
+    pub rest: Vec<u16>,
     on_food: bool,
 }
 
@@ -46,6 +46,12 @@ fn moved(state: &State, snake: &Snake, action: u64) -> Moved {
         rest.pop();
     }
     Moved { heading, head, rest, on_food }
+}
+
+/// Every living snake moved; none for a corpse.
+pub fn world(state: &State, actions: &[u64]) -> Vec<Option<Moved>> {
+    let snakes = state.snakes.iter().zip(actions);
+    snakes.map(|(snake, &action)| snake.alive.then(|| moved(state, snake, action))).collect()
 }
 
 /// The cell of a place on the grid.
@@ -91,11 +97,7 @@ fn snake_after(state: &State, old: &Snake, world: &Option<Moved>, cause: u64) ->
 /// Terminal, events and the next state.
 pub fn step(s: &Setting, state: &State, actions: &[u64]) -> (bool, Vec<Event>, State) {
     let n = state.snakes.len();
-    let world: Vec<Option<Moved>> = (0..n)
-        .map(|i| &state.snakes[i])
-        .zip(actions)
-        .map(|(snake, &action)| if snake.alive { Some(moved(state, snake, action)) } else { None })
-        .collect();
+    let world = world(state, actions);
     let causes: Vec<u64> = (0..n).map(|i| cause(state, &world, i)).collect();
     let snakes: Vec<Snake> = (0..n).map(|i| snake_after(state, &state.snakes[i], &world[i], causes[i])).collect();
     let mut events = vec![[0; 8]; n];

@@ -101,6 +101,29 @@ fn step(f: &mut Fields) -> Option<Answer> {
     }))
 }
 
+/// `H`: the setting, the image and the actions.
+fn acting(f: &mut Fields) -> Option<(Setting, Vec<u16>, Vec<u64>)> {
+    let s = Setting::read(f)?;
+    let actions = counted(f, MOST_ACTIONS, u64::MAX)?;
+    Some((s, words(f)?, actions))
+}
+
+fn struck(f: &mut Fields) -> Option<Answer> {
+    let (s, image, actions) = acting(f)?;
+    Some(calls::struck(&s, &image, &actions).map(|hits| {
+        let mut text = String::new();
+        put_all(&mut text, hits.into_iter().flat_map(|(snake, position)| [snake, position]));
+        text
+    }))
+}
+
+/// Of each hit on another snake that a call `H` tells, how many moved bodies held the cell.
+pub fn holders(line: &[u8]) -> Vec<usize> {
+    let mut f = Fields::of(line);
+    let (Some(b"H"), Some((s, image, actions))) = (f.next(), acting(&mut f)) else { return Vec::new() };
+    calls::holders(&s, &image, &actions)
+}
+
 fn count(f: &mut Fields) -> Option<Answer> {
     let image = words(f)?;
     Some(calls::count(&image).map(|n| texted(&[n])))
@@ -289,6 +312,7 @@ fn call(line: &[u8]) -> Option<Answer> {
         b"x" => well_formed(&mut f),
         b"B" => write_book(&mut f),
         b"P" => read_page(&mut f),
+        b"H" => struck(&mut f),
         _ => None,
     }
 }

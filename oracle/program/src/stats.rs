@@ -1,4 +1,4 @@
-//! How often each answer comes: by call, by refusal, by cause, flag and count of the dead; for books also by the
+//! How often each answer comes: by call, by refusal, by cause, flag and count of the dead; hits by whom and where; for books also by the
 //! paper's words for each refusal, by the number of pages, and how far from the front.
 
 use std::collections::BTreeMap;
@@ -12,6 +12,7 @@ pub struct Stats {
     refusals: BTreeMap<u64, u64>,
     events: BTreeMap<&'static str, u64>,
     books: BTreeMap<String, u64>,
+    hits: BTreeMap<String, u64>,
 }
 
 const FLAGS: [&str; 8] = ["ate", "died", "", "kill", "won", "lost", "drew", "survived"];
@@ -45,8 +46,27 @@ impl Stats {
         } else if letter == 's' {
             self.add_step(answer);
         }
+        if letter == 'H' && kind == "a" {
+            self.add_hits(line, answer);
+        }
         if "BP".contains(letter) {
             self.add_book(letter, line, answer);
+        }
+    }
+
+    fn add_hits(&mut self, line: &[u8], answer: &str) {
+        let numbers: Vec<usize> = answer.split(' ').skip(1).map(|t| t.parse().expect("a number")).collect();
+        for (i, hit) in numbers.chunks(2).enumerate().filter(|(_, hit)| hit[0] < 8) {
+            let whom = if hit[0] == i { "itself" } else { "another" };
+            let at = match hit[1] {
+                1 => "at 1",
+                2..=9 => "at 2 to 9",
+                _ => "at 10 or more",
+            };
+            *self.hits.entry(format!("{whom} {at}:")).or_default() += 1;
+        }
+        for held in probe::holders(line) {
+            *self.hits.entry(format!("another, its cell held by {held}:")).or_default() += 1;
         }
     }
 
@@ -95,6 +115,9 @@ impl Stats {
         }
         for (event, count) in &self.events {
             text += &format!("step {event} {count}\n");
+        }
+        for (what, count) in &self.hits {
+            text += &format!("hit {what} {count}\n");
         }
         for (what, count) in &self.books {
             text += &format!("book {what} {count}\n");

@@ -276,6 +276,15 @@ fn facing_neighbours() {
     };
     assert_eq!((one.terminal, one.events), (true, vec![lost, won]));
     assert_eq!((one.next.body(0), one.next.body(1)), (&[][..], &[7, 8][..]));
+    // the victim meets the cell behind the other's moved head
+    let struck = image(5, 0, 0, &[alive(1, &[7]), alive(3, &[8, 9])], &[])
+        .struck(&setting, &[Forward, Forward])
+        .unwrap();
+    let hit = Hit {
+        snake: 1,
+        position: 1,
+    };
+    assert_eq!(struck, vec![Some(hit), None]);
 }
 
 fn length_cells() {
@@ -300,6 +309,7 @@ fn refused_images() {
     assert_eq!(number(Image::checked(vec![])), 20);
     assert!(bad.body(0).is_empty());
     assert_eq!(number(bad.step(&setting(2, 3, 1, 1), &[Forward; 2])), 20);
+    assert_eq!(number(bad.struck(&setting(2, 3, 1, 1), &[Forward; 2])), 20);
     assert_eq!(number(bad.count()), 20);
     assert_eq!(number(bad.draw(0)), 20);
     assert_eq!(number(bad.rank(&[])), 20);

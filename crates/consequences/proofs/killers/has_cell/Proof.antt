@@ -14,4 +14,5 @@ has-cell-spec =
     (λ c. search start-word)
     (λ c. search needs)
     (λ c κs. search part-fits)
+    (λ c κs. search needs)
     (λ c. search cell-held))

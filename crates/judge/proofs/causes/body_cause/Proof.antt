@@ -11,6 +11,7 @@ body-cause-spec =
     (tie.spec
     (λ c. search needs) (λ c. search needs)
     (λ c κs. search own-in)
+    (λ c κs. search needs)
     (λ c. search body-own)
     (λ c κs. search needs)
     (λ c. search body-other)
