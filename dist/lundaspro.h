@@ -28,17 +28,17 @@ extern "C" {
 #define LUNDASPRO_IMAGE_WORDS 9253 /* an image: out */
 #define LUNDASPRO_LIST_WORDS 20    /* the cells of one draw: list */
 #define LUNDASPRO_EVENTS 8         /* the events of a step: events, exactly what a step needs */
+#define LUNDASPRO_HITS 8           /* who was hit where: hits, exactly what the call needs */
 #define LUNDASPRO_PLANE_NUMBERS 5120 /* an observation: obs */
 #define LUNDASPRO_BOOK_WORDS(pages, row_len) (17 + 2 * (pages) + (row_len)) /* a book: out, exactly what writing it needs */
 
-/* Refusals; lundaspro_sentence says these sentences by the number. */
+/* Refusals; lundaspro_sentence says these sentences by the number. No call gives 7. */
 #define LUNDASPRO_SNAKES 1          /* snakes not 2..8 */
 #define LUNDASPRO_LENGTH_ZERO 2     /* initial length 0 */
 #define LUNDASPRO_LEAD_ZERO 3       /* food lead 0 */
 #define LUNDASPRO_LEAD_NOT_TWO 4    /* food lead set, snakes not 2 */
 #define LUNDASPRO_GRID 5            /* grid above 32 (space query: or below 1) */
 #define LUNDASPRO_FOOD_AREA 6       /* food above g*g (0 when g < 0) */
-#define LUNDASPRO_FOOD_CHAIN 7      /* food above 10,000 */
 #define LUNDASPRO_PRODUCT 8         /* g*g(g*g-1).. of min(snakes, food) factors above 2^53 */
 #define LUNDASPRO_UNTRACEABLE 9     /* some body cannot be traced to its length */
 #define LUNDASPRO_CELL_OUTSIDE 10   /* first bad cell: outside */
@@ -60,6 +60,8 @@ extern "C" {
 #define LUNDASPRO_CONTENTS 40       /* a book's contents: cut short, off their layout, a refused setting, starts out of line, words left in a book of no pages */
 #define LUNDASPRO_PAGE 41           /* no such page */
 #define LUNDASPRO_PAGES 42          /* above 65,535 pages */
+#define LUNDASPRO_UNIT_COUNT 80     /* unit number: count not 1 to 2^53 */
+#define LUNDASPRO_UNIT_NUMBER 81    /* unit number: not at least 0 and below 1 */
 
 /* Causes of death. */
 #define LUNDASPRO_NO_CAUSE 0
@@ -100,10 +102,13 @@ uint64_t lundaspro_flat_step(const uint64_t setting[9], const uint16_t *image, u
 uint64_t lundaspro_flat_take_move(const uint64_t setting[9], uint64_t terminal, const uint16_t *image, uint64_t image_len, uint8_t events[64],
     uint64_t match[19]); /* events, match: read and written */
 uint64_t lundaspro_flat_places(const uint64_t setting[9], const uint64_t match[19], uint64_t places[8]);
+uint64_t lundaspro_flat_struck(const uint64_t setting[9], const uint16_t *image, uint64_t image_len, const uint64_t *actions, uint64_t actions_len,
+    uint16_t hits[16]); /* eight times: snake, position */
 uint64_t lundaspro_flat_count(const uint16_t *image, uint64_t image_len, uint64_t value[1]);
 uint64_t lundaspro_flat_draw(const uint16_t *image, uint64_t image_len, uint64_t index, uint16_t *out, uint64_t out_len, uint16_t *list, uint64_t list_len,
     uint64_t drawn[2]); /* words, cells */
 uint64_t lundaspro_flat_rank(const uint16_t *image, uint64_t image_len, const uint16_t *list, uint64_t list_len, uint64_t index[1]);
+uint64_t lundaspro_flat_outcome_of(uint64_t count, double u, uint64_t index[1]);
 uint64_t lundaspro_flat_observe(const uint16_t *image, uint64_t image_len, uint64_t agent, float *obs, uint64_t obs_len, uint64_t written[1]);
 uint64_t lundaspro_flat_observation_space(uint64_t grid, uint64_t sizes[5], float bounds[2]);
 uint64_t lundaspro_flat_action_space(uint64_t sizes[5], float bounds[2]);
@@ -147,6 +152,11 @@ typedef struct {
 typedef struct {
     uint8_t ate_food, died, death_cause, killed_opponent, won, lost, drew, survived_to_max_ticks;
 } lundaspro_event;
+
+/* Whom a snake hit, and at which position of its moved body, the head being 0; 8 and 0 for nobody. */
+typedef struct {
+    uint16_t snake, position;
+} lundaspro_hit;
 
 /* How many words or numbers were written. */
 typedef struct {
@@ -296,6 +306,14 @@ static inline lundaspro_stepped lundaspro_step(lundaspro_setting setting, const 
     return a;
 }
 
+/* Who is hit where by that move: for each snake that dies by its own or another's body the one that is hit and the position, nobody
+ * for any other and from n on, eight in all. 0, or refusals 1 to 12, 20, 21, 22, 24, 25. */
+static inline uint8_t lundaspro_struck(lundaspro_setting setting, const uint16_t *image, size_t image_len, const uint64_t *actions, size_t actions_len,
+    lundaspro_hit hits[LUNDASPRO_HITS]) {
+    lundaspro_numbers s = lundaspro_setting_numbers(setting);
+    return lundaspro_refusal(lundaspro_flat_struck(s.numbers, image, image_len, actions, actions_len, (uint16_t *)hits));
+}
+
 /* How many outcomes the draw has. Refusals 20, 23, 28. */
 static inline lundaspro_number lundaspro_count(const uint16_t *image, size_t image_len) {
     uint64_t value[1] = {0};
@@ -316,6 +334,14 @@ static inline lundaspro_drawn lundaspro_draw(const uint16_t *image, size_t image
 static inline lundaspro_number lundaspro_rank(const uint16_t *image, size_t image_len, const uint16_t *list, size_t list_len) {
     uint64_t index[1] = {0};
     uint64_t r = lundaspro_flat_rank(image, image_len, list, list_len, index);
+    lundaspro_number a = {lundaspro_refusal(r), index[0]};
+    return a;
+}
+
+/* The index below that count which a unit number gives, one that is at least 0 and below 1: the rounded product, cut. Refusals 80, 81. */
+static inline lundaspro_number lundaspro_outcome_of(uint64_t count, double u) {
+    uint64_t index[1] = {0};
+    uint64_t r = lundaspro_flat_outcome_of(count, u, index);
     lundaspro_number a = {lundaspro_refusal(r), index[0]};
     return a;
 }

@@ -11,7 +11,6 @@ static inline const char *lundaspro_sentence(uint8_t refusal) {
     case LUNDASPRO_LEAD_NOT_TWO: return "food lead set, snakes not 2";
     case LUNDASPRO_GRID: return "grid above 32 (space query: or below 1)";
     case LUNDASPRO_FOOD_AREA: return "food above g*g (0 when g < 0)";
-    case LUNDASPRO_FOOD_CHAIN: return "food above 10,000";
     case LUNDASPRO_PRODUCT: return "g*g(g*g-1).. of min(snakes, food) factors above 2^53";
     case LUNDASPRO_UNTRACEABLE: return "some body cannot be traced to its length";
     case LUNDASPRO_CELL_OUTSIDE: return "first bad cell: outside";
@@ -33,6 +32,8 @@ static inline const char *lundaspro_sentence(uint8_t refusal) {
     case LUNDASPRO_CONTENTS: return "a book's contents: cut short, off their layout, a refused setting, starts out of line, words left in a book of no pages";
     case LUNDASPRO_PAGE: return "no such page";
     case LUNDASPRO_PAGES: return "above 65,535 pages";
+    case LUNDASPRO_UNIT_COUNT: return "unit number: count not 1 to 2^53";
+    case LUNDASPRO_UNIT_NUMBER: return "unit number: not at least 0 and below 1";
     default: return "no number that a call gives";
     }
 }
