@@ -250,7 +250,7 @@ wrong(TypeError, () => arena.count(new Int16Array(image)));
 // ---- a sentence for each number that a call gives (tests/sentences: the header's), and one for no other
 {
     const numbers = Object.keys(SENTENCES).map(Number);
-    same(numbers, [...Array(12).keys()].map((i) => i + 1).concat([...Array(12).keys()].map((i) => i + 20), [33, 40, 41, 42]));
+    same(numbers, [1, 2, 3, 4, 5, 6, 8, 9, 10, 11, 12, ...[...Array(12).keys()].map((i) => i + 20), 33, 40, 41, 42, 80, 81]);
     for (let i = 0; i < 256; i++) same(new Refusal(i).sentence, SENTENCES[i] ?? 'no number that a call gives');
 }
 
