@@ -92,7 +92,7 @@ fn body_cause(image: &[u16], all: [Move; 8], n: usize, i: usize, cell: u16) -> C
     Cause::NoCause
 }
 
-pub fn cause_of(image: &[u16], all: [Move; 8], n: usize, i: usize) -> Cause
+fn cause_of(image: &[u16], all: [Move; 8], n: usize, i: usize) -> Cause
     requires { ⌜ Judging (now image) all n i ⌝ }
     ensures { λ r. ⌜ r ≡ causeOf (sideIn (now (image .entry))) n (world (now (image .entry)) all) i ⌝ }
 {

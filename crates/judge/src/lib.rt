@@ -3,7 +3,6 @@ mod causes;
 mod hits;
 mod moves;
 
-pub use causes::cause_of;
 pub use causes::find_other;
 pub use causes::find_rest;
 pub use causes::judge;

@@ -36,12 +36,13 @@ use Rattle.rules.proofs.Parts.{state-count}
 use Rattle.rules.proofs.Struck.{apart-rest, self-holds, opp-tests, met-below, hit-behind}
 use Rattle.rules.proofs.Tables.{table-seen}
 use Rattle.judge.specs.declared.Move.{Move}
-use Rattle.judge.specs.World.{still, world, movedWorld}
+use Rattle.judge.specs.declared.Judged.{Judged}
+use Rattle.judge.specs.World.{still, world, movedWorld, causesOf, Judges}
 use Rattle.judge.specs.Loops.{Filling}
 use Rattle.judge.specs.Moving.{moveAt}
 use Rattle.judge.specs.Judging.{RestFound, Judging, HitFits, hitIn, stopsAt, Stopped}
 use Rattle.judge.proofs.Loops.{fill-none, fill-next, fill-all}
-use Rattle.judge.proofs.Judging.{found-fits, world-is}
+use Rattle.judge.proofs.Judging.{found-fits, world-is, cause-judged}
 use Rattle.step.specs.Asked.{Asks}
 use Rattle.struck.specs.Own.{ownAt, OwnHit}
 
@@ -109,6 +110,11 @@ module _ (w : List ℕ) (all : List Move) (n i : ℕ) (q : Judging w all n i) (c
 module _ (w acts : List ℕ) (s : Sound w) (pl : length acts ≡ snakesIn w) (all : List Move) (q : all ≡ filled (moveAt w acts) (snakesIn w) 8 still) where
   abbrev hit : ℕ → Hit
   hit = hitOf (sideIn w) (length acts) (world w all)
+
+  -- snake i of a judged array has its cause in that world
+  pub cause-handed : (r : List Judged) → Judges w acts r → (i : ℕ) → i < length acts → causesOf r i ≡ causeOf (sideIn w) (length acts) (world w all) i
+  cause-handed r j i l =
+      cause-judged w acts r j i (omega (arith, pl)) ∙ (λ t. causeOf (sideIn w) (sym pl t) ((j .moved ∙ sym (world-is w acts s all q)) t) i)
 
   pub hits-none : Filling hit noHit (length acts) 0 (replicate 8 noHit)
   hits-none = fill-none hit noHit (length acts) (omega (arith, s .snakes-max))

@@ -1,9 +1,9 @@
 // Who was hit where: the refusals of a step but 29, then the moves judged on one world, and for each death by a body whom the head hit and at which position.
 use judge::Move;
-use judge::cause_of;
 use judge::find_other;
 use judge::find_rest;
 use judge::hit_at;
+use judge::judge;
 use judge::move_all;
 use judge::no_hit;
 use lists::Found;
@@ -16,6 +16,7 @@ ghost use mathlib.Core.Path.{_≡_};
 ghost use lib.ListN.{length};
 ghost use Rattle.rules.specs.Image.{snakesIn, sideIn, stateOf};
 ghost use Rattle.rules.specs.Facts.{Sound};
+ghost use Rattle.rules.specs.Step.{causeOf};
 ghost use Rattle.rules.specs.Struck.{hitOf, hitsIn};
 ghost use Rattle.rules.specs.Promises.{Strikes};
 ghost use Rattle.judge.specs.World.{world};
@@ -36,12 +37,12 @@ fn own_hit(image: &[u16], all: [Move; 8], n: usize, i: usize) -> Hit
 }
 
 // Whom snake i hit: itself, the lowest-numbered other, or nobody, by its cause.
-fn hit_of(image: &[u16], all: [Move; 8], n: usize, i: usize) -> Hit
+fn hit_of(image: &[u16], all: [Move; 8], n: usize, i: usize, cause: Cause) -> Hit
     requires { ⌜ Judging (now image) all n i ⌝ }
+    requires { ⌜ cause ≡ causeOf (sideIn (now image)) n (world (now image) all) i ⌝ }
     ensures { λ r. ⌜ r ≡ hitOf (sideIn (now (image .entry))) n (world (now (image .entry)) all) i ⌝ }
 {
     let me = all[i];
-    let cause = cause_of(image, all, n, i);
     match cause {
         Cause::NoCause => no_hit(),
         Cause::Wall => no_hit(),
@@ -57,6 +58,8 @@ fn find_hits(image: &[u16], actions: &[u64]) -> [Hit; 8]
     requires { ⌜ length (now actions) ≡ snakesIn (now image) ⌝ }
     ensures { λ r. ⌜ r ≡ hitsIn (stateOf (now (image .entry))) (now (actions .entry)) ⌝ }
 {
+    // The moves once more: `judge` has each beside its cause, and the searches take all of them at once.
+    let judged = judge(image, actions);
     let moves = move_all(image, actions);
     let n = actions.len();
     let mut hits = [Hit {
@@ -65,7 +68,9 @@ fn find_hits(image: &[u16], actions: &[u64]) -> [Hit; 8]
     }; 8];
     let mut i = 0;
     while i < n {
-        hits[i] = hit_of(image, moves, n, i);
+        let one = judged[i];
+        let cause = one.cause;
+        hits[i] = hit_of(image, moves, n, i, cause);
         i += 1;
     }
     hits

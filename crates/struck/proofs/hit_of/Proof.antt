@@ -1,4 +1,4 @@
--- `struck::hit_of` meets its contract: each cause is the definition's, and each hit by its cause (`Hitting`).
+-- `struck::hit_of` meets its contract: the cause that it is handed is the definition's, and each hit goes by its cause (`Hitting`).
 -- Assumes nothing.
 use borrow.Author.Needs.{needs}
 use Rattle.struck.proofs.Hitting.{hit-free, hit-wall, hit-own, hit-other, hit-heads}
@@ -9,7 +9,7 @@ pub hit-of-spec : {M : Type 1} → statement M
 hit-of-spec =
     tie.close
     (tie.spec
-    (λ c. search needs) (λ c. search needs) (λ c κs. search needs)
+    (λ c. search needs) (λ c. search needs)
     (λ c. search needs) (λ c κs. search needs) (λ c. search needs) (λ c κs. search needs) (λ c. search needs) (λ c κs. search needs)
     (λ c. search needs) (λ c κs. search needs) (λ c. search needs) (λ c κs. search needs)
     (λ c. search hit-free)
