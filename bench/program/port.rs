@@ -9,7 +9,7 @@ mod raw;
 
 use raw::{
     lundaspro_flat_count, lundaspro_flat_draw, lundaspro_flat_initial_state, lundaspro_flat_observe, lundaspro_flat_page, lundaspro_flat_rank, lundaspro_flat_step,
-    lundaspro_flat_validate, lundaspro_flat_well_formed, lundaspro_flat_write_book, Event, Setting as FlatSetting,
+    lundaspro_flat_validate, lundaspro_flat_check_image, lundaspro_flat_write_book, Event, Setting as FlatSetting,
 };
 
 pub const IMAGE_WORDS: usize = 9253;
@@ -24,7 +24,7 @@ pub fn setting(s: &Setting) -> FlatSetting {
 
 #[inline(always)]
 pub fn well_formed(image: &[u16]) -> bool {
-    unsafe { lundaspro_flat_well_formed(image.as_ptr(), image.len()) == 0 }
+    unsafe { lundaspro_flat_check_image(image.as_ptr(), image.len()) == 0 }
 }
 
 #[inline(always)]

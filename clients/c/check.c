@@ -45,7 +45,7 @@ static void refused_steps(void) {
     REFUSED(22, 14, 2, 13);
     image[2] = 0, setting[1] = 4;
     REFUSED(21, 14, 2, 13);
-    REFUSED(20, 13, 2, 13);
+    REFUSED(53 + 256 * 13, 13, 2, 13);
     setting[2] = 0;
     REFUSED(2, 13, 2, 13);
     setting[2] = 1, setting[1] = 3, actions[0] = 0;
@@ -61,9 +61,10 @@ static void hits_told(void) {
     uint64_t actions[2] = {0, 0};
     lundaspro_hit hits[LUNDASPRO_HITS];
     memset(hits, 9, sizeof hits);
-    CHECK(lundaspro_struck(setting, both, 16, actions, 1, hits) == LUNDASPRO_ACTION_COUNT && untouched(hits, sizeof hits));
-    CHECK(lundaspro_struck(setting, both, 15, actions, 2, hits) == LUNDASPRO_MALFORMED && untouched(hits, sizeof hits));
-    CHECK(lundaspro_struck(setting, both, 16, actions, 2, hits) == 0);
+    CHECK(lundaspro_struck(setting, both, 16, actions, 1, hits).refusal == LUNDASPRO_ACTION_COUNT && untouched(hits, sizeof hits));
+    lundaspro_checked cut = lundaspro_struck(setting, both, 15, actions, 2, hits);
+    CHECK(cut.refusal == LUNDASPRO_TOTAL && cut.word == 15 && untouched(hits, sizeof hits));
+    CHECK(lundaspro_struck(setting, both, 16, actions, 2, hits).refusal == 0);
     CHECK(hits[0].snake == 1 && hits[0].position == 1);
     for (int i = 1; i < LUNDASPRO_HITS; i++) CHECK(hits[i].snake == 8 && hits[i].position == 0);
 }
@@ -76,12 +77,12 @@ static void refused_others(void) {
     double sum, weights[7] = {HUGE_VAL, 0, 0, 0, 0, 0, 0};
     memset(two, 9, sizeof two), memset(five, 9, sizeof five), memset(words, 9, sizeof words), memset(marked, 9, sizeof marked);
     memset(planes, 9, sizeof planes), memset(bounds, 9, sizeof bounds), memset(&sum, 9, sizeof sum);
-    CHECK(lundaspro_flat_well_formed(image, 13) == 20);
+    CHECK(lundaspro_flat_check_image(image, 13) == 53 + 256 * 13 && lundaspro_flat_check_image(image, 14) == 0);
     CHECK(lundaspro_flat_initial_state(setting, words, 14, two) == 29);
     CHECK(lundaspro_flat_count(image, 14, two) == 23 && lundaspro_flat_rank(image, 14, words, 1, two) == 23);
     CHECK(lundaspro_flat_draw(image, 14, 0, words, 10, words + 10, 10, two) == 23);
     CHECK(lundaspro_flat_observe(image, 14, 0, planes, 44, two) == 29 && lundaspro_flat_observe(image, 14, 2, planes, 45, two) == 26);
-    CHECK(lundaspro_flat_length_cell(image, 13, two) == 20 && lundaspro_flat_actor(image, 13, two) == 20);
+    CHECK(lundaspro_flat_length_cell(image, 13, two) == 53 + 256 * 13 && lundaspro_flat_actor(image, 4, two) == 50 + 256 * 4);
     CHECK(lundaspro_flat_legal_actions(image, 14, 2, two) == 26 && lundaspro_flat_truncation(image, 14, 2, event, marked) == 26);
     CHECK(lundaspro_flat_write_book(setting, 65536, image, 14, words, 20, two) == 42 && lundaspro_flat_page(image, 14, 0, two) == 40);
     CHECK(lundaspro_flat_observation_space(33, five, bounds) == 5 && lundaspro_flat_reward(weights, event, &sum) == 31);
@@ -205,7 +206,7 @@ static void every_other_call(void) {
     CHECK(lundaspro_validate(setting) == 0);
     CHECK(lundaspro_well_formed(image, 14) && !lundaspro_well_formed(image, 13));
     lundaspro_actor_answer actor = lundaspro_actor(image, 14);
-    CHECK(actor.refusal == 0 && !actor.chance && lundaspro_actor(image, 13).refusal == 20);
+    CHECK(actor.refusal == 0 && !actor.chance && lundaspro_actor(image, 13).refusal == 53 && lundaspro_actor(image, 13).word == 13);
     lundaspro_legal legal = lundaspro_legal_actions(image, 14, 0);
     CHECK(legal.refusal == 0 && legal.actions == 3 && lundaspro_legal_actions(image, 14, 1).actions == 0);
     CHECK(lundaspro_count(image, 14).refusal == 23);
@@ -244,7 +245,7 @@ static void books(void) {
     CHECK(p.refusal == 0 && p.start == 21 && p.len == 14 && q.refusal == 0 && q.start == 35 && q.len == 14);
     CHECK(lundaspro_page(book, need, 2).refusal == 41 && lundaspro_page(book, need, UINT64_MAX).refusal == 41);
     p = lundaspro_page(book, need + 1, 1);
-    CHECK(p.refusal == 20 && p.start == 0 && p.len == 0 && lundaspro_page(book, need + 1, 0).refusal == 0);
+    CHECK(p.refusal == 53 && p.word == 14 && p.start == 0 && p.len == 0 && lundaspro_page(book, need + 1, 0).refusal == 0);
     for (size_t cut = 0; cut < 36; cut++) CHECK(lundaspro_page(book, cut, 0).refusal == 40);
     for (int i = 0; i < 21; i++) {
         memcpy(whole, book, sizeof whole);
@@ -254,8 +255,12 @@ static void books(void) {
         CHECK((lundaspro_page(whole, need, 0).refusal == 0) == fine && (lundaspro_page(whole, need, 0).refusal == 40) == !fine);
     }
     CHECK(lundaspro_write_book(setting, 65536, row, 28, book, 60).refusal == 42 && lundaspro_write_book(setting, UINT64_MAX, row, 28, book, 60).refusal == 42);
-    CHECK(lundaspro_write_book(setting, 1, row, 28, book, 60).refusal == 20 && lundaspro_write_book(setting, 3, row, 28, book, 60).refusal == 20);
-    CHECK(lundaspro_write_book(setting, 0, row, 28, book, 60).refusal == 20 && lundaspro_write_book(setting, 0, row, 0, book, 17).words == 17);
+    a = lundaspro_write_book(setting, 1, row, 28, book, 60); /* words after the last page, one image short, words without a page */
+    CHECK(a.refusal == 53 && a.word == 14);
+    a = lundaspro_write_book(setting, 3, row, 28, book, 60);
+    CHECK(a.refusal == 50 && a.word == 0);
+    a = lundaspro_write_book(setting, 0, row, 28, book, 60);
+    CHECK(a.refusal == 53 && a.word == 0 && lundaspro_write_book(setting, 0, row, 0, book, 17).words == 17);
     CHECK(lundaspro_page(book, 17, 0).refusal == 41 && lundaspro_page(book, 18, 0).refusal == 40);
     setting.grid_size = 4;
     CHECK(lundaspro_write_book(setting, 2, row, 28, book, 60).refusal == 21);
@@ -263,14 +268,35 @@ static void books(void) {
     CHECK(lundaspro_write_book(setting, 65536, row, 28, book, 0).refusal == 2);
 }
 
+/* Each fault of an image, and the first word that shows it. */
+static void faults(void) {
+    static const uint16_t good[18] = {2, 4, 0, 0, 2, 13, 2, 0, 1, 15, 1, 0, 1, 2, 6, 3, 8, 9};
+    static const uint16_t cases[12][4] = {{0, 9, 51, 0}, {1, 33, 51, 1}, {2, 1025, 51, 2}, {3, 2, 51, 3}, {6, 0, 51, 6}, {8, 2, 51, 8}, {9, 16, 52, 9}, {10, 2, 53, 18}, {4, 1, 53, 17},
+        {16, 16, 54, 16}, {14, 2, 55, 14}, {17, 8, 56, 17}};
+    uint16_t words[18];
+    lundaspro_checked a = lundaspro_check_image(good, 18);
+    CHECK(a.refusal == 0 && a.word == 0);
+    for (int i = 0; i < 12; i++) {
+        memcpy(words, good, sizeof words);
+        words[cases[i][0]] = cases[i][1];
+        a = lundaspro_check_image(words, 18);
+        CHECK(a.refusal == cases[i][2] && a.word == cases[i][3]);
+    }
+    for (uint16_t cut = 0; cut < 18; cut++) {
+        a = lundaspro_check_image(good, cut);
+        CHECK(a.refusal == (cut < 13 ? 50 : 53) && a.word == cut);
+    }
+}
+
 /* A sentence for each number that a call gives, and for no other. */
 static void sentences(void) {
     const char *none = lundaspro_sentence(0);
     for (int i = 1; i < 256; i++) {
-        bool named = (i >= 1 && i <= 12 && i != 7) || (i >= 20 && i <= 31) || i == 33 || (i >= 40 && i <= 42) || i == 80 || i == 81;
+        bool named = (i >= 1 && i <= 12 && i != 7) || (i >= 21 && i <= 31) || i == 33 || (i >= 40 && i <= 42) || (i >= 50 && i <= 56) || i == 80 || i == 81;
         CHECK((strcmp(lundaspro_sentence((uint8_t)i), none) != 0) == named);
     }
-    CHECK(strcmp(lundaspro_sentence(lundaspro_count(image, 13).refusal), "image not well-formed") == 0);
+    CHECK(lundaspro_refusal(0) == 0 && lundaspro_refusal(256) != 0);
+    CHECK(strcmp(lundaspro_sentence(lundaspro_count(image, 13).refusal), "total length wrong") == 0);
 }
 
 int main(void) {
@@ -285,6 +311,7 @@ int main(void) {
     bodies();
     every_other_call();
     books();
+    faults();
     sentences();
     printf("%d checks passed\n", checks);
     return 0;

@@ -132,8 +132,9 @@ static bool kept(const uint16_t *buffer, size_t from, size_t room) {
 }
 
 /* The line's letter, or its refusal; true where the answer's numbers follow. */
-static bool begun(uint8_t refusal) {
+static bool begun(uint8_t refusal, uint16_t word) {
     if (refusal == 0) printf("a");
+    else if (refusal >= 50 && refusal <= 56) printf("r %u %u", refusal, word);
     else printf("r %u", refusal);
     return refusal == 0;
 }
@@ -157,7 +158,7 @@ static void ended(bool holds) { puts(holds ? "" : " !"); }
 static void validate(void) {
     lundaspro_setting s = setting_of();
     end();
-    if (fine) begun(lundaspro_validate(s)), ended(true);
+    if (fine) begun(lundaspro_validate(s), 0), ended(true);
 }
 
 static void initial_state(void) {
@@ -166,7 +167,7 @@ static void initial_state(void) {
     end();
     if (!fine) return;
     lundaspro_written a = lundaspro_initial_state(s, out, room);
-    if (begun(a.refusal)) put_list(out, a.words);
+    if (begun(a.refusal, a.word)) put_list(out, a.words);
     ended(kept(out, a.words, room));
 }
 
@@ -183,7 +184,7 @@ static void step(void) {
     memset(events, 9, sizeof events);
     lundaspro_stepped a = lundaspro_step(s, words, length, actions, count, out, room, events);
     bool holds = kept(out, a.words, room);
-    if (begun(a.refusal)) {
+    if (begun(a.refusal, a.word)) {
         put(a.terminal);
         for (int i = 0; i < LUNDASPRO_EVENTS; i++) put_event(events[i]);
         put_list(out, a.words);
@@ -199,7 +200,8 @@ static void struck(void) {
     if (!fine) return;
     memset(hits, 9, sizeof hits);
     bool holds = true;
-    if (begun(lundaspro_struck(s, words, length, actions, count, hits)))
+    lundaspro_checked a = lundaspro_struck(s, words, length, actions, count, hits);
+    if (begun(a.refusal, a.word))
         for (int i = 0; i < LUNDASPRO_HITS; i++) put(hits[i].snake), put(hits[i].position);
     else
         for (size_t i = 0; i < sizeof hits; i++) holds = holds && ((unsigned char *)hits)[i] == 9;
@@ -210,7 +212,7 @@ static void count(void) {
     size_t length = image_of(MOST_WORDS);
     if (!fine) return;
     lundaspro_number a = lundaspro_count(words, length);
-    if (begun(a.refusal)) put(a.value);
+    if (begun(a.refusal, a.word)) put(a.value);
     ended(true);
 }
 
@@ -220,7 +222,7 @@ static void draw(void) {
     size_t length = image_of(MOST_WORDS);
     if (!fine) return;
     lundaspro_drawn a = lundaspro_draw(words, length, index, out, room, list, list_room);
-    if (begun(a.refusal)) put_list(out, a.words), put_list(list, a.cells);
+    if (begun(a.refusal, a.word)) put_list(out, a.words), put_list(list, a.cells);
     ended(kept(out, a.words, room) && kept(list, a.cells, list_room));
 }
 
@@ -228,7 +230,7 @@ static void rank(void) {
     size_t ranked = cells(list, MOST_RANKED), length = image_of(MOST_WORDS);
     if (!fine) return;
     lundaspro_number a = lundaspro_rank(words, length, list, ranked);
-    if (begun(a.refusal)) put(a.value);
+    if (begun(a.refusal, a.word)) put(a.value);
     ended(true);
 }
 
@@ -239,7 +241,7 @@ static void observe(void) {
     for (size_t i = 0; i < room; i++) planes[i] = 0.5f;
     lundaspro_written a = lundaspro_observe(words, length, agent, planes, room);
     bool holds = true;
-    if (begun(a.refusal)) {
+    if (begun(a.refusal, a.word)) {
         put(a.words);
         for (size_t i = 0; i < a.words; i++) put((uint64_t)planes[i]);
     }
@@ -252,14 +254,14 @@ static void body(void) {
     size_t length = image_of(MOST_WORDS);
     if (!fine) return;
     lundaspro_part a = lundaspro_body(words, length, snake);
-    begun(0), put(a.start), put_list(words + a.start, a.len), ended(true);
+    begun(0, 0), put(a.start), put_list(words + a.start, a.len), ended(true);
 }
 
 static void actor(void) {
     size_t length = image_of(MOST_WORDS);
     if (!fine) return;
     lundaspro_actor_answer a = lundaspro_actor(words, length);
-    if (begun(a.refusal)) put(a.chance);
+    if (begun(a.refusal, a.word)) put(a.chance);
     ended(true);
 }
 
@@ -268,7 +270,7 @@ static void legal_actions(void) {
     size_t length = image_of(MOST_WORDS);
     if (!fine) return;
     lundaspro_legal a = lundaspro_legal_actions(words, length, agent);
-    if (begun(a.refusal)) {
+    if (begun(a.refusal, a.word)) {
         put(a.actions);
         for (uint64_t i = 0; i < a.actions; i++) put(i);
     }
@@ -279,7 +281,7 @@ static void length_cell(void) {
     size_t length = image_of(MOST_WORDS);
     if (!fine) return;
     lundaspro_key a = lundaspro_length_cell(words, length);
-    if (begun(a.refusal)) {
+    if (begun(a.refusal, a.word)) {
         put(a.some);
         if (a.some) put(a.key);
     }
@@ -292,7 +294,7 @@ static void truncation(void) {
     size_t length = image_of(MOST_WORDS);
     if (!fine) return;
     lundaspro_marked a = lundaspro_truncation(words, length, agent, event);
-    if (begun(a.refusal)) put_event(a.event);
+    if (begun(a.refusal, a.word)) put_event(a.event);
     ended(true);
 }
 
@@ -306,7 +308,7 @@ static void reward(void) {
     lundaspro_sum a = lundaspro_reward(w, event);
     uint64_t bits;
     memcpy(&bits, &a.sum, 8);
-    if (begun(a.refusal)) put(bits);
+    if (begun(a.refusal, 0)) put(bits);
     ended(true);
 }
 
@@ -316,7 +318,7 @@ static void outcome_of(void) {
     end();
     if (!fine) return;
     lundaspro_number a = lundaspro_outcome_of(count_of, u);
-    if (begun(a.refusal)) put(a.value);
+    if (begun(a.refusal, a.word)) put(a.value);
     ended(true);
 }
 
@@ -325,24 +327,26 @@ static void observation_space(void) {
     end();
     if (!fine) return;
     lundaspro_space a = lundaspro_observation_space(side);
-    if (begun(a.refusal)) put(a.planes), put(a.rows), put(a.cols);
+    if (begun(a.refusal, 0)) put(a.planes), put(a.rows), put(a.cols);
     ended(true);
 }
 
 static void action_space(void) {
     end();
-    if (fine) begun(0), put(lundaspro_action_space().count), ended(true);
+    if (fine) begun(0, 0), put(lundaspro_action_space().count), ended(true);
 }
 
 static void turn(void) {
     uint8_t heading = (uint8_t)up_to(3), action = (uint8_t)up_to(2);
     end();
-    if (fine) begun(0), put(lundaspro_relative_to_absolute(heading, action)), ended(true);
+    if (fine) begun(0, 0), put(lundaspro_relative_to_absolute(heading, action)), ended(true);
 }
 
-static void well_formed(void) {
+static void check_image(void) {
     size_t length = image_of(MOST_WORDS);
-    if (fine) begun(lundaspro_well_formed(words, length) ? 0 : LUNDASPRO_MALFORMED), ended(true);
+    if (!fine) return;
+    lundaspro_checked a = lundaspro_check_image(words, length);
+    begun(a.refusal, a.word), ended(true);
 }
 
 static void write_book(void) {
@@ -352,7 +356,7 @@ static void write_book(void) {
     size_t length = image_of(MOST_BOOK_WORDS);
     if (!fine) return;
     lundaspro_written a = lundaspro_write_book(s, pages, words, length, out, room);
-    if (begun(a.refusal)) put_list(out, a.words);
+    if (begun(a.refusal, a.word)) put_list(out, a.words);
     ended(kept(out, a.words, room));
 }
 
@@ -361,7 +365,7 @@ static void page(void) {
     size_t length = image_of(MOST_BOOK_WORDS);
     if (!fine) return;
     lundaspro_page_answer a = lundaspro_page(words, length, number_of_page);
-    if (begun(a.refusal)) put(a.start), put_list(words + a.start, a.len);
+    if (begun(a.refusal, a.word)) put(a.start), put_list(words + a.start, a.len);
     ended(true);
 }
 
@@ -369,7 +373,7 @@ static const struct {
     char letter;
     void (*call)(void);
 } calls[] = {{'v', validate}, {'i', initial_state}, {'s', step}, {'H', struck}, {'c', count}, {'d', draw}, {'k', rank}, {'o', observe}, {'b', body}, {'t', actor}, {'l', legal_actions},
-    {'z', length_cell}, {'u', truncation}, {'w', reward}, {'n', outcome_of}, {'p', observation_space}, {'q', action_space}, {'h', turn}, {'x', well_formed}, {'B', write_book}, {'P', page}};
+    {'z', length_cell}, {'u', truncation}, {'w', reward}, {'n', outcome_of}, {'p', observation_space}, {'q', action_space}, {'h', turn}, {'x', check_image}, {'B', write_book}, {'P', page}};
 
 /* A line ends at its newline; it may hold any byte, of which 0 is no call's. */
 static void answer(char *line, size_t length) {

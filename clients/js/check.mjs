@@ -14,9 +14,10 @@ function same(a, b) {
     checks++;
     assert.deepEqual(a, b);
 }
-function refused(number, call) {
+function refused(number, call, word = null) {
     checks++;
-    assert.throws(call, (e) => e instanceof Refusal && e instanceof Error && e.number === number && e.message === `refusal ${number}: ${e.sentence}`);
+    const shown = word === null ? '' : `word ${word}: `;
+    assert.throws(call, (e) => e instanceof Refusal && e instanceof Error && e.number === number && e.word === word && e.message === `refusal ${number}: ${shown}${e.sentence}`);
 }
 function wrong(Kind, call) {
     checks++;
@@ -68,6 +69,8 @@ const due = Uint16Array.from(image, (word, i) => (i === 2 ? 1 : word));
     same(start, Uint16Array.of(2, 3, 1, 1, 0, 13, 1, 1, 1, 14, 1, 3, 1, 4, 5));
     same(arena.validate(setting), undefined);
     same([arena.well_formed(start), arena.well_formed(start.subarray(1))], [true, false]);
+    arena.check_image(start);
+    for (let cut = 0; cut < start.length; cut++) refused(cut < 13 ? 50 : 53, () => arena.check_image(start.subarray(0, cut)), cut);
     same([arena.actor(start), arena.actor(image)], ['Chance', 'Simultaneous']);
     same(arena.count(start), 7n);
     const { next, cells } = arena.draw(start, 2);
@@ -114,7 +117,7 @@ const due = Uint16Array.from(image, (word, i) => (i === 2 ? 1 : word));
     refused(22, () => arena.step(setting, due, [0, 0], words));
     refused(22, () => arena.struck(setting, due, [0, 0]));
     refused(21, () => arena.step({ ...setting, grid_size: 4 }, image, [0, 0], words));
-    refused(20, () => arena.step(setting, image.subarray(1), [0, 0], words));
+    refused(50, () => arena.step(setting, image.subarray(1), [0, 0], words), 13);
     refused(2, () => arena.step({ ...setting, initial_length: 0 }, image, [0, 0], words));
     refused(23, () => arena.draw(image, 0, words, list));
     refused(27, () => arena.draw(due, 8, words, list));
@@ -125,8 +128,8 @@ const due = Uint16Array.from(image, (word, i) => (i === 2 ? 1 : word));
     refused(26, () => arena.observe(image, 2, planes));
     refused(26, () => arena.legal_actions(image, 2n));
     refused(26, () => arena.truncation(image, 2, blank));
-    refused(20, () => arena.length_cell(new Uint16Array(0)));
-    refused(20, () => arena.actor(new Uint16Array(0)));
+    refused(50, () => arena.length_cell(new Uint16Array(0)), 0);
+    refused(50, () => arena.actor(new Uint16Array(0)), 0);
     for (const u of [1, -0.5, -Number.MIN_VALUE, Infinity, -Infinity, NaN]) refused(81, () => arena.outcome_of(3, u)), refused(80, () => arena.outcome_of(0, u));
     refused(80, () => arena.outcome_of(2n ** 53n + 1n, 0.5));
     for (const step of [Infinity, -Infinity, NaN]) refused(31, () => arena.reward({ ...zero, step }, blank));
@@ -194,7 +197,7 @@ wrong(TypeError, () => arena.count(new Int16Array(image)));
 {
     const before = exports.memory.buffer.byteLength;
     same(arena.draw(due, 3, new Uint16Array(3000000), new Uint16Array(1000000)).cells, Uint16Array.of(3));
-    refused(20, () => arena.count(new Uint16Array(5000000)));
+    refused(51, () => arena.count(new Uint16Array(5000000)), 0);
     const after = exports.memory.buffer.byteLength;
     same([after > before, after < 12000000], [true, true]);
     const out = new Uint16Array(20);
@@ -213,7 +216,7 @@ wrong(TypeError, () => arena.count(new Int16Array(image)));
     // two arenas of one instance: where one has made the memory grow, the other does not once more
     const { exports: shared } = await instantiate(file);
     const [one, other] = [new Arena(shared), new Arena(shared)];
-    refused(20, () => one.count(new Uint16Array(1000000)));
+    refused(51, () => one.count(new Uint16Array(1000000)), 0);
     const grown = shared.memory.buffer.byteLength;
     same([other.count(due), one.count(due), shared.memory.buffer.byteLength], [8n, 8n, grown]);
 }
@@ -250,7 +253,8 @@ wrong(TypeError, () => arena.count(new Int16Array(image)));
 // ---- a sentence for each number that a call gives (tests/sentences: the header's), and one for no other
 {
     const numbers = Object.keys(SENTENCES).map(Number);
-    same(numbers, [1, 2, 3, 4, 5, 6, 8, 9, 10, 11, 12, ...[...Array(12).keys()].map((i) => i + 20), 33, 40, 41, 42, 80, 81]);
+    const upTo = (from, to) => Array.from({ length: to - from + 1 }, (_, i) => from + i);
+    same(numbers, [upTo(1, 6), upTo(8, 12), upTo(21, 31), 33, upTo(40, 42), upTo(50, 56), upTo(80, 81)].flat());
     for (let i = 0; i < 256; i++) same(new Refusal(i).sentence, SENTENCES[i] ?? 'no number that a call gives');
 }
 
@@ -270,14 +274,14 @@ wrong(TypeError, () => arena.count(new Int16Array(image)));
     refused(29, () => arena.write_book(setting, 2, row, lent.subarray(0, 50)));
     refused(42, () => arena.write_book(setting, BOOK_PAGES + 1, row, lent));
     refused(42, () => arena.write_book(setting, 2n ** 64n - 1n, row));
-    refused(20, () => arena.write_book(setting, BOOK_PAGES, row));
-    refused(20, () => arena.write_book(setting, 1, row, lent));
+    refused(50, () => arena.write_book(setting, BOOK_PAGES, row), 0);
+    refused(53, () => arena.write_book(setting, 1, row, lent), first.length);
     refused(21, () => arena.write_book({ ...setting, grid_size: 4 }, 2, row, lent));
     refused(1, () => arena.write_book({ ...setting, num_snakes: 9 }, 2, row, lent));
     refused(41, () => arena.page(book, 2));
     refused(41, () => arena.page(book, 2n ** 64n - 1n));
     refused(40, () => arena.page(book.subarray(0, 20), 0));
-    refused(20, () => arena.page(book.subarray(0, 50), 1));
+    refused(53, () => arena.page(book.subarray(0, 50), 1), second.length - 1);
     wrong(RangeError, () => arena.page(book, -1));
     wrong(TypeError, () => arena.page([...book], 0));
     wrong(TypeError, () => arena.write_book(setting, 2, [...row]));

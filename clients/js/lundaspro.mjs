@@ -6,7 +6,7 @@
 //     const { next } = arena.draw(arena.initial_state(setting), 2n);
 //     const { terminal, events } = arena.step(setting, next, [0, 0]);
 //
-// A refusal is thrown as a `Refusal`, with number and sentence; what is no value of its type at all, as half a snake or a plain array for an image, as a
+// A refusal is thrown as a `Refusal`, with number, sentence and word; what is no value of its type at all, as half a snake or a plain array for an image, as a
 // TypeError or RangeError before anything is called. Neither writes to an array of the caller.
 //
 // The library's memory is handled here: a call's arguments are laid one behind the other from the heap's start, and the next call begins there again, so
@@ -265,7 +265,7 @@ export class Arena {
 
     // Throws what a call returned, unless it is 0. The table's number is what is below 256.
     #check(returned) {
-        if (returned !== 0n) throw new Refusal(Number(BigInt.asUintN(8, returned)));
+        if (returned !== 0n) throw new Refusal(Number(BigInt.asUintN(8, returned)), Number(returned >> 8n & 0xffffn));
     }
 
     // ---- settings
@@ -291,10 +291,19 @@ export class Arena {
 
     // ---- images
 
-    well_formed(image) {
+    #checked(image) {
         const length = lengthOf(image, Uint16Array, 'image');
         this.#begin();
-        return this.#exports.lundaspro_flat_well_formed(this.#putWords(image), length) === 0n;
+        return this.#exports.lundaspro_flat_check_image(this.#putWords(image), length);
+    }
+
+    // Nothing, or what is wrong with the image: refusals 50 to 56, with the word that shows it.
+    check_image(image) {
+        this.#check(this.#checked(image));
+    }
+
+    well_formed(image) {
+        return this.#checked(image) === 0n;
     }
 
     // The part of the image that is a snake's body, head first: a view of the caller's words. Empty for a malformed image or no such snake.
@@ -309,7 +318,7 @@ export class Arena {
         return image.subarray(start, start + this.#number(part, 1));
     }
 
-    // One move of all snakes: { next, terminal, events }, an event for each snake. Refusals 1 to 12, 20, 21, 22, 24, 25; 29 where `out` is too short.
+    // One move of all snakes: { next, terminal, events }, an event for each snake. Refusals 1 to 12, 50 to 56, 21, 22, 24, 25; 29 where `out` is too short.
     step(setting, image, actions, out) {
         const numbers = settingNumbers(setting);
         const list = actionNumbers(actions);
@@ -328,7 +337,7 @@ export class Arena {
     }
 
     // Who is hit where by that move: for each snake { snake, position } if it dies by its own or another's body, else null; position 0 is the moved head.
-    // Refusals 1 to 12, 20, 21, 22, 24, 25.
+    // Refusals 1 to 12, 50 to 56, 21, 22, 24, 25.
     struck(setting, image, actions) {
         const numbers = settingNumbers(setting);
         const list = Array.from(actions, (action) => unsigned(action, 'action'));
@@ -377,7 +386,7 @@ export class Arena {
         return Array.from({ length: snakes }, (_, i) => this.#number(places, i));
     }
 
-    // Who acts next: 'Chance' or 'Simultaneous'. Refusal 20.
+    // Who acts next: 'Chance' or 'Simultaneous'. Refusals 50 to 56.
     actor(image) {
         const length = lengthOf(image, Uint16Array, 'image');
         this.#begin();
@@ -389,7 +398,7 @@ export class Arena {
 
     // ---- chance
 
-    // How many outcomes the draw has, a BigInt. Refusals 20, 23, 28.
+    // How many outcomes the draw has, a BigInt. Refusals 50 to 56, 23, 28.
     count(image) {
         const length = lengthOf(image, Uint16Array, 'image');
         this.#begin();
@@ -399,7 +408,7 @@ export class Arena {
         return this.#long(value, 0);
     }
 
-    // The outcome of that index: { next, cells }, the cells in the order drawn. Refusals 20, 23, 28, 27; 29 where `out` or `list` is too short.
+    // The outcome of that index: { next, cells }, the cells in the order drawn. Refusals 50 to 56, 23, 28, 27; 29 where `out` or `list` is too short.
     draw(image, index, out, list) {
         const length = lengthOf(image, Uint16Array, 'image');
         const number = unsigned(index, 'index');
@@ -414,7 +423,7 @@ export class Arena {
         return { next: taken(this.#words, o / 2, this.#number(drawn, 0), out), cells: taken(this.#words, l / 2, this.#number(drawn, 1), list) };
     }
 
-    // The index whose draw gives that list, a BigInt. Refusals 20, 23, 28, 30.
+    // The index whose draw gives that list, a BigInt. Refusals 50 to 56, 23, 28, 30.
     rank(image, cells) {
         const length = lengthOf(image, Uint16Array, 'image');
         const count = lengthOf(cells, Uint16Array, 'cells');
@@ -438,7 +447,7 @@ export class Arena {
 
     // ---- books
 
-    // The match book of that many images, which stand in the row one after the other. Refusals 1 to 12, 42, then 20 and 21 page by page; 29 where `out` is too
+    // The match book of that many images, which stand in the row one after the other. Refusals 1 to 12, 42, then 50 to 56 and 21 page by page; 29 where `out` is too
     // short.
     write_book(setting, pages, row, out) {
         const numbers = settingNumbers(setting);
@@ -456,7 +465,7 @@ export class Arena {
         return taken(this.#words, o / 2, this.#number(written, 0), out);
     }
 
-    // The image on a page of a book, from page 0 on: a view of the caller's words. Word 16 of a book says how many pages it has. Refusals 40, 41, 20, 21.
+    // The image on a page of a book, from page 0 on: a view of the caller's words. Word 16 of a book says how many pages it has. Refusals 40, 41, 50 to 56, 21.
     page(book, page) {
         const length = lengthOf(book, Uint16Array, 'book');
         const number = unsigned(page, 'page');
@@ -470,7 +479,7 @@ export class Arena {
 
     // ---- agents
 
-    // What an agent sees: five planes of g*g numbers. Refusals 20, 26; 29 where `out` is too short.
+    // What an agent sees: five planes of g*g numbers. Refusals 50 to 56, 26; 29 where `out` is too short.
     observe(image, agent, out) {
         const length = lengthOf(image, Uint16Array, 'image');
         const number = unsigned(agent, 'agent');
@@ -483,7 +492,7 @@ export class Arena {
         return taken(this.#floats, o / 4, this.#number(written, 0), out);
     }
 
-    // [0, 1, 2], or [] for the dead. Refusals 20, 26.
+    // [0, 1, 2], or [] for the dead. Refusals 50 to 56, 26.
     legal_actions(image, agent) {
         const length = lengthOf(image, Uint16Array, 'image');
         const number = unsigned(agent, 'agent');
@@ -494,7 +503,7 @@ export class Arena {
         return [0, 1, 2].slice(0, this.#number(actions, 0));
     }
 
-    // The sorted lengths' buckets as one key, a BigInt; null where a snake is dead. Refusal 20.
+    // The sorted lengths' buckets as one key, a BigInt; null where a snake is dead. Refusals 50 to 56.
     length_cell(image) {
         const length = lengthOf(image, Uint16Array, 'image');
         this.#begin();
@@ -504,7 +513,7 @@ export class Arena {
         return this.#long(key, 0) !== 0n ? this.#long(key, 1) : null;
     }
 
-    // The event with survived_to_max_ticks set to whether the agent lives. Refusals 20, 26.
+    // The event with survived_to_max_ticks set to whether the agent lives. Refusals 50 to 56, 26.
     truncation(image, agent, event) {
         const bytes = eventBytes(event);
         const length = lengthOf(image, Uint16Array, 'image');

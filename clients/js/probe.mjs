@@ -236,7 +236,7 @@ const calls = {
         return [HEADINGS.indexOf(arena.relative_to_absolute(heading, action))];
     },
     x(f) {
-        if (!arena.well_formed(f.image())) throw new Refusal(20);
+        arena.check_image(f.image());
         return [];
     },
 };
@@ -248,7 +248,7 @@ function said(line) {
     try {
         return ['a', ...calls[letter](f)];
     } catch (error) {
-        if (error instanceof Refusal) return ['r', error.number];
+        if (error instanceof Refusal) return ['r', error.number, ...(error.word === null ? [] : [error.word])];
         throw error;
     }
 }

@@ -13,7 +13,6 @@ export const SENTENCES = Object.freeze({
     10: 'first bad cell: outside',
     11: 'first bad cell: already taken',
     12: 'food above the free cells',
-    20: 'image not well-formed',
     21: 'snakes or grid differ from the setting',
     22: 'food is due at a step',
     23: 'none is due at a draw',
@@ -29,17 +28,26 @@ export const SENTENCES = Object.freeze({
     40: "a book's contents: cut short, off their layout, a refused setting, starts out of line, words left in a book of no pages",
     41: 'no such page',
     42: 'above 65,535 pages',
+    50: 'fewer words than the contents need',
+    51: "a content word out of range, or a living snake's length 0",
+    52: 'a start out of line',
+    53: 'total length wrong',
+    54: 'a cell beyond the grid',
+    55: 'a cell twice in a body',
+    56: 'food not ascending',
     80: 'unit number: count not 1 to 2^53',
     81: 'unit number: not at least 0 and below 1',
 });
 
-// Why a call refused: its number, and what that says.
+// Why a call refused: its number, what that says, and for 50 to 56 the first word of the image, counted from its own start, that shows the fault; `null` else.
 export class Refusal extends Error {
-    constructor(number) {
+    constructor(number, word = 0) {
         const sentence = SENTENCES[number] ?? 'no number that a call gives';
-        super(`refusal ${number}: ${sentence}`);
+        const isFault = number >= 50 && number <= 56;
+        super(isFault ? `refusal ${number}: word ${word}: ${sentence}` : `refusal ${number}: ${sentence}`);
         this.name = 'Refusal';
         this.number = number;
         this.sentence = sentence;
+        this.word = isFault ? word : null;
     }
 }

@@ -5,7 +5,7 @@
 // and the array and the place in it where its written elements are counted; `both` are arrays that are read too, and so not filled. The events of a step are
 // blank from the number of actions on.
 const LENT = {
-    well_formed: { arrays: [], buffers: [] },
+    check_image: { arrays: [], buffers: [] },
     body: { arrays: [[3, 16]], buffers: [] },
     validate: { arrays: [], buffers: [] },
     initial_state: { arrays: [[3, 8]], buffers: [[1, 2, 2, 3, 0]] },

@@ -8,11 +8,19 @@ pub const fn book_words(pages: usize, images: usize) -> usize {
 }
 
 impl Setting {
-    /// The book of these images, a page each. Refusals 1 to 12, 42, 20, 21.
+    /// The book of these images, a page each. Refusals 1 to 12, 42, 50 to 56, 21.
     pub fn write_book(&self, images: &[Image]) -> Result<Book, Refusal> {
-        // A row that ends before a malformed image is refused where that image is.
-        let formed = images.iter().take_while(|image| image.is_well_formed());
-        let row: Vec<u16> = formed.flat_map(|image| image.words()).copied().collect();
+        // A malformed image's words say nothing of where the next one stands: what comes before it, and then what is wrong with it.
+        let malformed = images.iter().position(|image| !image.is_well_formed());
+        if let Some(i) = malformed.filter(|_| images.len() <= 65_535) {
+            self.write_book(&images[..i])?;
+            images[i].check()?;
+        }
+        let row: Vec<u16> = images
+            .iter()
+            .flat_map(|image| image.words())
+            .copied()
+            .collect();
         let mut words = vec![0; book_words(images.len(), row.len())];
         lend::write_book(self, images.len() as u64, &row, &mut words)?;
         Ok(Book(words))
@@ -67,7 +75,7 @@ impl Book {
         self.len() == 0
     }
 
-    /// The image on a page, from page 0 on. Refusals 41, 20, 21.
+    /// The image on a page, from page 0 on. Refusals 41, 50 to 56, 21.
     pub fn page(&self, page: u64) -> Result<&[u16], Refusal> {
         lend::page(&self.0, page)
     }

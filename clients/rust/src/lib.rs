@@ -19,6 +19,7 @@
 mod action;
 mod board;
 mod book;
+mod fault;
 mod game;
 pub mod lend;
 mod letters;
@@ -26,6 +27,7 @@ mod raw;
 mod refusal;
 
 pub use book::{book_words, Book, Pages};
+pub use fault::{Fault, FaultKind};
 pub use game::{Ending, Match};
 pub use refusal::Refusal;
 
@@ -190,10 +192,11 @@ pub enum Actor {
 pub struct Image(Vec<u16>);
 
 impl Image {
-    /// A well-formed image, or refusal 20.
+    /// A well-formed image, or what is wrong with it: refusals 50 to 56.
     pub fn checked(words: Vec<u16>) -> Result<Image, Refusal> {
-        Refusal::check(unsafe { raw::lundaspro_flat_well_formed(words.as_ptr(), words.len()) })?;
-        Ok(Image(words))
+        let image = Image(words);
+        image.check()?;
+        Ok(image)
     }
 
     /// Any words.
@@ -215,8 +218,16 @@ impl Image {
         self.0
     }
 
+    /// What is wrong with the words: refusals 50 to 56.
+    pub fn check(&self) -> Result<(), Refusal> {
+        Refusal::check_in(
+            unsafe { raw::lundaspro_flat_check_image(self.0.as_ptr(), self.0.len()) },
+            &self.0,
+        )
+    }
+
     pub fn is_well_formed(&self) -> bool {
-        unsafe { raw::lundaspro_flat_well_formed(self.0.as_ptr(), self.0.len()) == 0 }
+        self.check().is_ok()
     }
 
     /// A snake's body, head first; nothing for a malformed image or no such snake.
@@ -227,7 +238,7 @@ impl Image {
         &self.0[start..start + len]
     }
 
-    /// An action for each snake, dead ones included: a dead snake's may be any. Refusals 1 to 12, 20, 21, 22, 24.
+    /// An action for each snake, dead ones included: a dead snake's may be any. Refusals 1 to 12, 50 to 56, 21, 22, 24.
     pub fn step(&self, setting: &Setting, actions: &[Action]) -> Result<Step, Refusal> {
         let numbers: Vec<u64> = actions.iter().map(|action| action.number()).collect();
         let mut words = vec![0; IMAGE_WORDS];
@@ -239,7 +250,7 @@ impl Image {
         })
     }
 
-    /// For each snake, whom it hits by that move and where, if it dies by its own or another's body. Refusals 1 to 12, 20, 21, 22, 24.
+    /// For each snake, whom it hits by that move and where, if it dies by its own or another's body. Refusals 1 to 12, 50 to 56, 21, 22, 24.
     pub fn struck(
         &self,
         setting: &Setting,
@@ -250,12 +261,12 @@ impl Image {
         Ok(hits[..actions.len()].to_vec())
     }
 
-    /// Refusals 20, 23, 28.
+    /// Refusals 50 to 56, 23, 28.
     pub fn count(&self) -> Result<u64, Refusal> {
         lend::count(&self.0)
     }
 
-    /// Refusals 20, 23, 28, 27.
+    /// Refusals 50 to 56, 23, 28, 27.
     pub fn draw(&self, index: u64) -> Result<Draw, Refusal> {
         let mut words = vec![0; IMAGE_WORDS];
         let mut list = [0; LIST_WORDS];
@@ -266,12 +277,12 @@ impl Image {
         })
     }
 
-    /// The index whose draw gives that list. Refusals 20, 23, 28, 30.
+    /// The index whose draw gives that list. Refusals 50 to 56, 23, 28, 30.
     pub fn rank(&self, list: &[u16]) -> Result<u64, Refusal> {
         lend::rank(&self.0, list)
     }
 
-    /// Five planes of g² numbers. Refusals 20, 26.
+    /// Five planes of g² numbers. Refusals 50 to 56, 26.
     pub fn observe(&self, agent: u64) -> Result<Vec<f32>, Refusal> {
         let mut obs = vec![0.0; PLANE_NUMBERS];
         let count = lend::observe(&self.0, agent, &mut obs)?;
@@ -279,21 +290,21 @@ impl Image {
         Ok(obs)
     }
 
-    /// `None` where a snake is dead. Refusal 20.
+    /// `None` where a snake is dead. Refusals 50 to 56.
     pub fn length_cell(&self) -> Result<Option<u64>, Refusal> {
         let mut key = [0; 2];
-        Refusal::check(unsafe {
-            raw::lundaspro_flat_length_cell(self.0.as_ptr(), self.0.len(), &mut key)
-        })?;
+        let returned =
+            unsafe { raw::lundaspro_flat_length_cell(self.0.as_ptr(), self.0.len(), &mut key) };
+        Refusal::check_in(returned, &self.0)?;
         Ok((key[0] != 0).then_some(key[1]))
     }
 
-    /// Refusal 20.
+    /// Refusals 50 to 56.
     pub fn actor(&self) -> Result<Actor, Refusal> {
         let mut chance = [0];
-        Refusal::check(unsafe {
-            raw::lundaspro_flat_actor(self.0.as_ptr(), self.0.len(), &mut chance)
-        })?;
+        let returned =
+            unsafe { raw::lundaspro_flat_actor(self.0.as_ptr(), self.0.len(), &mut chance) };
+        Refusal::check_in(returned, &self.0)?;
         Ok(if chance[0] != 0 {
             Actor::Chance
         } else {
@@ -301,19 +312,20 @@ impl Image {
         })
     }
 
-    /// All three actions, or none. Refusals 20, 26.
+    /// All three actions, or none. Refusals 50 to 56, 26.
     pub fn legal_actions(&self, agent: u64) -> Result<&'static [Action], Refusal> {
         let mut actions = [0];
-        Refusal::check(unsafe {
+        let returned = unsafe {
             raw::lundaspro_flat_legal_actions(self.0.as_ptr(), self.0.len(), agent, &mut actions)
-        })?;
+        };
+        Refusal::check_in(returned, &self.0)?;
         Ok(&Action::ALL[..actions[0] as usize])
     }
 
-    /// The event with `survived_to_max_ticks` set to whether the agent lives. Refusals 20, 26.
+    /// The event with `survived_to_max_ticks` set to whether the agent lives. Refusals 50 to 56, 26.
     pub fn truncation(&self, agent: u64, event: Event) -> Result<Event, Refusal> {
         let mut marked = [0; 8];
-        Refusal::check(unsafe {
+        let returned = unsafe {
             raw::lundaspro_flat_truncation(
                 self.0.as_ptr(),
                 self.0.len(),
@@ -321,7 +333,8 @@ impl Image {
                 &event.bytes(),
                 &mut marked,
             )
-        })?;
+        };
+        Refusal::check_in(returned, &self.0)?;
         Ok(Event::from_bytes(marked))
     }
 }

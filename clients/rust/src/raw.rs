@@ -11,7 +11,7 @@ pub type Event = [u8; 8];
 pub type Match = [u64; 19];
 
 extern "C" {
-    pub fn lundaspro_flat_well_formed(image: *const u16, image_len: usize) -> u64;
+    pub fn lundaspro_flat_check_image(image: *const u16, image_len: usize) -> u64;
     pub fn lundaspro_flat_body(
         image: *const u16,
         image_len: usize,

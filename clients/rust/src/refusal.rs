@@ -2,6 +2,8 @@
 use std::error::Error;
 use std::fmt;
 
+use crate::fault::Fault;
+
 macro_rules! refusals {
     ($($number:literal $name:ident $sentence:literal)*) => {
         /// Why a call refused. The names are those of `clients/c/lundaspro.h`.
@@ -9,6 +11,8 @@ macro_rules! refusals {
         #[non_exhaustive]
         pub enum Refusal {
             $(#[doc = $sentence] $name,)*
+            /// What is wrong with an image, and where.
+            Fault(Fault),
             /// A number that this crate has no name for: the archive is of another state.
             Unnamed(u8),
         }
@@ -17,12 +21,12 @@ macro_rules! refusals {
             /// All that have a name, by their numbers.
             pub const ALL: &'static [Refusal] = &[$(Refusal::$name),*];
 
-            /// The refusal of a number; `None` for 0.
+            /// The refusal of a number, a fault's at word 0; `None` for 0.
             pub fn from_number(number: u8) -> Option<Refusal> {
                 match number {
                     0 => None,
                     $($number => Some(Refusal::$name),)*
-                    other => Some(Refusal::Unnamed(other)),
+                    other => Some(Fault::new(other, 0).map_or(Refusal::Unnamed(other), Refusal::Fault)),
                 }
             }
 
@@ -30,6 +34,7 @@ macro_rules! refusals {
             pub fn number(self) -> u8 {
                 match self {
                     $(Refusal::$name => $number,)*
+                    Refusal::Fault(fault) => fault.kind.number(),
                     Refusal::Unnamed(number) => number,
                 }
             }
@@ -38,6 +43,7 @@ macro_rules! refusals {
             pub fn sentence(self) -> &'static str {
                 match self {
                     $(Refusal::$name => $sentence,)*
+                    Refusal::Fault(fault) => fault.kind.sentence(),
                     Refusal::Unnamed(_) => "no number that a call gives",
                 }
             }
@@ -58,7 +64,6 @@ refusals! {
     10 CellOutside "first bad cell: outside"
     11 CellTaken "first bad cell: already taken"
     12 FoodFree "food above the free cells"
-    20 Malformed "image not well-formed"
     21 OtherSetting "snakes or grid differ from the setting"
     22 FoodDue "food is due at a step"
     23 NoneDue "none is due at a draw"
@@ -79,15 +84,41 @@ refusals! {
 }
 
 impl Refusal {
-    /// `Ok` where a call returned 0; the table's number is what is below 256.
+    /// The word of an image, counted from its start, that shows a fault; `None` for every other refusal.
+    pub fn word(self) -> Option<u16> {
+        match self {
+            Refusal::Fault(fault) => Some(fault.word),
+            _ => None,
+        }
+    }
+
+    /// `Ok` where a call returned 0; the table's number is what is below 256, a fault's word what is above.
     pub(crate) fn check(returned: u64) -> Result<(), Refusal> {
-        Refusal::from_number((returned % 256) as u8).map_or(Ok(()), Err)
+        if returned == 0 {
+            return Ok(());
+        }
+        let number = (returned % 256) as u8;
+        Err(match Fault::new(number, (returned / 256) as u16) {
+            Some(fault) => Refusal::Fault(fault),
+            None => Refusal::from_number(number).unwrap_or(Refusal::Unnamed(0)),
+        })
+    }
+
+    /// The same of a call on these words, so that a fault tells what stands there.
+    pub(crate) fn check_in(returned: u64, image: &[u16]) -> Result<(), Refusal> {
+        Refusal::check(returned).map_err(|refusal| match refusal {
+            Refusal::Fault(fault) => Refusal::Fault(fault.found_in(image)),
+            other => other,
+        })
     }
 }
 
 impl fmt::Display for Refusal {
     fn fmt(&self, f: &mut fmt::Formatter<'_>) -> fmt::Result {
-        write!(f, "refusal {}: {}", self.number(), self.sentence())
+        match self {
+            Refusal::Fault(fault) => write!(f, "refusal {}: {fault}", self.number()),
+            _ => write!(f, "refusal {}: {}", self.number(), self.sentence()),
+        }
     }
 }
 

@@ -17,6 +17,6 @@ macro_rules! tests {
 
 tests! {
     sample_match settings draws longest_list turned_picture facing_neighbours length_cells refused_images refused_steps refused_draws short_buffers
-    rewards unit_numbers turns events_as_bytes spaces books refused_books lent_books sentences boards what_an_image_shows events_as_letters actions_by_number
+    rewards unit_numbers turns events_as_bytes spaces books refused_books lent_books sentences faults boards what_an_image_shows events_as_letters actions_by_number
     settings_as_keys match_by_the_lead match_at_max_ticks any_match
 }

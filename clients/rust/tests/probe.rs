@@ -371,7 +371,12 @@ fn call(line: &str) -> Option<Answer> {
 fn answer(line: &str) -> String {
     let (mut text, kept) = match call(line) {
         None => ("e".to_string(), true),
-        Some(Err((refusal, kept))) => (format!("r {}", refusal.number()), kept),
+        Some(Err((refusal, kept))) => {
+            let word = refusal
+                .word()
+                .map_or(String::new(), |word| format!(" {word}"));
+            (format!("r {}{word}", refusal.number()), kept)
+        }
         Some(Ok((numbers, kept))) => (
             numbers
                 .iter()

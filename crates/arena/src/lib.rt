@@ -9,6 +9,7 @@ pub use chance::count;
 pub use chance::draw;
 pub use chance::rank;
 pub use image::body;
+pub use image::check_image;
 pub use image::well_formed;
 pub use rules::Actor;
 pub use rules::Answer;

@@ -11,13 +11,13 @@ use lib.ListN.{length, replicate}
 use Rattle.lists.specs.Choice.{bit}
 use Rattle.rules.specs.Headings.{numberOf, turned}
 use Rattle.rules.specs.Events.{blank, eight}
-use Rattle.rules.specs.Image.{imageOf, wellFormed}
+use Rattle.rules.specs.Image.{imageOf}
 use Rattle.rules.specs.Step.{Transition}
 use Rattle.rules.specs.Struck.{noHit}
 use Rattle.rules.specs.View.{lit}
 use Rattle.rules.specs.Says.{Says, refuses, gives, says, saysVerdict, saysNumber, saysKey, saysActor, saysLegal, saysMark, saysSum, saysSpace, seen, beside, lent, Shape}
-use Rattle.rules.specs.Calls.{settingSays, initialSays, stepSays, struckSays, observeSays, Draw, drawSays, actorSays, legalSays, keySays, truncationSays, rewardSays, spaceSays, actionSays}
-use Rattle.rules.specs.Promises.{Turns, Checks, Validates, Starts, Steps, Strikes, Observes, Draws, ActsNext, Allows, Keys, Truncates, Rewards, ObservationSpace, ActionSpace}
+use Rattle.rules.specs.Calls.{settingSays, imageSays, initialSays, stepSays, struckSays, observeSays, Draw, drawSays, actorSays, legalSays, keySays, truncationSays, rewardSays, spaceSays, actionSays}
+use Rattle.rules.specs.Promises.{Turns, Examines, Validates, Starts, Steps, Strikes, Observes, Draws, ActsNext, Allows, Keys, Truncates, Rewards, ObservationSpace, ActionSpace}
 use Rattle.rules.specs.declared.Heading.{Heading}
 use Rattle.rules.specs.declared.RelativeAction.{RelativeAction}
 use Rattle.rules.specs.declared.Refusal.{Refusal}
@@ -52,7 +52,7 @@ use Rattle.contents.specs.declared.PageFound.the-variants.{Part, Refused as Ref
 use Rattle.book.specs.Calls.{writeSays, pageSays}
 use Rattle.book.specs.Promises.{Pages, Writes as Binds}
 use Rattle.flat.specs.Flat.{refusalNumber, eventBytes, eventsBytes, hitsWords}
-use Rattle.bindings.specs.Exports.{refusalOf, formedNumber, told, one, bitNumber, whole, keyNumbers, actionNumbers, shapeNumbers, shapeBounds, spanNumbers, Tells, Writes, FlatSpace, FlatSteps, FlatDraws}
+use Rattle.bindings.specs.Exports.{refusalOf, told, one, bitNumber, whole, keyNumbers, actionNumbers, shapeNumbers, shapeBounds, spanNumbers, Tells, Writes, FlatSpace, FlatSteps, FlatDraws}
 
 abbrev Apart : Type 0
 Apart = _≡_ {A = ℕ} 0 1
@@ -136,12 +136,12 @@ module _ (w w′ : Weights) (e e′ : Event) (a : Reward) (q : Rewards w e a) (p
 
 -- ---- no lent array
 
-module _ (w : List ℕ) (b : Bool) (q : Checks w b) where
-  pub formed-told : b ≡ true → 0 ≡ formedNumber (wellFormed w)
-  formed-told e = ap formedNumber (sym e ∙ q .answer)
+module _ (w : List ℕ) (a : Verdict) (q : Examines w a) where
+  pub image-accepted : a ≡ Accepted → 0 ≡ refusalOf (imageSays w)
+  image-accepted e = ap refusalOf (ap saysVerdict (sym e) ∙ q .answer)
 
-  pub malformed-told : b ≡ false → 20 ≡ formedNumber (wellFormed w)
-  malformed-told e = ap formedNumber (sym e ∙ q .answer)
+  pub image-refused : (k : Refusal) → a ≡ RefusedVerdict k → (r : ℕ) → r ≡ refusalNumber k → r ≡ refusalOf (imageSays w)
+  image-refused k e r n = n ∙ ap refusalOf (ap saysVerdict (sym e) ∙ q .answer)
 
 module _ (s s′ : Setting) (a : Verdict) (q : Validates s a) (p : s ≡ s′) where
   pub setting-accepted : a ≡ Accepted → 0 ≡ refusalOf (settingSays s′)

@@ -11,7 +11,6 @@ use Rattle.lists.specs.Choice.{bit}
 use Rattle.rules.specs.Events.{eight}
 use Rattle.rules.specs.Image.{imageOf}
 use Rattle.rules.specs.Step.{Transition}
-use Rattle.rules.specs.Tables.{by}
 use Rattle.rules.specs.View.{lit}
 use Rattle.rules.specs.Says.{Says, refuses, gives, lent, Shape, box, discrete}
 use Rattle.rules.specs.Calls.{Draw, bodyAsked}
@@ -28,11 +27,6 @@ module _ {A : Type 0} where
   abbrev pub refusalOf : Says A → ℕ
   refusalOf (refuses k) = refusalNumber k
   refusalOf (gives a) = 0
-
--- the check of an image, as every call that takes one refuses it
-abbrev pub formedNumber : Bool → ℕ
-formedNumber true = 0
-formedNumber false = refusalNumber (by 20)
 
 module _ {A B : Type 0} where
   -- a lent array afterwards: 'A refusal .. leaves all lent words untouched', an answer is the whole array

@@ -8,7 +8,7 @@ ghost use Rattle.book.specs.Calls.{writeSays, pageSays};
 ghost use Rattle.flat.specs.Flat.{settingIn};
 ghost use Rattle.bindings.specs.Exports.{whole, spanNumbers, Tells, Writes};
 
-// How many words. Refusals 1 to 12, 42, then 20 and 21 page by page, 29.
+// How many words. Refusals 1 to 12, 42, then 50 to 56 and 21 page by page, 29.
 #[no_mangle]
 pub extern "C" fn lundaspro_flat_write_book(
     setting: &[u64; 9],
@@ -24,7 +24,7 @@ pub extern "C" fn lundaspro_flat_write_book(
     tell_words(a, written)
 }
 
-// Where the page lies in the book, a start and a length. Refusals 40, 41, 20, 21.
+// Where the page lies in the book, a start and a length. Refusals 40, 41, 50 to 56, 21.
 #[no_mangle]
 pub extern "C" fn lundaspro_flat_page(book: &[u16], page: u64, part: &mut [u64; 2]) -> u64
     ensures { λ r. ⌜ Tells spanNumbers (pageSays (now (book .entry)) page) (now (part .entry)) (now (part .exit)) r ⌝ }

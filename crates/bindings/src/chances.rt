@@ -7,7 +7,7 @@ ghost use Rattle.rules.specs.Calls.{countSays, drawSays, rankSays};
 ghost use Rattle.unit.specs.Calls.{outcomeSays};
 ghost use Rattle.bindings.specs.Exports.{one, Tells, FlatDraws};
 
-// How many outcomes. Refusals 20, 23, 28.
+// How many outcomes. Refusals 50 to 56, 23, 28.
 #[no_mangle]
 pub extern "C" fn lundaspro_flat_count(image: &[u16], value: &mut [u64; 1]) -> u64
     ensures { λ r. ⌜ Tells one (countSays (now (image .entry))) (now (value .entry)) (now (value .exit)) r ⌝ }
@@ -16,7 +16,7 @@ pub extern "C" fn lundaspro_flat_count(image: &[u16], value: &mut [u64; 1]) -> u
     tell_number(a, value)
 }
 
-// The words of the image, the cells of the list. Refusals 20, 23, 28, 27, 29.
+// The words of the image, the cells of the list. Refusals 50 to 56, 23, 28, 27, 29.
 #[no_mangle]
 pub extern "C" fn lundaspro_flat_draw(
     image: &[u16],
@@ -38,7 +38,7 @@ pub extern "C" fn lundaspro_flat_draw(
     }
 }
 
-// The index. Refusals 20, 23, 28, 30.
+// The index. Refusals 50 to 56, 23, 28, 30.
 #[no_mangle]
 pub extern "C" fn lundaspro_flat_rank(image: &[u16], list: &[u16], index: &mut [u64; 1]) -> u64
     ensures { λ r. ⌜ Tells one (rankSays (now (image .entry)) (now (list .entry))) (now (index .entry)) (now (index .exit)) r ⌝ }

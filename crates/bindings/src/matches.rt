@@ -12,17 +12,21 @@ use rules::Verdict;
 ghost use mathlib.Core.Path.{_≡_};
 ghost use lib.ListN.{length};
 ghost use Rattle.rules.specs.Facts.{Sound};
-ghost use Rattle.rules.specs.Image.{wellFormed, imageOf};
-ghost use Rattle.rules.specs.Calls.{settingSays, initialSays, stepSays, struckSays};
+ghost use Rattle.rules.specs.Image.{imageOf};
+ghost use Rattle.rules.specs.Calls.{settingSays, imageSays, initialSays, stepSays, struckSays};
 ghost use Rattle.flat.specs.Flat.{settingIn, hitsWords};
-ghost use Rattle.bindings.specs.Exports.{refusalOf, formedNumber, FlatBody, Tells, Writes, FlatSteps};
+ghost use Rattle.bindings.specs.Exports.{refusalOf, FlatBody, Tells, Writes, FlatSteps};
 
-// 0, or 20 for a malformed image.
+// Refusals 50 to 56.
 #[no_mangle]
-pub extern "C" fn lundaspro_flat_well_formed(image: &[u16]) -> u64
-    ensures { λ r. ⌜ r ≡ formedNumber (wellFormed (now (image .entry))) ⌝ }
+pub extern "C" fn lundaspro_flat_check_image(image: &[u16]) -> u64
+    ensures { λ r. ⌜ r ≡ refusalOf (imageSays (now (image .entry))) ⌝ }
 {
-    if arena::well_formed(image) { 0 } else { 20 }
+    let a = arena::check_image(image);
+    match a {
+        Verdict::Accepted => 0,
+        Verdict::Refused(r) => refusal_number(r),
+    }
 }
 
 // Where the body lies, a start and a length; 0 and 0 for a malformed image or no such snake. Never refused.
@@ -79,7 +83,7 @@ pub extern "C" fn lundaspro_flat_initial_state(
     tell_words(a, written)
 }
 
-// The eight events; how many words, and whether the match is over. Refusals 1 to 12, 20, 21, 22, 24, 25, 29.
+// The eight events; how many words, and whether the match is over. Refusals 1 to 12, 50 to 56, 21, 22, 24, 25, 29.
 #[no_mangle]
 pub extern "C" fn lundaspro_flat_step(
     setting: &[u64; 9],
@@ -105,7 +109,7 @@ pub extern "C" fn lundaspro_flat_step(
     }
 }
 
-// Whom each snake hits and at which position of its moved body, 8 and 0 for nobody. Refusals 1 to 12, 20, 21, 22, 24, 25.
+// Whom each snake hits and at which position of its moved body, 8 and 0 for nobody. Refusals 1 to 12, 50 to 56, 21, 22, 24, 25.
 #[no_mangle]
 pub extern "C" fn lundaspro_flat_struck(
     setting: &[u64; 9],

@@ -20,7 +20,7 @@ ghost use Rattle.rules.specs.Calls.{observeSays, actorSays, legalSays, keySays,
 ghost use Rattle.flat.specs.Flat.{gridIn, weightsIn, eventIn, eventBytes};
 ghost use Rattle.bindings.specs.Exports.{one, whole, bitNumber, keyNumbers, actionNumbers, Tells, Writes, FlatSpace};
 
-// How many numbers. Refusals 20, 26, 29.
+// How many numbers. Refusals 50 to 56, 26, 29.
 #[no_mangle]
 pub extern "C" fn lundaspro_flat_observe(
     image: &[u16],
@@ -81,7 +81,7 @@ pub extern "C" fn lundaspro_flat_action_space(sizes: &mut [u64; 5], bounds: &mut
     tell_space(a, sizes, bounds)
 }
 
-// Whether there is a key, and the key. Refusal 20.
+// Whether there is a key, and the key. Refusals 50 to 56.
 #[no_mangle]
 pub extern "C" fn lundaspro_flat_length_cell(image: &[u16], key: &mut [u64; 2]) -> u64
     ensures { λ r. ⌜ Tells keyNumbers (keySays (now (image .entry))) (now (key .entry)) (now (key .exit)) r ⌝ }
@@ -100,7 +100,7 @@ pub extern "C" fn lundaspro_flat_length_cell(image: &[u16], key: &mut [u64; 2]) 
     }
 }
 
-// 1 where chance acts. Refusal 20.
+// 1 where chance acts. Refusals 50 to 56.
 #[no_mangle]
 pub extern "C" fn lundaspro_flat_actor(image: &[u16], chance: &mut [u64; 1]) -> u64
     ensures { λ r. ⌜ Tells bitNumber (actorSays (now (image .entry))) (now (chance .entry)) (now (chance .exit)) r ⌝ }
@@ -119,7 +119,7 @@ pub extern "C" fn lundaspro_flat_actor(image: &[u16], chance: &mut [u64; 1]) -> 
     }
 }
 
-// How many actions, from 0 on. Refusals 20, 26.
+// How many actions, from 0 on. Refusals 50 to 56, 26.
 #[no_mangle]
 pub extern "C" fn lundaspro_flat_legal_actions(
     image: &[u16],
@@ -142,7 +142,7 @@ pub extern "C" fn lundaspro_flat_legal_actions(
     }
 }
 
-// The marked event. Refusals 20, 26.
+// The marked event. Refusals 50 to 56, 26.
 #[no_mangle]
 pub extern "C" fn lundaspro_flat_truncation(
     image: &[u16],

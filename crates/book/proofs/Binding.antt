@@ -1,26 +1,29 @@
 -- Pages that make a book: its contents are accepted, each page is read again, and writing them gives it. Assumes nothing.
 use Prim.Native.Nat.{ℕ, zero, suc, _+_, _*_, _-_, _<_, _≤_}
+use native.Mathlib.Nat.{min-eq-left}
 use native.Mathlib.Omega.{arith}
 use mathlib.Core.Path.{_≡_, refl, sym, ap, ap₂, _∙_}
-use mathlib.Core.Bool.{Bool, true, false, not, false≢true}
+use mathlib.Core.Bool.{Bool, true, false, not}
 use mathlib.Core.List.{List, [], _∷_, _++_, append-nil}
+use lib.Dec.{ltb}
 use lib.ListN.{length, take, drop, length-append, take-append-drop, List·getD-append}
 use lib.Seq.{take-append-seam, length-take-le}
 use borrow.Author.Tests.{le-ltb, le-leb}
-use Rattle.lists.specs.Choice.{_if_else_}
 use Rattle.lists.specs.Below.{sumBelow, concatBelow}
 use Rattle.lists.specs.Lists.{all}
-use Rattle.rules.specs.Tables.{Table, fault, noneHold}
+use Rattle.rules.specs.Tables.{Table, noneHold, by}
 use Rattle.lists.proofs.Below.{sum-ext, concat-mono, concat-ext}
 use Rattle.lists.proofs.Concat.{block-drop, behind}
 use Rattle.lists.proofs.Lists.{all-append}
-use Rattle.lists.proofs.Tests.{and-left, and-right}
+use Rattle.lists.proofs.Tests.{both}
 use Rattle.rules.specs.Facts.{Sound}
 use Rattle.rules.specs.Image.{word, front as imageFront, snakesIn, lengthAt, longEnough, wellFormed}
 use Rattle.rules.specs.Says.{gives}
 use Rattle.rules.specs.declared.Setting.{Setting}
 use Rattle.rules.proofs.Facts.{sound}
-use Rattle.rules.proofs.Tables.{table-given}
+use Rattle.rules.proofs.Tables.{fault-none, table-gives, table-given}
+use Rattle.rules.proofs.Faults.{none-after}
+use Rattle.rules.specs.Setting.{settingOrder, settingCheck}
 use Rattle.rules.specs.declared.Refusal.{Refusal}
 use Rattle.contents.specs.Settings.{pairWords, settingWords}
 use Rattle.contents.specs.Contents.{front, startOf, startsOf, contentsOf, pagesIn, startIn}
@@ -30,13 +33,13 @@ use Rattle.book.specs.Rows.{toldLength, rowStart, rowPage}
 use Rattle.contents.specs.Accepted.{Accepted}
 use Rattle.book.specs.Bindable.{Bindable}
 use Rattle.book.specs.Calls.{pageSays, writeSays}
-use Rattle.book.specs.Writing.{Asked, RowFits}
+use Rattle.book.specs.Writing.{AskedNone, RowFits}
 use Rattle.contents.proofs.Finding.{accepted}
 use Rattle.book.proofs.Paging.{past-41}
 use Rattle.contents.proofs.Clear.{clear}
 use Rattle.book.proofs.Bound.{bound-pages, bound-one, bound-last, bound-lead, bound-ticks, bound-setting, bound-start, start-step, bound-long, bound-end, bound-page}
-use Rattle.book.proofs.Booked.{asked-parts, asked-accepted, asked-few, asked-none, asked-fits, write-says}
-use Rattle.book.proofs.RowLaws.{told-by, blocks-then, rows, rows-numbered, row-formed, row-same}
+use Rattle.book.proofs.Booked.{asked-accepted, asked-few, asked-none, asked-fits, write-says}
+use Rattle.book.proofs.RowLaws.{halves, told-by, blocks-none, rows, row-formed, row-same}
 
 -- page 0 starts right after the contents
 start-zero : (p : ℕ) (f : ℕ → List ℕ) → startOf p f 0 ≡ front p
@@ -86,15 +89,15 @@ module _ (s : Setting) (p : ℕ) (f : ℕ → List ℕ) (ok : Bindable s p f) wh
 
   -- ---- each page is read again
 
-  page-passes : (i : ℕ) → i < p → fault (pageRows s (f i)) ≡ 0
-  unfolding fault
-  page-passes i h = rw (ok .formed i h, ok .same i h)
+  page-passes : (i : ℕ) → i < p → noneHold (pageRows s (f i)) ≡ true
+  unfolding all
+  page-passes i h = none-after (f i) _ (ok .formed i h) (rw (ok .same i h))
 
   pub bound-reads : (i : ℕ) → i < p → pageSays book i ≡ gives (record { start = startOf p f i; len = length (f i) })
   bound-reads i h =
       let n : startOf p f (1 + i) - startOf p f i ≡ length (f i) = omega (arith, start-step s p f i) in
       past-41 book i bound-opens (rw (bound-pages s p f) h)
-      ∙ rw (bound-setting s p f (ok .accepted), bound-page s p f i h, page-passes i h, bound-end s p f i h, bound-start s p f i h, n)
+      ∙ rw (bound-setting s p f (ok .accepted), bound-page s p f i h, bound-end s p f i h, bound-start s p f i h, n) (table-gives (pageRows s (f i)) _ (page-passes i h))
 
 -- ---- the image at a place
 
@@ -120,7 +123,7 @@ module _ (w r : List ℕ) (e : wellFormed w ≡ true) where
   pub told-front : toldLength (w ++ r) ≡ length w
   told-front =
       told-by (w ++ r) true longer
-      ∙ rw (snakes-same, lengths-same, word-same 4 (omega (arith, image .five))) (image .total)
+      ∙ rw (snakes-same, lengths-same, word-same 4 (omega (arith, image .five)), image .total) (min-eq-left (omega (arith, length-append w r)))
 
 -- so at most one part there is well-formed, and it is as long as its contents tell
 pub one-image : (w : List ℕ) (k : ℕ) → k ≤ length w → wellFormed (take k w) ≡ true → k ≡ toldLength w
@@ -168,6 +171,10 @@ module _ (s : Setting) (p : ℕ) (f g : ℕ → List ℕ) (e : (i : ℕ) → i <
 
 -- ---- what writing says of pages that make a book
 
+-- two tables none of whose rows hold
+join : (t u : Table) → noneHold t ≡ true → noneHold u ≡ true → noneHold (t ++ u) ≡ true
+join t u a b = all-append (λ (e : Refusal × Bool). not (e .1)) t u ∙ both a b
+
 module _ (s : Setting) (p : ℕ) (f : ℕ → List ℕ) (ok : Bindable s p f) where
   abbrev line : List ℕ
   line = concatBelow p f
@@ -175,40 +182,32 @@ module _ (s : Setting) (p : ℕ) (f : ℕ → List ℕ) (ok : Bindable s p f) wh
   line-pages : (i : ℕ) → i < p → rowPage line i ≡ f i
   line-pages = row-page p f (ok .formed)
 
-  line-none : fault (rowOrder s p line) ≡ 0
-  unfolding rowOrder fault
+  line-none : noneHold (rowOrder s p line) ≡ true
+  unfolding rowOrder all
   line-none =
-      blocks-then (rows s line) (rows-numbered s line) p (λ j h. rw (line-pages j h) (page-passes s p f ok j h)) _
-      ∙ rw (le-ltb (rowStart line p) (length line) (omega (arith, row-start p f (ok .formed) p (omega arith))))
+      join (concatBelow p (rows s line)) _
+      (blocks-none (rows s line) p (λ j h. rw (line-pages j h) (page-passes s p f ok j h)))
+      (rw (le-ltb (rowStart line p) (length line) (omega (arith, row-start p f (ok .formed) p (omega arith)))))
 
-  line-asked : fault (askedOrder s p line) ≡ 0
-  unfolding fault
-  line-asked = asked-parts s p line ∙ rw (ok .accepted, le-ltb 65535 p (ok .few)) line-none
+  line-asked : AskedNone s p line
+  unfolding askedOrder settingCheck all
+  line-asked = record { none = join (settingOrder s) ((by 42, ltb 65535 p) ∷ rowOrder s p line) (fault-none (settingOrder s) refl (ok .accepted)) (rw (le-ltb 65535 p (ok .few)) line-none) }
 
   pub line-writes : (room : ℕ) → length (bookOf s p f) ≤ room → writeSays s p line room ≡ gives (bookOf s p f)
   line-writes room h =
       let e : bookOf s p (rowPage line) ≡ bookOf s p f = book-same s p (rowPage line) f line-pages in
-      write-says s p line room ∙ rw (line-asked, e, le-ltb room (length (bookOf s p f)) h)
+      write-says s p line line-asked room ∙ rw (e, le-ltb room (length (bookOf s p f)) h)
 
 -- ---- what writing gives
-
-none-fault : (t : Table) → noneHold t ≡ true → fault t ≡ 0
-unfolding fault all
-none-fault [] h = refl
-none-fault (e ∷ es) h = go (e .0 .number) (e .1) (and-left _ _ h) (none-fault es (and-right (not (e .1)) _ h))
-  where
-    go : (n : ℕ) (t : Bool) → not t ≡ true → fault es ≡ 0 → (n if t else fault es) ≡ 0
-    go n true z q = absurd (false≢true z)
-    go n false z q = q
 
 module _ (s : Setting) (p : ℕ) (row : List ℕ) (room : ℕ) (b : List ℕ) (e : writeSays s p row room ≡ gives b) where
   table : (noneHold (writeOrder s p row room) ≡ true) × (bookOf s p (rowPage row) ≡ b)
   unfolding writeSays
   table = table-given (writeOrder s p row room) (bookOf s p (rowPage row)) b e
 
-  pub written-asked : Asked s p row 0
+  pub written-asked : AskedNone s p row
   unfolding writeOrder
-  written-asked = record { says = sym (none-fault (askedOrder s p row) (and-left _ _ (sym (all-append (λ (z : Refusal × Bool). not (z .1)) (askedOrder s p row) _) ∙ table .0))) }
+  written-asked = record { none = halves (askedOrder s p row) _ (table .0) .0 }
 
   pub written-is : bookOf s p (rowPage row) ≡ b
   written-is = table .1

@@ -2,21 +2,21 @@
 use Prim.Native.Nat.{ℕ, _+_, _*_, _-_, _<_, _≤_}
 use native.Mathlib.Omega.{arith}
 use mathlib.Core.Path.{_≡_, refl, sym, ap, _∙_}
-use mathlib.Core.Bool.{Bool, true, false}
+use mathlib.Core.Bool.{Bool, true, false, not, false≢true}
 use mathlib.Core.List.{List, [], _∷_, _++_}
 use lib.Dec.{ltb}
 use lib.ListN.{length, length-append}
-use borrow.Author.Tests.{lt-ltb, le-ltb}
-use Rattle.lists.specs.Choice.{_if_else_, firstOf}
+use borrow.Author.Tests.{lt-ltb, le-ltb, ltb-false}
+use Rattle.lists.specs.Choice.{_if_else_}
 use Rattle.lists.specs.Below.{concatBelow}
 use Rattle.lists.specs.Lists.{all, writeAt, overFront}
-use Rattle.rules.specs.Tables.{Table, fault, by}
+use Rattle.rules.specs.Tables.{Table, fault, noneHold, by}
 use Rattle.lists.proofs.Concat.{blocks-long}
-use Rattle.lists.proofs.Lists.{all-append}
-use Rattle.rules.proofs.Tables.{numbered, fault-both, table-then, first-refuses}
-use Rattle.lists.proofs.Tests.{ordered, less, more, first-some, first-none, first-then, both}
+use Rattle.rules.proofs.Tables.{andThen, row-out, table-gives, table-after, table-given}
+use Rattle.lists.proofs.Tests.{and-left, and-right}
 use Rattle.lists.proofs.Writes.{write-more, write-front}
-use Rattle.rules.specs.Says.{refuses, gives, first, byTable, says}
+use Rattle.rules.specs.Says.{refuses, gives, byTable, says, saysVerdict}
+use Rattle.rules.specs.Calls.{settingSays}
 use Rattle.rules.specs.Setting.{settingOrder, settingCheck}
 use Rattle.rules.specs.Promises.{Validates}
 use Rattle.rules.specs.declared.Answer.the-variants.{Done, Refused as RefusedAnswer}
@@ -30,78 +30,80 @@ use Rattle.book.specs.Book.{bookOf}
 use Rattle.book.specs.Orders.{rowOrder, askedOrder, writeOrder}
 use Rattle.book.specs.Rows.{rowPage}
 use Rattle.contents.specs.Written.{Wordy, Fronted}
-use Rattle.book.specs.Writing.{RowFault, SettingNumber, Asked, RowFits, StartsTo, ContentsWritten}
+use Rattle.book.specs.Writing.{RowChecks, Asked, AskedNone, RowFits, StartsTo, ContentsWritten}
 use Rattle.book.specs.Calls.{writeSays}
 use Rattle.book.specs.Promises.{Writes}
-use Rattle.contents.proofs.Verdicts.{accepted-check, refused-check}
 use Rattle.contents.proofs.Laying.{setting-wordy}
-use Rattle.book.proofs.RowLaws.{blocks-numbered, rows, rows-numbered, row-fits, pages-all}
+use Rattle.book.proofs.RowLaws.{halves, row-fits, pages-all}
 
--- ---- the setting's number
+-- where no row holds, no number is found
+pub none-fault : (t : Table) → noneHold t ≡ true → fault t ≡ 0
+unfolding fault all
+none-fault [] h = refl
+none-fault (e ∷ es) h = go (e .0 .number) (e .1) (and-left _ _ h) (none-fault es (and-right (not (e .1)) _ h))
+  where
+    go : (n : ℕ) (t : Bool) → not t ≡ true → fault es ≡ 0 → (n if t else fault es) ≡ 0
+    go n true z q = absurd (false≢true z)
+    go n false z q = q
 
-module _ (s : Setting) (v : Verdict) (q : Validates s v) where
-  pub number-taken : v ≡ Accepted → SettingNumber s 0
-  number-taken h = record { says = sym (accepted-check s v q h) }
-
-  pub number-refused : (n : Refusal) → v ≡ Refused n → SettingNumber s (n .number)
-  number-refused n h = record { says = refused-check s v q n h }
-
--- ---- every number but 29
+-- ---- every refusal but 29: v is the verdict on the setting
 
 module _ (s : Setting) (p : ℕ) (row : List ℕ) where
   abbrev later : Table
   later = (by 42, ltb 65535 p) ∷ rowOrder s p row
 
-  pub asked-parts : fault (askedOrder s p row) ≡ firstOf (settingCheck s) (fault later)
-  unfolding askedOrder settingCheck all
-  asked-parts = fault-both (settingOrder s) later refl
+  asked-parts : byTable (askedOrder s p row) (gives (tt {0})) ≡ andThen (settingSays s) (byTable later (gives (tt {0})))
+  unfolding askedOrder settingSays
+  asked-parts = table-after (settingOrder s) later (gives (tt {0}))
 
-  module _ (n : ℕ) (q : SettingNumber s n) where
-    pub asked-setting : (n ≡ 0 → ⊥) → Asked s p row n
-    asked-setting h = record { says = sym (asked-parts ∙ rw (← (q .says)) (first-some n (fault later) h)) }
+  module _ (v : Verdict) (q : Validates s v) where
+    by-setting : byTable (askedOrder s p row) (gives (tt {0})) ≡ andThen (saysVerdict v) (byTable later (gives (tt {0})))
+    by-setting = asked-parts ∙ rw (← (q .answer))
 
-    module _ (z : n ≡ 0) where
-      past-setting : fault (askedOrder s p row) ≡ fault later
-      past-setting = asked-parts ∙ rw (← (q .says), z)
+    pub asked-setting : (k : Refusal) → v ≡ Refused k → Asked s p row v
+    asked-setting k e = record { says = ap saysVerdict e ∙ sym (by-setting ∙ rw e) }
 
-      pub asked-42 : 65535 < p → Asked s p row 42
-      unfolding fault
-      asked-42 h = record { says = sym (past-setting ∙ rw (lt-ltb 65535 p h)) }
+    module _ (e : v ≡ Accepted) where
+      past-setting : byTable (askedOrder s p row) (gives (tt {0})) ≡ byTable later (gives (tt {0}))
+      past-setting = by-setting ∙ rw e
 
-      pub asked-row : p ≤ 65535 → (r : ℕ) → RowFault s p row r → Asked s p row r
-      unfolding fault
+      pub asked-42 : 65535 < p → (x : Refusal) → x ≡ by 42 → Asked s p row (Refused x)
+      unfolding byTable
+      asked-42 h x z = record { says = ap refuses z ∙ sym (past-setting ∙ rw (lt-ltb 65535 p h)) }
+
+      pub asked-row : p ≤ 65535 → (r : Verdict) → RowChecks s p row r → Asked s p row r
+      unfolding byTable
       asked-row h r f = record { says = f .says ∙ sym (past-setting ∙ rw (le-ltb 65535 p h)) }
 
-  pub asked-zero : (n : ℕ) → Asked s p row n → n ≡ 0 → Asked s p row 0
-  asked-zero n a z = rw z at a
-
-  module _ (a : Asked s p row 0) where
-    parts-none : firstOf (settingCheck s) (fault later) ≡ 0
-    parts-none = sym asked-parts ∙ sym (a .says)
+  module _ (a : AskedNone s p row) where
+    none-parts : (noneHold (settingOrder s) ≡ true) × (noneHold later ≡ true)
+    unfolding askedOrder
+    none-parts = halves (settingOrder s) later (a .none)
 
     pub asked-accepted : settingCheck s ≡ 0
-    asked-accepted = first-none (settingCheck s) (fault later) parts-none
-
-    later-none : fault later ≡ 0
-    later-none = first-then (settingCheck s) (fault later) parts-none
+    unfolding settingCheck
+    asked-accepted = none-fault (settingOrder s) (none-parts .0)
 
     pub asked-few : p ≤ 65535
-    unfolding fault
-    asked-few = elim (ordered 65535 p) [ less l t ↦ absurd (omega (arith, rw t at later-none)) | more l t ↦ l ]
+    asked-few = ltb-false 65535 p (row-out later 0 (none-parts .1))
 
-    pub asked-none : fault (rowOrder s p row) ≡ 0
-    unfolding fault
-    asked-none = rw (le-ltb 65535 p asked-few) at later-none
+    pub asked-none : noneHold (rowOrder s p row) ≡ true
+    unfolding all
+    asked-none = and-right (not (ltb 65535 p)) (noneHold (rowOrder s p row)) (none-parts .1)
 
     pub asked-fits : RowFits p row
     asked-fits = row-fits s p row asked-none asked-few
 
-module _ (s : Setting) (p : ℕ) (row : List ℕ) (n : ℕ) (a : Asked s p row n) (z : n ≡ 0) where
-  pub zero-wordy : Wordy s
-  zero-wordy = setting-wordy s (asked-accepted s p row (asked-zero s p row n a z))
+-- none refuses
+module _ (s : Setting) (p : ℕ) (row : List ℕ) (v : Verdict) (a : Asked s p row v) (e : v ≡ Accepted) where
+  pub none-asked : AskedNone s p row
+  none-asked = record { none = table-given (askedOrder s p row) tt tt (sym (a .says) ∙ ap saysVerdict e) .0 }
 
-  pub zero-fits : RowFits p row
-  zero-fits = asked-fits s p row (asked-zero s p row n a z)
+  pub none-wordy : Wordy s
+  none-wordy = setting-wordy s (asked-accepted s p row none-asked)
+
+  pub none-fits : RowFits p row
+  none-fits = asked-fits s p row none-asked
 
 -- ---- the contents, and the book
 
@@ -143,23 +145,24 @@ module _ (s : Setting) (p : ℕ) (row : List ℕ) where
 -- ---- what is said
 
 module _ (s : Setting) (p : ℕ) (row : List ℕ) where
-  asked-numbered : numbered (askedOrder s p row) ≡ true
-  unfolding askedOrder rowOrder all
-  asked-numbered = all-append (λ (e : Refusal × Bool). ltb 0 (e .0 .number)) (concatBelow p (rows s row)) _ ∙ both (blocks-numbered (rows s row) (rows-numbered s row) p) refl
-
-  pub write-says : (room : ℕ) → writeSays s p row room ≡ first (fault (askedOrder s p row)) (refuses (by 29) if ltb room (length (book s p row)) else gives (book s p row))
+  -- every other refusal, and then the room
+  write-parts : (room : ℕ) → writeSays s p row room ≡ andThen (byTable (askedOrder s p row) (gives (tt {0}))) (refuses (by 29) if ltb room (length (book s p row)) else gives (book s p row))
   unfolding writeSays writeOrder byTable
-  write-says room = table-then (askedOrder s p row) ((by 29, ltb room (length (book s p row))) ∷ []) (gives (book s p row)) asked-numbered
+  write-parts room = table-after (askedOrder s p row) ((by 29, ltb room (length (book s p row))) ∷ []) (gives (book s p row))
+
+  -- where none refuses, the room alone
+  pub write-says : AskedNone s p row → (room : ℕ) → writeSays s p row room ≡ (refuses (by 29) if ltb room (length (book s p row)) else gives (book s p row))
+  write-says a room = write-parts room ∙ rw (table-gives (askedOrder s p row) (gives (tt {0})) (a .none))
 
   module _ (old : List ℕ) where
-    pub writes-refused : (n : ℕ) → Asked s p row n → (n ≡ 0 → ⊥) → (k : Refusal) → k ≡ by n → Writes s p row old old (RefusedAnswer k)
-    writes-refused n a h k z =
-        let e : writeSays s p row (length old) ≡ refuses (by n) = write-says (length old) ∙ rw (← (a .says)) (first-refuses n _ h) in
-        record { answer = rw (e, z); words = rw e }
+    pub writes-refused : (v : Verdict) → Asked s p row v → (k : Refusal) → v ≡ Refused k → Writes s p row old old (RefusedAnswer k)
+    writes-refused v a k z =
+        let e : writeSays s p row (length old) ≡ refuses k = write-parts (length old) ∙ rw (← (a .says), z) in
+        record { answer = rw e; words = rw e }
 
-    module _ (a : Asked s p row 0) (f : RowFits p row) where
+    module _ (a : AskedNone s p row) (f : RowFits p row) where
       by-room : (t : Bool) → ltb (length old) (17 + 2 * p + length row) ≡ t → writeSays s p row (length old) ≡ (refuses (by 29) if t else gives (book s p row))
-      by-room t e = write-says (length old) ∙ rw (← (a .says), book-words s p row f, e)
+      by-room t e = write-says a (length old) ∙ rw (book-words s p row f, e)
 
       pub writes-29 : length old < 17 + 2 * p + length row → (k : Refusal) → k ≡ by 29 → Writes s p row old old (RefusedAnswer k)
       writes-29 h k z = let e = by-room true (lt-ltb _ _ h) in record { answer = rw (e, z); words = rw e }

@@ -1,29 +1,31 @@
--- What reading a page says, by the tests made so far: what is found by the contents, then 20 and 21 for that page. Assumes nothing.
+-- What reading a page says, by the tests made so far: what is found by the contents, then the faults and 21 for that page. Assumes nothing.
 use Prim.Native.Nat.{ℕ, _+_, _-_, _<_, _≤_}
 use native.Mathlib.Omega.{arith}
 use mathlib.Core.Path.{_≡_, refl, sym, ap, _∙_}
 use mathlib.Core.Bool.{Bool, true, false, not}
 use Rattle.lists.specs.Choice.{_if_else_}
-use mathlib.Core.List.{List, [], _∷_}
+use mathlib.Core.List.{List, [], _∷_, append-nil}
 use lib.ListN.{length, take, drop}
 use denote.Ref.{RefT}
 use borrow.Author.Tests.{not-true, not-false}
-use Rattle.lists.specs.Lists.{all}
-use Rattle.rules.specs.Tables.{Table, fault, noneHold, by}
-use Rattle.rules.proofs.Tables.{row-out, table-both, table-given, table-fault, first-refuses}
+use Rattle.rules.specs.Tables.{Table, noneHold, by}
+use Rattle.rules.proofs.Tables.{andThen, row-out, table-both, table-after, table-given}
+use Rattle.rules.proofs.Faults.{image-on, image-out, rows-formed, rows-after}
 use Rattle.rules.specs.Image.{wellFormed}
 use Rattle.rules.specs.Orders.{differs}
-use Rattle.rules.specs.Promises.{Checks}
-use Rattle.rules.specs.Says.{Says, refuses, gives, first, byTable}
+use Rattle.rules.specs.Promises.{Checks, Faulty}
+use Rattle.rules.specs.Says.{Says, refuses, gives, saysVerdict, byTable}
 use Rattle.rules.specs.declared.Setting.{Setting}
 use Rattle.rules.specs.declared.Refusal.{Refusal}
+use Rattle.rules.specs.declared.Verdict.{Verdict}
+use Rattle.rules.specs.declared.Verdict.the-variants.{Accepted as Fits, Refused as RefusedVerdict}
 use Rattle.contents.specs.Settings.{settingIn}
 use Rattle.contents.specs.Contents.{pagesIn}
 use Rattle.book.specs.Book.{pageIn}
 use Rattle.contents.specs.Orders.{findOrder}
 use Rattle.book.specs.Orders.{pageRows, readOrder}
 use Rattle.contents.specs.Accepted.{Accepted}
-use Rattle.book.specs.Read.{ImageFault, Cut}
+use Rattle.book.specs.Read.{PageChecks, Cut}
 use Rattle.contents.specs.Calls.{Span, spanIn, findSays, saysPage}
 use Rattle.book.specs.Calls.{pageSays, thenRead}
 use Rattle.contents.specs.Promises.{Finds}
@@ -32,21 +34,27 @@ use Rattle.contents.specs.declared.PageFound.{PageFound}
 use Rattle.contents.specs.declared.PageFound.the-variants.{Part, Refused}
 use Rattle.contents.proofs.Finding.{found, find-is, find-opens, find-counted, find-inside, part-given}
 
--- ---- 20 and 21 of an image
+-- ---- the faults and 21 of an image
 
 module _ (s : Setting) (w : List ℕ) (t : Bool) (q : Checks w t) where
-  pub fault-20 : not t ≡ true → ImageFault s w 20
-  unfolding fault
-  fault-20 h = record { says = rw (← (q .answer), not-true t h) }
+  pub page-faulty : not t ≡ true → (x : Refusal) → Faulty w x → PageChecks s w (RefusedVerdict x)
+  page-faulty h x f = record { says = image-out w _ (gives (tt {0})) (sym (q .answer) ∙ not-true t h) x f }
 
   module _ (h : not t ≡ false) (u : Bool) (d : u ≡ differs s w) where
-    pub fault-21 : u ≡ true → ImageFault s w 21
-    unfolding fault
-    fault-21 e = record { says = rw (← (q .answer), not-false t h, sym d ∙ e) }
+    past-image : byTable (pageRows s w) (gives (tt {0})) ≡ (refuses (by 21) if differs s w else gives (tt {0}))
+    unfolding byTable
+    past-image = image-on w _ (gives (tt {0})) (sym (q .answer) ∙ not-false t h)
 
-    pub fault-none : u ≡ false → ImageFault s w 0
-    unfolding fault
-    fault-none e = record { says = rw (← (q .answer), not-false t h, sym d ∙ e) }
+    pub page-21 : u ≡ true → (x : Refusal) → x ≡ by 21 → PageChecks s w (RefusedVerdict x)
+    page-21 e x z = record { says = ap refuses z ∙ sym (past-image ∙ rw (sym d ∙ e)) }
+
+    pub page-fits : u ≡ false → PageChecks s w Fits
+    page-fits e = record { says = sym (past-image ∙ rw (sym d ∙ e)) }
+
+-- a whole table by its verdict alone
+pub table-verdict : {A : Type 0} (t : Table) (r : Says A) → byTable t r ≡ andThen (byTable t (gives (tt {0}))) r
+unfolding byTable
+table-verdict t r = ap (λ (l : Table). byTable l r) (sym (append-nil t)) ∙ table-after t [] r
 
 -- ---- a page is found, and then read
 
@@ -67,9 +75,9 @@ page-says b i = table-both (findOrder b (length b) i) _ (gives (spanIn b (length
 
 -- the page of accepted contents
 pub past-41 : (b : List ℕ) (i : ℕ) → Accepted b (length b) → i < pagesIn b
-    → pageSays b i ≡ first (fault (pageRows (settingIn b) (pageIn b i))) (gives (spanIn b (length b) i))
-unfolding all pageIn
-past-41 b i a h = page-says b i ∙ rw (found b (length b) i a h) (table-fault (pageRows (settingIn b) (pageIn b i)) (gives (spanIn b (length b) i)) refl)
+    → pageSays b i ≡ byTable (pageRows (settingIn b) (pageIn b i)) (gives (spanIn b (length b) i))
+unfolding pageIn
+past-41 b i a h = page-says b i ∙ rw (found b (length b) i a h)
 
 module _ (b : List ℕ) (i : ℕ) (r : PageFound) (f : Finds b (length b) i r) where
   -- 40 and 41 are passed on
@@ -78,24 +86,24 @@ module _ (b : List ℕ) (i : ℕ) (r : PageFound) (f : Finds b (length b) i r) w
       let z : findSays b (length b) i ≡ refuses k = sym (f .answer) ∙ ap saysPage e in
       record { answer = ap saysPage e ∙ sym (page-says b i ∙ rw z) }
 
--- a part was found; n is its number
+-- a part was found; v is its verdict
 module _ (book : RefT (List ℕ)) (i : ℕ) (r : PageFound) (f : Finds (book .now) (length (book .now)) i r) (start size : ℕ) (e : r ≡ Part start size)
-    (s : Setting) (x : s ≡ settingIn (book .now)) (part : RefT (List ℕ)) (p : Cut book start size part) (n : ℕ) (g : ImageFault s (part .now) n) where
+    (s : Setting) (x : s ≡ settingIn (book .now)) (part : RefT (List ℕ)) (p : Cut book start size part) (v : Verdict) (g : PageChecks s (part .now) v) where
   abbrev b : List ℕ
   b = book .now
 
-  numbered : pageSays b i ≡ first n (gives (record { start = start; len = size }))
-  unfolding all
-  numbered =
-      let z : n ≡ fault (pageRows (settingIn b) (take size (drop start b))) = rw (x, p .words) at (g .says) in
+  by-verdict : pageSays b i ≡ andThen (saysVerdict v) (gives (record { start = start; len = size }))
+  by-verdict =
+      let rows = pageRows (settingIn b) (take size (drop start b)) in
+      let z : saysVerdict v ≡ byTable rows (gives (tt {0})) = rw (x, p .words) at (g .says) in
       page-says b i
-      ∙ rw (part-given b (length b) i r f start size e, z) (table-fault (pageRows (settingIn b) (take size (drop start b))) (gives (record { start = start; len = size })) refl)
+      ∙ rw (part-given b (length b) i r f start size e) (table-verdict rows (gives (record { start = start; len = size })) ∙ rw (← z))
 
-  pub page-refused : (n ≡ 0 → ⊥) → (k : Refusal) → k ≡ by n → Pages b i (Refused k)
-  page-refused h k y = record { answer = ap refuses y ∙ sym (numbered ∙ first-refuses n _ h) }
+  pub page-refused : (k : Refusal) → v ≡ RefusedVerdict k → Pages b i (Refused k)
+  page-refused k y = record { answer = sym (by-verdict ∙ rw y) }
 
-  pub page-part : n ≡ 0 → Pages b i (Part start size)
-  page-part h = record { answer = sym (numbered ∙ rw h) }
+  pub page-part : v ≡ Fits → Pages b i (Part start size)
+  page-part y = record { answer = sym (by-verdict ∙ rw y) }
 
 -- ---- what a page that is read tells
 
@@ -131,10 +139,10 @@ module _ (b : List ℕ) (i : ℕ) (q : Span) (e : pageSays b i ≡ gives q) wher
   page-words = ap (λ (z : Span). take (z .len) (drop (z .start) b)) (sym page-span)
 
   pub page-formed : wellFormed (pageIn b i) ≡ true
-  page-formed = ap wellFormed (sym page-words) ∙ not-false (wellFormed (take (q .len) (drop (q .start) b))) (row-out rows 0 (both .1))
+  page-formed = ap wellFormed (sym page-words) ∙ rows-formed (take (q .len) (drop (q .start) b)) _ (both .1)
 
   pub page-same : differs (settingIn b) (pageIn b i) ≡ false
-  page-same = ap (differs (settingIn b)) (sym page-words) ∙ row-out rows 1 (both .1)
+  page-same = ap (differs (settingIn b)) (sym page-words) ∙ row-out ((by 21, differs (settingIn b) (take (q .len) (drop (q .start) b))) ∷ []) 0 (rows-after (take (q .len) (drop (q .start) b)) _ (both .1))
 
 -- ---- the part that is handed back
 

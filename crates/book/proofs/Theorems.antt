@@ -8,13 +8,13 @@ use lib.ListN.{length, take, drop}
 use denote.Ref.{RefT}
 use Rattle.boards.specs.Boards.{Under}
 use Rattle.lists.specs.Below.{concatBelow}
-use Rattle.lists.specs.Lists.{all}
-use Rattle.rules.specs.Tables.{fault, noneHold}
+use Rattle.rules.specs.Tables.{noneHold}
 use Rattle.lists.proofs.Insert.{over-take}
-use Rattle.rules.specs.Says.{Says, refuses, gives, first, seen, lent}
+use Rattle.rules.specs.Says.{Says, refuses, gives, seen, lent, saysVerdict, byTable}
 use Rattle.rules.specs.declared.Answer.the-variants.{Done}
 use Rattle.rules.specs.declared.Setting.{Setting}
-use Rattle.rules.proofs.Tables.{table-fault}
+use Rattle.rules.specs.declared.Verdict.{Verdict}
+use Rattle.rules.proofs.Tables.{andThen}
 use Rattle.image.specs.Memory.{wordPlace}
 use Rattle.rules.specs.declared.Refusal.{Refusal}
 use Rattle.contents.specs.Settings.{settingIn}
@@ -28,7 +28,7 @@ use Rattle.contents.specs.Calls.{Span, findSays}
 use Rattle.book.specs.Calls.{writeSays, pageSays, thenRead, partAt}
 use Rattle.contents.specs.Promises.{Finds}
 use Rattle.book.specs.Promises.{Writes, Hands}
-use Rattle.book.specs.Read.{ImageFault}
+use Rattle.book.specs.Read.{PageChecks}
 use Rattle.contents.specs.declared.PageFound.the-variants.{Part, Refused}
 use Rattle.book.proofs.Separate as separate
 use Rattle.book.proofs.Binding as binding
@@ -36,7 +36,7 @@ use Rattle.contents.proofs.Alone as alone
 use Rattle.book.proofs.Bound.{bound-pages, bound-setting, bound-page, bound-rest}
 use Rattle.book.proofs.OneForm as form
 use Rattle.contents.proofs.Finding.{accepted}
-use Rattle.book.proofs.Paging.{page-says, page-words, page-formed, page-same}
+use Rattle.book.proofs.Paging.{table-verdict, page-says, page-words, page-formed, page-same}
 use Rattle.book.proofs.RowLaws.{pages-all, pages-long}
 
 -- ---- 'Reading what was written gives the same pages'
@@ -127,7 +127,7 @@ module _ (b : List ℕ) (k : ℕ) (h : front (pagesIn b) ≤ k) (i : ℕ) where
   pub find-alone : findSays (take k b) (length b) i ≡ findSays b (length b) i
   find-alone = alone.front-finds b k h i
 
-  -- so reading is finding, and then 20 and 21 of the part that was found
+  -- so reading is finding, and then the faults and 21 of the part that was found
   pub find-then-read : pageSays b i ≡ thenRead b (findSays (take k b) (length b) i)
   find-then-read = page-says b i ∙ ap (thenRead b) (sym find-alone)
 
@@ -135,12 +135,13 @@ module _ (b : List ℕ) (k : ℕ) (h : front (pagesIn b) ≤ k) (i : ℕ) where
   pub find-refuses : (x : Refusal) → Finds (take k b) (length b) i (Refused x) → pageSays b i ≡ refuses x
   find-refuses x f = find-then-read ∙ ap (thenRead b) (sym (f .answer))
 
-  -- and where it gives a part, reading says the number of that part, by the setting in the contents, or that part
-  pub find-reads : (start size : ℕ) → Finds (take k b) (length b) i (Part start size) → (n : ℕ) → ImageFault (settingIn (take k b)) (take size (drop start b)) n
-      → pageSays b i ≡ first n (gives (record { start = start; len = size }))
-  unfolding all
-  find-reads start size f n g =
-      let z : n ≡ fault (pageRows (settingIn b) (take size (drop start b))) = rw (alone.front-setting b k h) at (g .says) in
+  -- and where it gives a part, reading says the verdict on that part, by the setting in the contents, or that part
+  pub find-reads : (start size : ℕ) → Finds (take k b) (length b) i (Part start size) → (v : Verdict) → PageChecks (settingIn (take k b)) (take size (drop start b)) v
+      → pageSays b i ≡ andThen (saysVerdict v) (gives (record { start = start; len = size }))
+  find-reads start size f v g =
+      let rows = pageRows (settingIn b) (take size (drop start b)) in
+      let z : saysVerdict v ≡ byTable rows (gives (tt {0})) = rw (alone.front-setting b k h) at (g .says) in
       find-then-read
       ∙ ap (thenRead b) (sym (f .answer))
-      ∙ rw z (table-fault (pageRows (settingIn b) (take size (drop start b))) (gives (record { start = start; len = size })) refl)
+      ∙ table-verdict rows (gives (record { start = start; len = size }))
+      ∙ rw (← z)

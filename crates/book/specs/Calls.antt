@@ -18,7 +18,7 @@ writeSays s p row room = byTable (writeOrder s p row room) (gives (bookOf s p (r
 unfoldable pub pageSays : List ℕ → ℕ → Says Span
 pageSays b i = byTable (readOrder b i) (gives (spanIn b (length b) i))
 
--- 20 and 21 for the page that was found
+-- the faults and 21 for the page that was found
 abbrev pub thenRead : List ℕ → Says Span → Says Span
 thenRead b (refuses k) = refuses k
 thenRead b (gives q) = byTable (pageRows (settingIn b) (take (q .len) (drop (q .start) b))) (gives q)

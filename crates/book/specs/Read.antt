@@ -4,14 +4,15 @@ use mathlib.Core.List.{List}
 use mathlib.Core.Path.{_≡_}
 use lib.ListN.{take, drop}
 use denote.Ref.{RefT}
-use Rattle.rules.specs.Tables.{fault}
+use Rattle.rules.specs.Says.{gives, saysVerdict, byTable}
 use Rattle.rules.specs.declared.Setting.{Setting}
+use Rattle.rules.specs.declared.Verdict.{Verdict}
 use Rattle.image.specs.Memory.{wordPlace}
 use Rattle.book.specs.Orders.{pageRows}
 
--- its number by 20 and 21, or 0
-pub record ImageFault (s : Setting) (w : List ℕ) (r : ℕ) : Type 0 where
-  pub says : r ≡ fault (pageRows s w)
+-- a page's fault, 21, or accepted
+pub record PageChecks (s : Setting) (w : List ℕ) (r : Verdict) : Type 0 where
+  pub says : saysVerdict r ≡ byTable (pageRows s w) (gives tt)
 
 -- the part of a lent book from a start on: its words, and its place
 pub record Cut (book : RefT (List ℕ)) (start size : ℕ) (r : RefT (List ℕ)) : Type 0 where

@@ -1,13 +1,13 @@
 -- The pages of a writer's row: 'the images in a row' (02, wish 1). The image at a place is the part there whose contents tell its length. Assumes nothing.
-use Prim.Native.Nat.{ℕ, zero, suc, _+_}
+use Prim.Native.Nat.{ℕ, zero, suc, _+_, min}
 use mathlib.Core.List.{List}
-use lib.ListN.{take, drop}
+use lib.ListN.{length, take, drop}
 use Rattle.lists.specs.Choice.{_if_else_}
 use Rattle.rules.specs.Image.{foodCountIn, foodStart, longEnough}
 
--- contents, bodies and food; 0 where the contents are cut short, which no image is
+-- contents, bodies and food; all that is left of the row where not so much is, or where the contents are cut short
 unfoldable pub toldLength : List ℕ → ℕ
-toldLength w = foodStart w + foodCountIn w if longEnough w else 0
+toldLength w = min (foodStart w + foodCountIn w) (length w) if longEnough w else length w
 
 -- page i starts past the pages before it
 unfoldable pub rowStart : List ℕ → ℕ → ℕ

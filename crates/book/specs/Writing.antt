@@ -1,14 +1,16 @@
 -- What the functions of the writer ensure and require. Assumes nothing.
-use Prim.Native.Nat.{ℕ, _*_, _≤_, _<_}
+use Prim.Native.Nat.{ℕ, _-_, _*_, _≤_, _<_}
 use mathlib.Core.Path.{_≡_}
+use mathlib.Core.Bool.{true}
 use mathlib.Core.List.{List}
 use lib.ListN.{length, take}
 use Rattle.lists.specs.Below.{sumBelow, concatBelow}
 use Rattle.lists.specs.Lists.{writeAt}
-use Rattle.rules.specs.Tables.{fault}
+use Rattle.rules.specs.Tables.{noneHold}
+use Rattle.rules.specs.Says.{gives, saysVerdict, byTable}
 use Rattle.rules.specs.Image.{lengthAt}
-use Rattle.rules.specs.Setting.{settingCheck}
 use Rattle.rules.specs.declared.Setting.{Setting}
+use Rattle.rules.specs.declared.Verdict.{Verdict}
 use Rattle.contents.specs.Settings.{pairWords}
 use Rattle.contents.specs.Contents.{startOf, contentsOf}
 use Rattle.book.specs.Orders.{pageRows, rowOrder, askedOrder}
@@ -23,30 +25,30 @@ pub record Summed (w : List ℕ) (n i r : ℕ) : Type 0 where
 
 pub record Told (w : List ℕ) (r : ℕ) : Type 0 where
   pub length-told : r ≡ toldLength w
-  pub small : r ≤ 8589934592
+  pub inside : r ≤ length w
 
--- the image at the front of w: 0, 20 or 21, and its length where it is 0
+-- the page at the front of w, and its length
 pub record Next (s : Setting) (w : List ℕ) (r : NextPage) : Type 0 where
-  pub number : r .number ≡ fault (pageRows s (take (toldLength w) w))
-  pub told : r .number ≡ 0 → r .len ≡ toldLength w
-  pub inside : r .number ≡ 0 → r .len ≤ length w
-  pub small : r .len ≤ 8589934592
+  pub says : saysVerdict (r .verdict) ≡ byTable (pageRows s (take (toldLength w) w)) (gives tt)
+  pub told : Told w (r .len)
 
-pub record RowFault (s : Setting) (p : ℕ) (row : List ℕ) (r : ℕ) : Type 0 where
-  pub says : r ≡ fault (rowOrder s p row)
+pub record RowChecks (s : Setting) (p : ℕ) (row : List ℕ) (r : Verdict) : Type 0 where
+  pub says : saysVerdict r ≡ byTable (rowOrder s p row) (gives tt)
 
--- the first i pages of a row have passed, and the next starts at `at`
-pub record Passed (s : Setting) (row : List ℕ) (p i at : ℕ) : Type 0 where
+-- the first i pages of a row have passed, the last of them has `last` words, and the next starts at `at`
+pub record Passed (s : Setting) (row : List ℕ) (p i at last : ℕ) : Type 0 where
   pub here : i ≤ p
   pub start : at ≡ rowStart row i
   pub inside : at ≤ length row
-  pub none : (j : ℕ) → j < i → fault (pageRows s (rowPage row j)) ≡ 0
+  pub last-is : last ≡ rowStart row i - rowStart row (i - 1)
+  pub none : (j : ℕ) → j < i → noneHold (pageRows s (rowPage row j)) ≡ true
 
-pub record SettingNumber (s : Setting) (r : ℕ) : Type 0 where
-  pub says : r ≡ settingCheck s
+-- every refusal but 29
+pub record Asked (s : Setting) (p : ℕ) (row : List ℕ) (r : Verdict) : Type 0 where
+  pub says : saysVerdict r ≡ byTable (askedOrder s p row) (gives tt)
 
-pub record Asked (s : Setting) (p : ℕ) (row : List ℕ) (r : ℕ) : Type 0 where
-  pub says : r ≡ fault (askedOrder s p row)
+pub record AskedNone (s : Setting) (p : ℕ) (row : List ℕ) : Type 0 where
+  pub none : noneHold (askedOrder s p row) ≡ true
 
 -- what a row that passes tells: its pages fill it, and a start fits two words
 pub record RowFits (p : ℕ) (row : List ℕ) : Type 0 where

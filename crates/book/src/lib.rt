@@ -7,7 +7,7 @@ mod writer;
 pub use contents::PageFound;
 pub use contents::find;
 pub use contents::setting_in;
-pub use pages::image_fault;
+pub use pages::check_page;
 pub use pages::page_in;
 pub use pages::page_of;
 use turning::page_after;

@@ -1,22 +1,23 @@
-// A page of a whole book: what its contents find, then 20 and 21 for that page alone. Other pages are not looked at.
+// A page of a whole book: what its contents find, then 50 to 56 and 21 for that page alone. Other pages are not looked at.
 use contents::PageFound;
 use rules::Setting;
+use rules::Verdict;
 ghost use Prim.Native.Nat.{_+_, _≤_};
 ghost use lib.ListN.{length};
-ghost use Rattle.book.specs.Read.{ImageFault, Cut};
+ghost use Rattle.book.specs.Read.{PageChecks, Cut};
 ghost use Rattle.book.specs.Promises.{Pages, Hands};
 
-// 20, 21, or 0.
-pub fn image_fault(setting: Setting, image: &[u16]) -> u8
-    ensures { λ r. ⌜ ImageFault setting (now (image .entry)) r ⌝ }
+// 50 to 56, 21, or accepted.
+pub fn check_page(setting: Setting, image: &[u16]) -> Verdict
+    ensures { λ r. ⌜ PageChecks setting (now (image .entry)) r ⌝ }
 {
     if !image::well_formed(image) {
-        return 20;
+        return Verdict::Refused(image::fault_in(image));
     }
     if setting::differs(setting, image) {
-        return 21;
+        return Verdict::Refused(refusals::by(21));
     }
-    0
+    Verdict::Accepted
 }
 
 fn cut(book: &[u16], start: usize, len: usize) -> &[u16]
@@ -26,7 +27,7 @@ fn cut(book: &[u16], start: usize, len: usize) -> &[u16]
     &book[start..start + len]
 }
 
-// Where page `page` lies, or 40, 41, 20, 21.
+// Where page `page` lies, or 40, 41, 50 to 56, 21.
 pub fn page_in(book: &[u16], page: u64) -> PageFound
     ensures { λ r. ⌜ Pages (now (book .entry)) page r ⌝ }
 {
@@ -34,11 +35,11 @@ pub fn page_in(book: &[u16], page: u64) -> PageFound
     let PageFound::Part { start, len } = found else {
         return found;
     };
-    let number = image_fault(contents::setting_in(book), cut(book, start, len));
-    if number != 0 {
-        return PageFound::Refused(refusals::by(number));
-    }
-    PageFound::Part { start, len }
+    let verdict = check_page(contents::setting_in(book), cut(book, start, len));
+    let Verdict::Refused(why) = verdict else {
+        return PageFound::Part { start, len };
+    };
+    PageFound::Refused(why)
 }
 
 // That page, as the caller's own words and no copy; the empty part at the book's front where it is refused.

@@ -1,15 +1,17 @@
 // The writer's row: images one after the other, each checked where the one before it ends.
-use crate::pages::image_fault;
+use crate::pages::check_page;
 use contents::word;
+use lists::smaller;
 use rules::Setting;
+use rules::Verdict;
 ghost use Prim.Native.Nat.{_+_, _*_, _<_, _≤_};
 ghost use lib.ListN.{length, drop};
 ghost use Rattle.rules.specs.Image.{front};
-ghost use Rattle.book.specs.Writing.{Summed, Told, Next, RowFault};
+ghost use Rattle.book.specs.Writing.{Summed, Told, Next, RowChecks};
 
-// A page's number, and how many words it has where that is 0.
+// Whether a page is accepted, and how many words it has.
 pub(crate) struct NextPage {
-    pub(crate) number: u8,
+    pub(crate) verdict: Verdict,
     pub(crate) len: usize,
 }
 
@@ -26,18 +28,18 @@ fn lengths(words: &[u16], n: usize) -> usize
     sum
 }
 
-// How long the contents at the front say that their image is; 0 where they are cut short.
+// How long the contents at the front say that their image is; all words where they are cut short or not so many are left.
 pub(crate) fn told(words: &[u16]) -> usize
     ensures { λ r. ⌜ Told (now (words .entry)) r ⌝ }
 {
     if words.len() < 5 {
-        return 0;
+        return words.len();
     }
     let n = word(words, 0);
     if words.len() < 5 + 4 * n {
-        return 0;
+        return words.len();
     }
-    5 + 4 * n + lengths(words, n) + word(words, 4)
+    smaller(5 + 4 * n + lengths(words, n) + word(words, 4), words.len())
 }
 
 fn next_page(setting: Setting, row: &[u16], at: usize) -> NextPage
@@ -45,29 +47,29 @@ fn next_page(setting: Setting, row: &[u16], at: usize) -> NextPage
     ensures { λ r. ⌜ Next setting (drop at (now (row .entry))) r ⌝ }
 {
     let len = told(&row[at..]);
-    if row.len() - at < len {
-        return NextPage { number: 20, len };
-    }
-    let number = image_fault(setting, &row[at..at + len]);
-    NextPage { number, len }
+    let verdict = check_page(setting, &row[at..at + len]);
+    NextPage { verdict, len }
 }
 
-// 20 and 21 page by page, 20 for words after the last, or 0.
-pub(crate) fn row_fault(setting: Setting, p: usize, row: &[u16]) -> u8
-    ensures { λ r. ⌜ RowFault setting p (now (row .entry)) r ⌝ }
+// 50 to 56 and 21 page by page, 53 for words after the last, or accepted.
+pub(crate) fn check_row(setting: Setting, p: usize, row: &[u16]) -> Verdict
+    ensures { λ r. ⌜ RowChecks setting p (now (row .entry)) r ⌝ }
 {
     let mut at = 0;
+    let mut last = 0;
     let mut i = 0;
     while i < p {
         let next = next_page(setting, row, at);
-        if next.number != 0 {
-            return next.number;
-        }
-        at += next.len;
+        let verdict = next.verdict;
+        let Verdict::Accepted = verdict else {
+            return verdict;
+        };
+        last = next.len;
+        at += last;
         i += 1;
     }
     if at < row.len() {
-        return 20;
+        return Verdict::Refused(refusals::by_word(53, last));
     }
-    0
+    Verdict::Accepted
 }

@@ -1,5 +1,5 @@
 // The writer: one pass of checks over the row, then 29, then one copy.
-use crate::rows::row_fault;
+use crate::rows::check_row;
 use crate::rows::told;
 use contents::write_front;
 use contents::write_pair;
@@ -8,33 +8,23 @@ use rules::Setting;
 use rules::Verdict;
 ghost use Prim.Native.Nat.{_+_, _*_, _<_, _≤_};
 ghost use lib.ListN.{length};
-ghost use Rattle.book.specs.Writing.{SettingNumber, Asked, RowFits, StartsTo, ContentsWritten};
+ghost use Rattle.book.specs.Writing.{Asked, AskedNone, RowFits, StartsTo, ContentsWritten};
 ghost use Rattle.contents.specs.Written.{Wordy};
 ghost use Rattle.book.specs.Promises.{Writes};
 
-// ---- the refusals but 29, or 0
+// ---- the refusals but 29
 
-fn setting_fault(setting: Setting) -> u8
-    ensures { λ r. ⌜ SettingNumber setting r ⌝ }
-{
-    let verdict = setting::validate(setting);
-    match verdict {
-        Verdict::Accepted => 0,
-        Verdict::Refused(k) => k.number,
-    }
-}
-
-fn refusal(setting: Setting, pages: u64, row: &[u16]) -> u8
+fn asked(setting: Setting, pages: u64, row: &[u16]) -> Verdict
     ensures { λ r. ⌜ Asked setting pages (now (row .entry)) r ⌝ }
 {
-    let number = setting_fault(setting);
-    if number != 0 {
-        return number;
-    }
+    let verdict = setting::validate(setting);
+    let Verdict::Accepted = verdict else {
+        return verdict;
+    };
     if 65535 < pages {
-        return 42;
+        return Verdict::Refused(refusals::by(42));
     }
-    row_fault(setting, pages as usize, row)
+    check_row(setting, pages as usize, row)
 }
 
 // ---- the words
@@ -67,7 +57,7 @@ fn write_contents(setting: Setting, p: usize, row: &[u16], out: &mut [u16])
 
 // The book of a setting and a row that no number but 29 refuses.
 fn write_book(setting: Setting, p: usize, row: &[u16], out: &mut [u16]) -> Answer
-    requires { ⌜ Asked setting p (now row) 0 ⌝ }
+    requires { ⌜ AskedNone setting p (now row) ⌝ }
     requires { ⌜ Wordy setting ⌝ }
     requires { ⌜ RowFits p (now row) ⌝ }
     ensures { λ r. ⌜ Writes setting p (now (row .entry)) (now (out .entry)) (now (out .exit)) r ⌝ }
@@ -81,13 +71,13 @@ fn write_book(setting: Setting, p: usize, row: &[u16], out: &mut [u16]) -> Answe
     Answer::Done(words)
 }
 
-// The book of `pages` images that stand in a row: the setting's refusals, 42, then 20 and 21 page by page, 29.
+// The book of `pages` images that stand in a row: the setting's refusals, 42, then 50 to 56 and 21 page by page, 29.
 pub fn write(setting: Setting, pages: u64, row: &[u16], out: &mut [u16]) -> Answer
     ensures { λ r. ⌜ Writes setting pages (now (row .entry)) (now (out .entry)) (now (out .exit)) r ⌝ }
 {
-    let number = refusal(setting, pages, row);
-    if number != 0 {
-        return Answer::Refused(refusals::by(number));
-    }
-    write_book(setting, pages as usize, row, out)
+    let verdict = asked(setting, pages, row);
+    let Verdict::Refused(why) = verdict else {
+        return write_book(setting, pages as usize, row, out);
+    };
+    Answer::Refused(why)
 }

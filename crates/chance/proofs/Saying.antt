@@ -1,5 +1,5 @@
 -- What draw and rank say, by the tests in their order: one law for each return. Assumes nothing.
-use mathlib.Core.Path.{_≡_, sym, ap, _∙_}
+use mathlib.Core.Path.{_≡_, refl, sym, ap, _∙_}
 use mathlib.Core.Bool.{false, not, _||_}
 use mathlib.Core.List.{List, [], _∷_}
 use Prim.Native.Nat.{ℕ, _+_, _≤_, _<_}
@@ -17,7 +17,8 @@ use Rattle.rules.specs.Chance.{outcomes, drawn, afterDraw, rankOf, canRank}
 use Rattle.rules.specs.Calls.{Draw, drawSays, rankSays}
 use Rattle.rules.specs.Tables.{Table, by}
 use Rattle.rules.specs.Says.{Says, refuses, gives, byTable}
-use Rattle.rules.specs.Promises.{Draws, Ranks}
+use Rattle.rules.specs.Orders.{drawRows, rankRows}
+use Rattle.rules.specs.Promises.{Draws, Ranks, Faulty}
 use Rattle.rules.specs.declared.Drawn.{Drawn}
 use Rattle.rules.specs.declared.Number.{Number}
 use Rattle.rules.specs.declared.Number.the-variants.{Refused}
@@ -28,7 +29,7 @@ use Rattle.boards.specs.Marks.{unmarked}
 use Rattle.outcomes.specs.Odds.{Stands}
 use Rattle.outcomes.specs.declared.odds.Odds.{Odds}
 use Rattle.outcomes.proofs.Marking.{count-eq}
-use Rattle.outcomes.proofs.Rows.{not-formed, none-due, too-many, none-holds}
+use Rattle.outcomes.proofs.Rows.{faulty-first, none-due, too-many, none-holds}
 use Rattle.chance.specs.Answers.{drawOf, Ready, Answers, Refuses}
 use Rattle.chance.specs.Ranking.{Rankable, Ranked}
 use Rattle.chance.proofs.Bounds.{size-le, count-fits}
@@ -44,11 +45,8 @@ words-fit w board o p s = omega (arith, free-short (stateOf w), s .area-max, s .
 
 module _ (w : List ℕ) (i : ℕ) (old list : List ℕ) (d : Drawn) where
   -- 27 and 29
-  abbrev drawRows : Table
-  drawRows =
-      (by 27, not (ltb i (outcomes (stateOf w))))
-      ∷ (by 29, ltb (length old) (length (imageOf (afterDraw (stateOf w) i))) || ltb (length list) (length (drawn (stateOf w) i)))
-      ∷ []
+  abbrev lastRows : Table
+  lastRows = drawRows w i (length old) (length list)
 
   abbrev answer : Says Draw
   answer = gives (drawOf w i)
@@ -57,31 +55,31 @@ module _ (w : List ℕ) (i : ℕ) (old list : List ℕ) (d : Drawn) where
   promised new newList said e a = record { answer = rw e (a .answer); cells = rw e (a .cells); words = rw e (a .words); list = rw e (a .list) }
 
   -- a refusal leaves both buffers as they were
-  refusing : (k : ℕ) → drawSays w i (length old) (length list) ≡ refuses (by k) → (x : Refusal) → x ≡ by k → Refuses x d → Draws w i old old list list d
+  refusing : (k : Refusal) → drawSays w i (length old) (length list) ≡ refuses k → (x : Refusal) → x ≡ k → Refuses x d → Draws w i old old list list d
   refusing k e x q f = record { answer = rw e (f .says-so ∙ ap refuses q); cells = rw e (f .none); words = rw e; list = rw e }
 
-  pub draw-20 : wellFormed w ≡ false → (x : Refusal) → x ≡ by 20 → Refuses x d → Draws w i old old list list d
+  pub draw-faulty : wellFormed w ≡ false → (x : Refusal) → Faulty w x → Refuses x d → Draws w i old old list list d
   unfolding drawSays
-  draw-20 e = refusing 20 (not-formed _ answer w e)
+  draw-faulty e x f = refusing x (faulty-first lastRows answer w e x f) x refl
 
   module _ (s : Sound w) where
     pub draw-23 : dueIn w ≡ 0 → (x : Refusal) → x ≡ by 23 → Refuses x d → Draws w i old old list list d
     unfolding drawSays
-    draw-23 z = refusing 23 (none-due drawRows answer w s z)
+    draw-23 z = refusing (by 23) (none-due lastRows answer w s z)
 
     module _ (n : dueIn w ≡ 0 → ⊥) (board : List ℕ) (o : Odds) (p : Stands w board o) where
       pub draw-28 : o .count ≡ 0 → (x : Refusal) → x ≡ by 28 → Refuses x d → Draws w i old old list list d
       unfolding drawSays
-      draw-28 e = refusing 28 (too-many drawRows answer w s n board o p e)
+      draw-28 e = refusing (by 28) (too-many lastRows answer w s n board o p e)
 
       module _ (c : o .count ≡ 0 → ⊥) where
-        further : drawSays w i (length old) (length list) ≡ byTable drawRows answer
+        further : drawSays w i (length old) (length list) ≡ byTable lastRows answer
         unfolding drawSays
-        further = none-holds drawRows answer w s n board o p c
+        further = none-holds lastRows answer w s n board o p c
 
         pub draw-27 : o .count ≤ i → (x : Refusal) → x ≡ by 27 → Refuses x d → Draws w i old old list list d
         unfolding byTable
-        draw-27 h = refusing 27 (further ∙ rw (le-ltb i (outcomes (stateOf w)) (let e = count-eq w board o p c in omega arith)))
+        draw-27 h = refusing (by 27) (further ∙ rw (le-ltb i (outcomes (stateOf w)) (let e = count-eq w board o p c in omega arith)))
 
         module _ (h : i < o .count) where
           below : i < outcomes (stateOf w)
@@ -96,7 +94,7 @@ module _ (w : List ℕ) (i : ℕ) (old list : List ℕ) (d : Drawn) where
           pub draw-29 : length old < length w + o .size → (x : Refusal) → x ≡ by 29 → Refuses x d → Draws w i old old list list d
           unfolding byTable
           draw-29 l =
-              refusing 29
+              refusing (by 29)
               (further ∙ rw (lt-ltb i (outcomes (stateOf w)) below, lt-ltb (length old) (length (imageOf (afterDraw (stateOf w) i))) (omega (arith, long))))
 
           module _ (k : length w + o .size ≤ length old) where
@@ -106,7 +104,7 @@ module _ (w : List ℕ) (i : ℕ) (old list : List ℕ) (d : Drawn) where
             pub list-29 : length list < o .size → (x : Refusal) → x ≡ by 29 → Refuses x d → Draws w i old old list list d
             unfolding byTable
             list-29 l =
-                refusing 29
+                refusing (by 29)
                 (further ∙ rw (lt-ltb i (outcomes (stateOf w)) below, fits, lt-ltb (length list) (length (drawn (stateOf w) i)) (omega (arith, cells-long))))
 
             module _ (l : o .size ≤ length list) where
@@ -132,31 +130,27 @@ draw-ready w i o board room more p s n c h k l = record {
 -- ---- rank
 
 module _ (w l : List ℕ) where
-  -- 30
-  abbrev rankRows : Table
-  rankRows = (by 30, not (canRank (stateOf w) l)) ∷ []
-
   abbrev index : Says ℕ
   index = gives (rankOf (stateOf w) l)
 
-  pub rank-20 : wellFormed w ≡ false → (x : Refusal) → x ≡ by 20 → Ranks w l (Refused x)
+  pub rank-faulty : wellFormed w ≡ false → (x : Refusal) → Faulty w x → Ranks w l (Refused x)
   unfolding rankSays
-  rank-20 e x q = record { answer = ap refuses q ∙ sym (not-formed _ index w e) }
+  rank-faulty e x f = record { answer = sym (faulty-first (rankRows w l) index w e x f) }
 
   module _ (s : Sound w) where
     pub rank-23 : dueIn w ≡ 0 → (x : Refusal) → x ≡ by 23 → Ranks w l (Refused x)
     unfolding rankSays
-    rank-23 z x q = record { answer = ap refuses q ∙ sym (none-due rankRows index w s z) }
+    rank-23 z x q = record { answer = ap refuses q ∙ sym (none-due (rankRows w l) index w s z) }
 
     module _ (n : dueIn w ≡ 0 → ⊥) (board : List ℕ) (o : Odds) (p : Stands w board o) where
       pub rank-28 : o .count ≡ 0 → (x : Refusal) → x ≡ by 28 → Ranks w l (Refused x)
       unfolding rankSays
-      rank-28 e x q = record { answer = ap refuses q ∙ sym (too-many rankRows index w s n board o p e) }
+      rank-28 e x q = record { answer = ap refuses q ∙ sym (too-many (rankRows w l) index w s n board o p e) }
 
       module _ (c : o .count ≡ 0 → ⊥) where
         ranked : rankSays w l ≡ (refuses (by 30) if not (canRank (stateOf w) l) else index)
         unfolding rankSays byTable
-        ranked = none-holds rankRows index w s n board o p c
+        ranked = none-holds (rankRows w l) index w s n board o p c
 
         pub rank-30 : (length l ≡ o .size → ⊥) → (x : Refusal) → x ≡ by 30 → Ranks w l (Refused x)
         rank-30 h x q =

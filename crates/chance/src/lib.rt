@@ -2,6 +2,7 @@
 mod next;
 mod ranks;
 
+use image::fault_in;
 use image::well_formed;
 use next::draw_due;
 use next::refused;
@@ -11,32 +12,32 @@ use rules::Drawn;
 use rules::Number;
 ghost use Rattle.rules.specs.Promises.{Counts, Draws, Ranks};
 
-// Refusals 20, 23, 28.
+// Refusals 50 to 56, 23, 28.
 pub fn count(image: &[u16]) -> Number
     ensures { λ r. ⌜ Counts (now (image .entry)) r ⌝ }
 {
     if !well_formed(image) {
-        return Number::Refused(refusals::by(20));
+        return Number::Refused(fault_in(image));
     }
     count_due(image)
 }
 
-// Refusals 20, 23, 28, 27, 29. The next image goes to `out`, the cells in the order drawn to `list`.
+// Refusals 50 to 56, 23, 28, 27, 29. The next image goes to `out`, the cells in the order drawn to `list`.
 pub fn draw(image: &[u16], index: u64, out: &mut [u16], list: &mut [u16]) -> Drawn
     ensures { λ r. ⌜ Draws (now (image .entry)) index (now (out .entry)) (now (out .exit)) (now (list .entry)) (now (list .exit)) r ⌝ }
 {
     if !well_formed(image) {
-        return refused(refusals::by(20));
+        return refused(fault_in(image));
     }
     draw_due(image, index, out, list)
 }
 
-// Refusals 20, 23, 28, 30.
+// Refusals 50 to 56, 23, 28, 30.
 pub fn rank(image: &[u16], list: &[u16]) -> Number
     ensures { λ r. ⌜ Ranks (now (image .entry)) (now (list .entry)) r ⌝ }
 {
     if !well_formed(image) {
-        return Number::Refused(refusals::by(20));
+        return Number::Refused(fault_in(image));
     }
     rank_due(image, list)
 }

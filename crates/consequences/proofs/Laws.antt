@@ -10,7 +10,7 @@ use mir.Val.{Fits}
 use mir.Syntax.{w64}
 use borrow.Author.Tests.{not-true, not-false}
 use Rattle.lists.specs.Choice.{bit}
-use Rattle.lists.specs.Below.{countBelow, sumBelow}
+use Rattle.lists.specs.Below.{countBelow, sumBelow, lowestFrom}
 use Rattle.lists.specs.Lists.{member}
 use Rattle.lists.specs.Search.{foundIn, isFound}
 use Rattle.lists.specs.declared.Found.{Found}
@@ -21,8 +21,9 @@ use Rattle.rules.specs.declared.Event.{Event}
 use Rattle.rules.specs.Events.{dies, byBody, blank}
 use Rattle.judge.specs.declared.Judged.{Judged}
 use Rattle.judge.specs.World.{untouched}
-use Rattle.judge.specs.Loops.{Filling, Seeking, Passing}
-use Rattle.judge.proofs.Loops.{fill-none, fill-next, seek-next, seek-all, pass-here, pass-on, pass-all}
+use Rattle.judge.specs.Loops.{Filling, Seeking}
+use Rattle.judge.proofs.Loops.{fill-none, fill-next, seek-next, seek-all}
+use Rattle.lists.proofs.Lowest.{Passing, pass-here, pass-on, pass-all}
 use Rattle.consequences.specs.declared.after.After.{After}
 use Rattle.consequences.specs.declared.after.Tally.{Tally}
 use Rattle.consequences.specs.After.{settled, settledAt, gone, cells, living, causes, sizeOf, sizes, PartIn, InImage, Short, Counted, Counting, holdsIn, killerIn, creditedTo, HasCell, Holder, KilledBy, Credited, eventAt}
@@ -120,16 +121,20 @@ module _ (w : List ℕ) (i : ℕ) (a : After) (q : PartIn w i a) (k : ℕ) (e : 
 pub part-in : (w : List ℕ) (all : List After) (n : ℕ) → InImage w all n → (j : ℕ) → j < n → PartIn w j (getD all j gone)
 part-in w all n h j l = h .parts j l
 
-module _ (w : List ℕ) (all : List After) (n cell j : ℕ) (q : Passing (holdsIn w all cell) n j) where
+-- none of the snakes before j holds the cell
+abbrev pub NoHolder : List ℕ → List After → ℕ → ℕ → ℕ → Type 0
+NoHolder w all n cell j = Passing (holdsIn w all cell) (lowestFrom (holdsIn w all cell) 0 n) n j
+
+module _ (w : List ℕ) (all : List After) (n cell j : ℕ) (q : NoHolder w all n cell j) where
   module _ (l : j < n) (b : Bool) (h : HasCell w j (getD all j gone) cell b) where
     pub holder-here : b ≡ true → Holder w all n cell j
-    holder-here t = record { is = pass-here (holdsIn w all cell) n j q l (sym (h .is) ∙ t) }
+    holder-here t = record { is = pass-here (holdsIn w all cell) n _ j q l (sym (h .is) ∙ t) }
 
-    pub holder-on : b ≡ false → Passing (holdsIn w all cell) n (j + 1)
-    holder-on t = pass-on (holdsIn w all cell) n j q l (sym (h .is) ∙ t)
+    pub holder-on : b ≡ false → NoHolder w all n cell (j + 1)
+    holder-on t = pass-on (holdsIn w all cell) n _ j q l (sym (h .is) ∙ t)
 
   pub holder-none : n ≤ j → Holder w all n cell j
-  holder-none l = record { is = pass-all (holdsIn w all cell) n j q l }
+  holder-none l = record { is = pass-all (holdsIn w all cell) n _ j q l }
 
 module _ (w : List ℕ) (all : List After) (n i : ℕ) (b : Bool) (e : b ≡ byBody (getD all i gone .cause)) where
   pub killed-so : b ≡ true → (r : ℕ) → Holder w all n (getD all i gone .cell) r → KilledBy w all n i r

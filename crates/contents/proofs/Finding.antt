@@ -10,7 +10,7 @@ use lib.ListN.{length, getD}
 use borrow.Author.Tests.{eqb-true, eq-eqb, lt-ltb, le-ltb, ltb-true, ltb-false, leb-false, not-true, not-false}
 use Rattle.lists.specs.Below.{allBelow}
 use Rattle.lists.specs.Lists.{all}
-use Rattle.rules.specs.Tables.{Table, noneHold, by}
+use Rattle.rules.specs.Tables.{Table, noneHold, by, byWord}
 use Rattle.lists.proofs.Tests.{ordered, less, more, and-left, and-right}
 use Rattle.lists.proofs.Lists.{all-append}
 use Rattle.lists.proofs.Below.{all-at, some-never}
@@ -95,14 +95,24 @@ module _ (c : List ℕ) (n : ℕ) (a : Accepted c n) (i : ℕ) (h : i < pagesIn 
 
 -- ---- what is said
 
+-- a refusal of that number, and no word
+abbrev oneNumber : ℕ → Refusal → Bool
+oneNumber k m = eqb (m .number) k && eqb (m .word) 0
+
+one-number : (k : ℕ) (m : Refusal) → oneNumber k m ≡ true → m ≡ by k
+one-number k m h =
+    let n : m .number ≡ k = eqb-true (m .number) k (and-left _ _ h) in
+    let z : m .word ≡ 0 = eqb-true (m .word) 0 (and-right (eqb (m .number) k) _ h) in
+    λ i. byWord (n i) (z i)
+
 -- a table of one number refuses by it
-by-one : {A : Type 0} (k : ℕ) (t : Table) (r : Says A) → all (λ (e : Refusal × Bool). eqb (e .0 .number) k) t ≡ true → noneHold t ≡ false → byTable t r ≡ refuses (by k)
+by-one : {A : Type 0} (k : ℕ) (t : Table) (r : Says A) → all (λ (e : Refusal × Bool). oneNumber k (e .0)) t ≡ true → noneHold t ≡ false → byTable t r ≡ refuses (by k)
 unfolding byTable all
 by-one k [] r n h = absurd (true≢false h)
-by-one k (e ∷ es) r n h = go (e .0) (e .1) (eqb-true (e .0 .number) k (and-left _ _ n)) (λ q. by-one k es r (and-right (eqb (e .0 .number) k) _ n) q) h
+by-one k (e ∷ es) r n h = go (e .0) (e .1) (one-number k (e .0) (and-left _ _ n)) (λ q. by-one k es r (and-right (oneNumber k (e .0)) _ n) q) h
   where
-    go : (m : Refusal) (t : Bool) → m .number ≡ k → (noneHold es ≡ false → byTable es r ≡ refuses (by k)) → (not t && noneHold es) ≡ false → (refuses m if t else byTable es r) ≡ refuses (by k)
-    go m true z f q = ap (λ (n : ℕ). refuses (by n)) z
+    go : (m : Refusal) (t : Bool) → m ≡ by k → (noneHold es ≡ false → byTable es r ≡ refuses (by k)) → (not t && noneHold es) ≡ false → (refuses m if t else byTable es r) ≡ refuses (by k)
+    go m true z f q = ap refuses z
     go m false z f q = f q
 
 module _ (c : List ℕ) (n i : ℕ) where

@@ -1,6 +1,6 @@
 -- The flat forms lose nothing: what is told, read again, is what it was; every setting can be said; a number that is no 32-bit grid is refused
 -- by the grid's own number. Assumes nothing.
-use Prim.Native.Nat.{ℕ, _-_, _<_, _≤_}
+use Prim.Native.Nat.{ℕ, _+_, _-_, _*_, _/_, _%_, _<_, _≤_}
 use mathlib.Core.Path.{_≡_, refl, sym, ap, _∙_}
 use mathlib.Core.Bool.{Bool, true, false}
 use mathlib.Core.List.{List, [], _∷_}
@@ -15,7 +15,7 @@ use Rattle.lists.specs.Below.{eachBelow}
 use Rattle.lists.proofs.Below.{each-ext, each-back}
 use Rattle.rules.specs.Events.{blank}
 use Rattle.rules.specs.Setting.{settingOrder}
-use Rattle.rules.specs.Tables.{by}
+use Rattle.rules.specs.Tables.{by, byWord}
 use Rattle.rules.specs.Says.{refuses, byTable}
 use Rattle.rules.specs.Calls.{spaceSays}
 use Rattle.rules.specs.declared.Refusal.{Refusal}
@@ -28,7 +28,7 @@ use Rattle.rules.specs.declared.Event.{Event}
 use Rattle.events.specs.Causes.{causeIn, causeNumber}
 use Rattle.standing.specs.Standing.{fresh}
 use Rattle.standing.specs.declared.Match.{Match}
-use Rattle.flat.specs.Flat.{flagIn, limitIn, gridIn, settingIn, eventIn, eventBytes, eventsBytes, refusalNumber}
+use Rattle.flat.specs.Flat.{flagIn, limitIn, gridIn, settingIn, eventIn, eventBytes, eventsBytes, refusalNumber, refusalIn}
 use Rattle.flat.specs.Games.{eventsIn, matchIn, matchNumbers}
 use Rattle.flat.proofs.Read.{no-grid}
 
@@ -92,8 +92,19 @@ match-back m p q = λ i. record {
 
 -- ---- a refusal
 
-pub refusal-back : (k : Refusal) → by (refusalNumber k) ≡ k
-refusal-back k = refl
+-- a number below 256 and a word below 65,536 are told by one number
+module _ (k : Refusal) (n : k .number < 256) (s : k .word < 65536) where
+  told-is : refusalNumber k ≡ k .number + 256 * k .word
+  told-is = omega arith
+
+  number-told : refusalNumber k % 256 ≡ k .number
+  number-told = omega (arith, told-is)
+
+  word-told : refusalNumber k / 256 ≡ k .word
+  word-told = omega (arith, told-is)
+
+  pub refusal-back : refusalIn (refusalNumber k) ≡ k
+  refusal-back = λ i. byWord (number-told i) (word-told i)
 
 -- ---- a setting, as a caller says it
 

@@ -1,5 +1,5 @@
 -- What a caller's flat numbers mean, and what is told in flat numbers. Assumes nothing.
-use Prim.Native.Nat.{ℕ, _-_}
+use Prim.Native.Nat.{ℕ, _+_, _-_, _*_, _/_, _%_}
 use mathlib.Core.Bool.{Bool, not}
 use mathlib.Core.List.{List, [], _∷_}
 use lib.Dec.{eqb, ltb}
@@ -9,6 +9,7 @@ use lib.ListN.{getD}
 use Rattle.lists.specs.Choice.{_if_else_, bit}
 use Rattle.lists.specs.Below.{eachBelow}
 use Rattle.rules.specs.Events.{blank}
+use Rattle.rules.specs.Tables.{byWord}
 use Rattle.events.specs.Causes.{causeNumber, causeIn}
 use Rattle.rules.specs.declared.Limit.{Limit}
 use Rattle.rules.specs.declared.Limit.the-variants.{Unset, Is}
@@ -70,9 +71,13 @@ eventIn e = record {
 
 -- ---- what is told
 
--- a refusal as one number; what is 256 and above is free for more than the paper's number
+-- a refusal as one number: the paper's, and 256 times the word. No refusal's word is above 65,535 (proofs/Words: `fault-word`)
 abbrev pub refusalNumber : Refusal → ℕ
-refusalNumber k = k .number
+refusalNumber k = k .number + 256 * (k .word % 65536)
+
+-- and what such a number says
+abbrev pub refusalIn : ℕ → Refusal
+refusalIn r = byWord (r % 256) (r / 256)
 
 abbrev pub eventBytes : Event → List ℕ
 eventBytes e =

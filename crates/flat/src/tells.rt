@@ -7,11 +7,11 @@ ghost use mathlib.Core.Path.{_≡_};
 ghost use Rattle.lists.specs.Choice.{bit};
 ghost use Rattle.flat.specs.Flat.{refusalNumber, eventBytes, eventsBytes, hitWords, hitsWords};
 
-// 256 and above is free for more than the paper's number.
+// The number, and 256 times the word: no refusal's word is above 65,535.
 pub fn refusal_number(r: Refusal) -> u64
     ensures { λ n. ⌜ n ≡ refusalNumber r ⌝ }
 {
-    r.number as u64
+    r.number as u64 + 256 * (r.word % 65536) as u64
 }
 
 pub fn bit(flag: bool) -> u64

@@ -1,4 +1,4 @@
-// The state image in 16-bit words: what its parts are, and how words are written. It passes on the check of `wellformed` and the writers of `cells`.
+// The state image in 16-bit words: what its parts are, and how words are written. It passes on the check of `wellformed`, what `faults` finds and the writers of `cells`.
 mod parts;
 mod table;
 mod words;
@@ -7,6 +7,8 @@ pub use cells::count_left;
 pub use cells::put_all;
 pub use cells::write_body;
 pub use cells::write_left;
+pub use faults::check_image;
+pub use faults::fault_in;
 pub use lists::Found;
 pub use parts::body;
 pub use parts::find_in;

@@ -17,7 +17,7 @@ use Rattle.lists.specs.Search.{foundIn, isFound}
 use Rattle.lists.specs.declared.Found.{Found}
 use Rattle.lists.specs.declared.Found.the-variants.{At, Nothing}
 use Rattle.lists.proofs.Lists.{rest-is, part-long}
-use Rattle.lists.proofs.Lowest.{some-lowest}
+use Rattle.lists.proofs.Lowest.{some-lowest, Passing, pass-here, pass-on, pass-all}
 use Rattle.lists.proofs.Members.{place-lt}
 use Rattle.lists.proofs.Search.{found-member, found-holds, found-place}
 use Rattle.lists.proofs.Missing.{missing-part}
@@ -39,10 +39,10 @@ use Rattle.rules.specs.declared.Setting.{Setting}
 use Rattle.judge.specs.declared.Move.{Move}
 use Rattle.judge.specs.declared.Judged.{Judged}
 use Rattle.judge.specs.World.{still, shown, world, untouched, movesOf, causesOf, judgedWorld, movedWorld, Judges}
-use Rattle.judge.specs.Loops.{Filling, Seeking, Passing}
+use Rattle.judge.specs.Loops.{Filling, Seeking}
 use Rattle.judge.specs.Moving.{moveAt}
 use Rattle.judge.specs.Judging.{Rests, RestIn, RestFound, Judging, meetsAt, hitIn, HitFits, stopsBy, stopsAt, stopFound, otherHit, bodyCause, Meets, Stops, Stopped, OnBody, judgedAt}
-use Rattle.judge.proofs.Loops.{fill-none, fill-next, fill-all, seek-next, seek-all, pass-here, pass-on, pass-all}
+use Rattle.judge.proofs.Loops.{fill-none, fill-next, fill-all, seek-next, seek-all}
 use Rattle.judge.proofs.Moving.{origin-cell, shown-move, move-part, move-short, move-cell, move-inner}
 
 -- ---- one cause
@@ -193,19 +193,23 @@ module _ (w : List ℕ) (i j : ℕ) (m : Move) (cell : ℕ) where
     stop-place : k ≡ place cell rest
     stop-place = found-place cell rest k stop-rest
 
+-- none of the snakes before j stops a head there
+abbrev pub NoStop : List ℕ → List Move → ℕ → ℕ → ℕ → ℕ → Type 0
+NoStop w all n i cell j = Passing (stopsAt w all i cell) (lowestFrom (stopsAt w all i cell) 0 n) n j
+
 module _ (w : List ℕ) (all : List Move) (n i cell : ℕ) where
   module _ (j : ℕ) (l : j < n) (r : Found) (s : Stops w i j (getD all j still) cell r) where
-    pub other-on : Passing (stopsAt w all i cell) n j → r ≡ Nothing → Passing (stopsAt w all i cell) n (j + 1)
-    other-on q e = pass-on (stopsAt w all i cell) n j q l (sym (stop-told w i j (getD all j still) cell) ∙ ap isFound (sym (s .is) ∙ e))
+    pub other-on : NoStop w all n i cell j → r ≡ Nothing → NoStop w all n i cell (j + 1)
+    other-on q e = pass-on (stopsAt w all i cell) n _ j q l (sym (stop-told w i j (getD all j still) cell) ∙ ap isFound (sym (s .is) ∙ e))
 
     module _ (k : ℕ) (e : r ≡ At k) where
       pub hit-fits : Judging w all n i → HitFits j k
       hit-fits q = found-fits w all n i q j l cell k (stop-rest w i j (getD all j still) cell k (sym e ∙ s .is))
 
-      pub other-here : Passing (stopsAt w all i cell) n j → (h : Hit) → h ≡ hitIn j k → Stopped w all n i cell h
+      pub other-here : NoStop w all n i cell j → (h : Hit) → h ≡ hitIn j k → Stopped w all n i cell h
       other-here q h p =
           let here : At k ≡ stopFound w i j (getD all j still) cell = sym e ∙ s .is in
-          let low = pass-here (stopsAt w all i cell) n j q l (sym (stop-told w i j (getD all j still) cell) ∙ ap isFound (sym here)) in
+          let low = pass-here (stopsAt w all i cell) n _ j q l (sym (stop-told w i j (getD all j still) cell) ∙ ap isFound (sym here)) in
           record {
             is = p
                 ∙ ap (hitIn j) (stop-place w i j (getD all j still) cell k here)
@@ -213,11 +217,11 @@ module _ (w : List ℕ) (all : List Move) (n i cell : ℕ) where
                 ∙ ap (λ (j : ℕ). hitIn j (place cell (world w all j .rest)) if ltb j n else noHit) low;
           }
 
-  pub other-none : (j : ℕ) → Passing (stopsAt w all i cell) n j → n ≤ j → (h : Hit) → h ≡ noHit → Stopped w all n i cell h
+  pub other-none : (j : ℕ) → NoStop w all n i cell j → n ≤ j → (h : Hit) → h ≡ noHit → Stopped w all n i cell h
   other-none j q l h p = record {
     is = p
         ∙ sym (ap (λ (b : Bool). hitIn j (place cell (world w all j .rest)) if b else noHit) (le-ltb j n l))
-        ∙ ap (λ (j : ℕ). hitIn j (place cell (world w all j .rest)) if ltb j n else noHit) (pass-all (stopsAt w all i cell) n j q l);
+        ∙ ap (λ (j : ℕ). hitIn j (place cell (world w all j .rest)) if ltb j n else noHit) (pass-all (stopsAt w all i cell) n _ j q l);
   }
 
   -- a snake is hit exactly where one stops the head

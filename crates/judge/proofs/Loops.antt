@@ -1,14 +1,13 @@
 -- The turns of a loop over the snakes: its start, one more, its end. Assumes nothing.
 use Prim.Native.Nat.{ℕ, _+_, _<_, _≤_}
-use native.Mathlib.Nat.{sub-zero}
 use native.Mathlib.Omega.{arith}
 use mathlib.Core.Path.{_≡_, sym, ap, ap₂, _∙_}
 use mathlib.Core.Bool.{Bool, true, false, _||_}
 use mathlib.Core.List.{List}
 use lib.ListN.{replicate, set}
-use Rattle.lists.specs.Below.{someBelow, lowestFrom, filled}
-use Rattle.lists.proofs.Below.{some-none, some-next, some-found, filled-none, filled-more, lowest-here, lowest-next, lowest-end}
-use Rattle.judge.specs.Loops.{Filling, Seeking, Passing}
+use Rattle.lists.specs.Below.{someBelow, filled}
+use Rattle.lists.proofs.Below.{some-none, some-next, some-found, filled-none, filled-more}
+use Rattle.judge.specs.Loops.{Filling, Seeking}
 
 module _ {A : Type 0} (f : ℕ → A) (blank : A) (n : ℕ) where
   pub fill-none : n ≤ 8 → Filling f blank n 0 (replicate 8 blank)
@@ -43,18 +42,3 @@ module _ (p : ℕ → Bool) (n : ℕ) where
 
     pub seek-on : Seeking p n i false → x ≡ false → Seeking p n (i + 1) false
     seek-on q t = record { along = omega arith; so-far = sym (some-next p i ∙ ap₂ _||_ (sym (q .so-far)) (sym e ∙ t)) }
-
--- the lowest that passes
-module _ (p : ℕ → Bool) (n : ℕ) where
-  pub pass-none : Passing p n 0
-  pass-none = record { along = omega arith; so-far = rw sub-zero }
-
-  module _ (i : ℕ) (q : Passing p n i) where
-    pub pass-here : i < n → p i ≡ true → i ≡ lowestFrom p 0 n
-    pass-here l e = sym (q .so-far ∙ lowest-here p i n l e)
-
-    pub pass-on : i < n → p i ≡ false → Passing p n (i + 1)
-    pass-on l e = record { along = omega arith; so-far = q .so-far ∙ lowest-next p i n l e }
-
-    pub pass-all : n ≤ i → i ≡ lowestFrom p 0 n
-    pass-all l = sym (q .so-far ∙ lowest-end p i n l)

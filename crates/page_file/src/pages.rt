@@ -1,43 +1,50 @@
 // A page of the book, found by its contents and read from the file.
 use crate::file::read_words;
 use contents::PageFound;
+use lists::smaller;
+use rules::Refusal;
+use rules::Verdict;
 ghost use mathlib.Core.Path.{_≡_};
 ghost use Prim.Native.Nat.{_≤_};
 ghost use lib.ListN.{length};
 
-// Whether the file could be read; the number that refuses the page, or 0 and how many words its image has.
+// Whether the file could be read; why the page is refused, or the number 0 and how many words its image has.
 pub struct Loaded {
     pub read: bool,
-    pub number: u8,
+    pub why: Refusal,
     pub len: usize,
 }
 
-fn refused(number: u8) -> Loaded
+fn refused(why: Refusal) -> Loaded
     ensures { λ q. ⌜ q .len ≡ 0 ⌝ }
 {
     Loaded {
         read: true,
-        number,
+        why,
         len: 0,
     }
 }
 
-fn number_of(found: PageFound) -> u8 {
+fn why_not_found(found: PageFound) -> Refusal {
     match found {
-        PageFound::Part { start: _, len: _ } => 0,
-        PageFound::Refused(k) => k.number,
+        PageFound::Part { start: _, len: _ } => refusals::by(0),
+        PageFound::Refused(k) => k,
     }
 }
 
-// 20, 21, or 0. Contents in which a page was found have a setting.
-fn fault_of(contents: &[u16], image: &[u16]) -> u8 {
+// 50 to 56, 21, or 0. Contents in which a page was found have a setting.
+fn why_not(contents: &[u16], image: &[u16]) -> Refusal {
     if contents.len() < 17 {
-        return 40;
+        return refusals::by(40);
     }
-    book::image_fault(contents::setting_in(contents), image)
+    let verdict = book::check_page(contents::setting_in(contents), image);
+    match verdict {
+        Verdict::Accepted => refusals::by(0),
+        Verdict::Refused(k) => k,
+    }
 }
 
-// The page's image, at the front of a lent buffer that holds any: a longer part is no image.
+// The page's image, at the front of a lent buffer that holds any and a word more: what is wrong with a longer part shows in so many words.
 pub fn load(
     contents: &[u16],
     words: usize,
@@ -49,26 +56,24 @@ pub fn load(
 {
     let found = contents::find(contents, words, page);
     let PageFound::Part { start, len } = found else {
-        return refused(number_of(found));
+        return refused(why_not_found(found));
     };
-    if image.len() < len {
-        return refused(20);
-    }
-    if !read_words(start, &mut image[0..len], bytes) {
+    let held = smaller(len, image.len());
+    if !read_words(start, &mut image[0..held], bytes) {
         return Loaded {
             read: false,
-            number: 0,
+            why: refusals::by(0),
             len: 0,
         };
     }
-    let number = fault_of(contents, &image[0..len]);
-    if number != 0 {
-        return refused(number);
+    let why = why_not(contents, &image[0..held]);
+    if why.number != 0 {
+        return refused(why);
     }
     Loaded {
         read: true,
-        number: 0,
-        len,
+        why,
+        len: held,
     }
 }
 

@@ -74,7 +74,7 @@ fn put_page(text: &mut [u8], at: usize, book: &[u16], page: u64) -> usize {
             let d = put_each(text, c, book::page_of(book, page));
             put(text, d, b'\n')
         }
-        PageFound::Refused(r) => refuse(text, at, r.number, true),
+        PageFound::Refused(r) => refuse(text, at, r, true),
     }
 }
 

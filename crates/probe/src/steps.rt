@@ -34,7 +34,7 @@ pub fn validate(s: &[u8]) -> Reply {
     };
     match arena::validate(setting) {
         Verdict::Accepted => NOTHING,
-        Verdict::Refused(r) => refused(r.number),
+        Verdict::Refused(r) => refused(r),
     }
 }
 
@@ -69,7 +69,7 @@ fn put_step(text: &mut [u8], at: usize, stepped: Stepped, out: &[u16]) -> usize 
             let d = put_words(text, c, out, n);
             end(text, d, kept(out, n))
         }
-        Answer::Refused(r) => refuse(text, at, r.number, kept(out, 0)),
+        Answer::Refused(r) => refuse(text, at, r, kept(out, 0)),
     }
 }
 
@@ -120,7 +120,7 @@ fn struck(
             let b = put_hits(text, a, hits);
             end(text, b, true)
         }
-        Verdict::Refused(r) => refuse(text, at, r.number, true),
+        Verdict::Refused(r) => refuse(text, at, r, true),
     }
 }
 

@@ -19,7 +19,7 @@ use rules::Number;
 pub fn outcome(answer: Number) -> Reply {
     match answer {
         Number::Value(v) => number(v),
-        Number::Refused(r) => refused(r.number),
+        Number::Refused(r) => refused(r),
     }
 }
 
@@ -48,7 +48,7 @@ fn put_draw(text: &mut [u8], at: usize, drawn: Drawn, out: &[u16], list: &[u16])
             let c = put_words(text, b, list, k);
             end(text, c, kept(out, n) & kept(list, k))
         }
-        Answer::Refused(r) => refuse(text, at, r.number, kept(out, 0) & kept(list, 0)),
+        Answer::Refused(r) => refuse(text, at, r, kept(out, 0) & kept(list, 0)),
     }
 }
 

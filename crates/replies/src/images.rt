@@ -1,4 +1,4 @@
-// The calls on an image alone: whether it is well-formed, and a snake's body.
+// The calls on an image alone: what is wrong with it, and a snake's body.
 use crate::reply::NOTHING;
 use crate::reply::Reply;
 use crate::reply::refused;
@@ -7,13 +7,14 @@ use crate::writing::put_number;
 use crate::writing::put_words;
 use layout::start_at;
 use lists::word_at;
+use rules::Verdict;
 
 // `x W`
-pub fn well_formed(words: &[u16]) -> Reply {
-    if arena::well_formed(words) {
-        return NOTHING;
+pub fn check_image(words: &[u16]) -> Reply {
+    match arena::check_image(words) {
+        Verdict::Accepted => NOTHING,
+        Verdict::Refused(r) => refused(r),
     }
-    refused(20)
 }
 
 // The start word of a snake's record; 0 for a malformed image or no such snake.

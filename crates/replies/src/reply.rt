@@ -1,6 +1,8 @@
 // What most calls say: a letter and at most eight numbers. It is put into the text in one place.
+use crate::writing::has_word;
 use crate::writing::put;
 use crate::writing::put_number;
+use rules::Refusal;
 
 pub struct Reply {
     pub letter: u8,
@@ -30,12 +32,20 @@ pub fn number(v: u64) -> Reply {
     }
 }
 
-pub fn refused(no: u8) -> Reply {
+fn refusal(r: Refusal, count: usize) -> Reply {
     Reply {
         letter: b'r',
-        count: 1,
-        numbers: [no as u64, 0, 0, 0, 0, 0, 0, 0],
+        count,
+        numbers: [r.number as u64, r.word as u64, 0, 0, 0, 0, 0, 0],
     }
+}
+
+// Its number, and for 50 to 56 the word.
+pub fn refused(r: Refusal) -> Reply {
+    if has_word(r) {
+        return refusal(r, 2);
+    }
+    refusal(r, 1)
 }
 
 // The first so many numbers, each after a space.

@@ -51,6 +51,6 @@ pub fn reward(s: &[u8]) -> Reply {
     let event = event_of(&values[7..15]);
     match arena::reward(weights_in(&values), event) {
         Reward::Sum(x) => number(bits_of(x)),
-        Reward::Refused(r) => refused(r.number),
+        Reward::Refused(r) => refused(r),
     }
 }

@@ -25,7 +25,7 @@ fn shape(space: Space) -> Reply {
             numbers: [planes as u64, rows as u64, cols as u64, 0, 0, 0, 0, 0],
         },
         Space::Discrete(n) => number(n as u64),
-        Space::Refused(r) => refused(r.number),
+        Space::Refused(r) => refused(r),
     }
 }
 

@@ -51,7 +51,7 @@ fn put_planes(text: &mut [u8], at: usize, answer: Answer, planes: &[f32]) -> usi
             let c = put_lights(text, b, planes, n);
             end(text, c, planes_kept(planes, n))
         }
-        Answer::Refused(r) => refuse(text, at, r.number, planes_kept(planes, 0)),
+        Answer::Refused(r) => refuse(text, at, r, planes_kept(planes, 0)),
     }
 }
 
@@ -72,7 +72,7 @@ pub fn actor(words: &[u16]) -> Reply {
     match arena::actor(words) {
         Actor::Chance => number(1),
         Actor::Simultaneous => number(0),
-        Actor::Refused(r) => refused(r.number),
+        Actor::Refused(r) => refused(r),
     }
 }
 
@@ -85,7 +85,7 @@ pub fn legal(agent: u64, words: &[u16]) -> Reply {
             numbers: [3, 0, 1, 2, 0, 0, 0, 0],
         },
         Legal::NoAction => number(0),
-        Legal::Refused(r) => refused(r.number),
+        Legal::Refused(r) => refused(r),
     }
 }
 
@@ -98,7 +98,7 @@ pub fn length_cell(words: &[u16]) -> Reply {
             numbers: [1, key, 0, 0, 0, 0, 0, 0],
         },
         LengthCell::NoKey => number(0),
-        LengthCell::Refused(r) => refused(r.number),
+        LengthCell::Refused(r) => refused(r),
     }
 }
 
@@ -114,6 +114,6 @@ pub fn truncation(values: [u64; 9], words: &[u16]) -> Reply {
             count: 8,
             numbers: event_numbers(marked),
         },
-        Truncated::Refused(r) => refused(r.number),
+        Truncated::Refused(r) => refused(r),
     }
 }

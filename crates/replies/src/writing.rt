@@ -4,6 +4,7 @@ use crate::buffers::kept;
 use libc::STDOUT_FILENO;
 use printing::put_item;
 use rules::Answer;
+use rules::Refusal;
 
 pub fn put(text: &mut [u8], at: usize, b: u8) -> usize {
     if text.len() <= at {
@@ -67,10 +68,23 @@ pub fn end(text: &mut [u8], at: usize, kept: bool) -> usize {
     put(text, j, b'\n')
 }
 
+// Whether a refusal has a word: what is wrong with an image.
+pub fn has_word(r: Refusal) -> bool {
+    (50 <= r.number) & (r.number <= 56)
+}
+
+fn put_refusal(text: &mut [u8], at: usize, r: Refusal) -> usize {
+    let i = put_number(text, at, r.number as u64);
+    if has_word(r) {
+        return put_number(text, i, r.word as u64);
+    }
+    i
+}
+
 // The line of a refusal.
-pub fn refuse(text: &mut [u8], at: usize, no: u8, kept: bool) -> usize {
+pub fn refuse(text: &mut [u8], at: usize, r: Refusal, kept: bool) -> usize {
     let i = put(text, at, b'r');
-    let j = put_number(text, i, no as u64);
+    let j = put_refusal(text, i, r);
     end(text, j, kept)
 }
 
@@ -82,6 +96,6 @@ pub fn put_written(text: &mut [u8], at: usize, answer: Answer, out: &[u16]) -> u
             let j = put_words(text, i, out, n);
             end(text, j, kept(out, n))
         }
-        Answer::Refused(r) => refuse(text, at, r.number, kept(out, 0)),
+        Answer::Refused(r) => refuse(text, at, r, kept(out, 0)),
     }
 }

@@ -7,7 +7,7 @@ use native.Mathlib.Omega.{arith}
 use lib.IntN.{ℤ}
 use lib.Ieee.{Float}
 use Rattle.rules.specs.Says.{says, saysVerdict, saysNumber, saysKey, saysActor, saysLegal, saysMark, saysSum, saysSpace}
-use Rattle.rules.specs.Promises.{Turns, Checks, Validates, Starts, Steps, Strikes, Observes, Counts, Draws, Ranks, ActsNext, Allows, Keys, Truncates, Rewards, ObservationSpace, ActionSpace, Parts}
+use Rattle.rules.specs.Promises.{Turns, Checks, Examines, Validates, Starts, Steps, Strikes, Observes, Counts, Draws, Ranks, ActsNext, Allows, Keys, Truncates, Rewards, ObservationSpace, ActionSpace, Parts}
 use Rattle.rules.specs.declared.Heading.{Heading}
 use Rattle.rules.specs.declared.RelativeAction.{RelativeAction}
 use Rattle.rules.specs.declared.Setting.{Setting}
@@ -127,6 +127,9 @@ one-turn h a r q p o = p .answer ∙ sym (o .answer)
 
 pub one-check : (w : List ℕ) (r q : Bool) → Checks w r → Checks w q → r ≡ q
 one-check w r q p o = p .answer ∙ sym (o .answer)
+
+pub one-examination : (w : List ℕ) (r q : Verdict) → Examines w r → Examines w q → r ≡ q
+one-examination w r q p o = verdict-one r q (p .answer ∙ sym (o .answer))
 
 pub one-verdict : (s : Setting) (r q : Verdict) → Validates s r → Validates s q → r ≡ q
 one-verdict s r q p o = verdict-one r q (p .answer ∙ sym (o .answer))

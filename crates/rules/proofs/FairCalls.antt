@@ -4,25 +4,27 @@ use native.Mathlib.Nat.{pos-of-ne-zero, le-refl, le-trans, not-suc-le-zero, le-o
 use native.Mathlib.Omega.{arith}
 use mathlib.Core.Path.{_≡_, refl, sym, ap, subst, _∙_}
 use mathlib.Core.Bool.{Bool, true, false, not}
-use mathlib.Core.List.{List, [], _++_}
+use mathlib.Core.List.{List, [], _∷_, _++_, append-assoc, append-nil}
 use lib.Dec.{ltb, eqb}
-use lib.ListN.{length, take, drop}
+use lib.ListN.{length, getD, take, drop}
 use borrow.Author.Tests.{ltb-true, ltb-false, eqb-false, lt-ltb, le-ltb, ne-eqb, not-false}
 use Rattle.lists.specs.Below.{countBelow}
 use Rattle.lists.specs.Lists.{all, overFront, member, distinct}
 use Rattle.lists.specs.Equal.{sameList}
 use Rattle.lists.specs.Products.{falling, factorial}
-use Rattle.rules.specs.Tables.{Table, noneHold}
+use Rattle.rules.specs.Tables.{Table, by, noneHold}
 use Rattle.lists.proofs.Below.{count-ext}
 use Rattle.lists.proofs.Insert.{over-take}
 use Rattle.rules.proofs.Tables.{row-out}
+use Rattle.rules.proofs.Faults.{none-after, rows-formed, rows-after}
 use Rattle.rules.specs.State.{State}
 use Rattle.rules.specs.Image.{dueIn, imageOf, stateOf, wellFormed}
 use Rattle.rules.specs.Chance.{free, drawSize, outcomes, drawn, withFood, afterDraw, rankOf, canRank}
 use Rattle.rules.specs.Fair.{Fair, Countable, Drawable, DrawWrote, RanksAsOne, Changed, Drawing}
 use Rattle.rules.specs.Births.{afterDraws, Ends, InRange}
 use Rattle.rules.specs.Says.{gives, seen, beside, lent, says}
-use Rattle.rules.specs.Orders.{countOrder, drawOrder, rankOrder}
+use Rattle.rules.specs.Faults.{imageRows}
+use Rattle.rules.specs.Orders.{dueRows, countOrder, drawRows, drawOrder, rankRows, rankOrder}
 use Rattle.rules.specs.Calls.{Draw, countSays, drawSays, rankSays}
 use Rattle.rules.specs.Promises.{Counts, Draws, Ranks}
 use Rattle.rules.specs.declared.Number.{Number}
@@ -43,21 +45,30 @@ use Rattle.rules.proofs.Births.{chain-ends}
 pub fair-image : (w : List ℕ) → wellFormed w ≡ true → Fair (stateOf w)
 fair-image w ok = fair (stateOf w) (state-food w (sound w ok))
 
--- ---- 20, 23 and 28, with which the tables of count, draw and rank begin
+-- ---- 50 to 56, 23 and 28, with which the tables of count, draw and rank begin
 
 module _ (w : List ℕ) where
   -- where more rows follow, none of which holds
   none-holds : (rows : Table) → Countable w → noneHold rows ≡ true → noneHold (countOrder w ++ rows) ≡ true
   unfolding all
-  none-holds rows q h = rw (q .formed, ne-eqb (dueIn w) 0 (λ e. omega (arith, q .due)), le-ltb (2 ^ 64 - 1) (outcomes (stateOf w)) (q .fits), h)
+  none-holds rows q h =
+      ap noneHold (append-assoc (imageRows w) (dueRows w) rows)
+      ∙ none-after w _ (q .formed) (rw (ne-eqb (dueIn w) 0 (λ e. omega (arith, q .due)), le-ltb (2 ^ 64 - 1) (outcomes (stateOf w)) (q .fits), h))
+
+  -- where none holds: the image is well-formed, and no row after its own holds
+  past-image : (rows : Table) → noneHold (countOrder w ++ rows) ≡ true → noneHold (imageRows w ++ (dueRows w ++ rows)) ≡ true
+  past-image rows none = ap noneHold (sym (append-assoc (imageRows w) (dueRows w) rows)) ∙ none
+
+  later-row : (rows : Table) → noneHold (countOrder w ++ rows) ≡ true → (k : ℕ) → getD (dueRows w ++ rows) k (by 0, false) .1 ≡ false
+  later-row rows none k = row-out (dueRows w ++ rows) k (rows-after w (dueRows w ++ rows) (past-image rows none))
 
   countable : (rows : Table) → noneHold (countOrder w ++ rows) ≡ true → Countable w
   countable rows none =
-      let some = eqb-false (dueIn w) 0 (row-out (countOrder w ++ rows) 1 none) in
+      let some = eqb-false (dueIn w) 0 (later-row rows none 0) in
       record {
-        formed = not-false (wellFormed w) (row-out (countOrder w ++ rows) 0 none);
+        formed = rows-formed w (dueRows w ++ rows) (past-image rows none);
         due = pos-of-ne-zero some;
-        fits = ltb-false (2 ^ 64 - 1) (outcomes (stateOf w)) (row-out (countOrder w ++ rows) 2 none);
+        fits = ltb-false (2 ^ 64 - 1) (outcomes (stateOf w)) (later-row rows none 1);
       }
 
   -- the count answers P, the product of k factors from n downward
@@ -65,7 +76,7 @@ module _ (w : List ℕ) where
   unfolding countSays all
   count-answers q r c =
       let p = outcomes (stateOf w) in
-      number-one r (Value p) (c .answer ∙ table-gives (countOrder w) (gives p) (none-holds [] q refl)) ∙ ap Value (fair-image w (q .formed) .count)
+      number-one r (Value p) (c .answer ∙ table-gives (countOrder w) (gives p) (ap noneHold (sym (append-nil (countOrder w))) ∙ none-holds [] q refl)) ∙ ap Value (fair-image w (q .formed) .count)
 
 -- ---- the draw that is answered
 
@@ -84,6 +95,10 @@ module _ (w : List ℕ) (i : ℕ) (old new list cells : List ℕ) (r : Drawn) (p
   abbrev rows : Table
   rows = drawOrder w i (length old) (length list)
 
+  -- those after the image's, 23 and 28
+  abbrev lastRows : Table
+  lastRows = drawRows w i (length old) (length list)
+
   -- with an index below P and room for the image's words and k more, and for k cells, it answers, and says how much it wrote
   pub draw-comes : Drawable w i old list → (r .answer ≡ Done (length w + drawSize (stateOf w))) × (r .cells ≡ drawSize (stateOf w))
   unfolding drawSays all
@@ -91,9 +106,9 @@ module _ (w : List ℕ) (i : ℕ) (old new list cells : List ℕ) (r : Drawn) (p
       let t = stateOf w in
       let long = next-long w (sound w (q .countable .formed)) i (q .below) in
       let many = fair-image w (q .countable .formed) .long i (q .below) in
-      let last : noneHold (drop 3 rows) ≡ true =
+      let last : noneHold lastRows ≡ true =
       rw (lt-ltb i (outcomes t) (q .below), le-ltb (length old) (length (imageOf (afterDraw t i))) (omega (arith, q .room)), le-ltb (length list) (length (drawn t i)) (omega (arith, q .list-room))) in
-      let e = table-gives rows (gives drawing) (none-holds w (drop 3 rows) (q .countable) last) in (
+      let e = table-gives rows (gives drawing) (none-holds w lastRows (q .countable) last) in (
         answer-one (r .answer) (Done (length w + drawSize t)) (p .answer ∙ ap (seen (λ (d : Draw). length (imageOf (d .next)))) e ∙ ap gives long),
         p .cells ∙ ap (beside (λ (d : Draw). length (d .cells)) 0) e ∙ many,
       )
@@ -124,8 +139,8 @@ module _ (w : List ℕ) (i : ℕ) (old new list cells : List ℕ) (r : Drawn) (p
       let none = given .0 in
       let q : drawSays w i (length old) (length list) ≡ gives drawing = table-gives rows (gives drawing) none in
       record {
-        counted = countable w (drop 3 rows) none;
-        below = ltb-true i (outcomes t) (not-false (ltb i (outcomes t)) (row-out rows 3 none));
+        counted = countable w lastRows none;
+        below = ltb-true i (outcomes t) (not-false (ltb i (outcomes t)) (later-row w lastRows none 2));
         words = p .words ∙ ap (lent (λ (d : Draw). imageOf (d .next)) old) q;
         drawn-list = p .list ∙ ap (lent (λ (d : Draw). d .cells) list) q;
         long = sym (given .1);
@@ -170,7 +185,7 @@ module _ (w l : List ℕ) where
   unfolding rankSays all
   ranks-as q h r c =
       let k = rankOf (stateOf w) l in
-      number-one r (Value k) (c .answer ∙ table-gives (rankOrder w l) (gives k) (none-holds w (drop 3 (rankOrder w l)) q (rw h)))
+      number-one r (Value k) (c .answer ∙ table-gives (rankOrder w l) (gives k) (none-holds w (rankRows w l) q (rw h)))
 
 module _ (w : List ℕ) (i : ℕ) (image list : List ℕ) (d : DrawWrote w i image list) where
   list-rank : rankOf (stateOf w) list ≡ i
@@ -190,10 +205,10 @@ module _ (w l : List ℕ) (i : ℕ) (c : Ranks w l (Value i)) where
   none-held = table-given (rankOrder w l) (rankOf (stateOf w) l) i (sym (c .answer))
 
   ranked : Countable w
-  ranked = countable w (drop 3 (rankOrder w l)) (none-held .0)
+  ranked = countable w (rankRows w l) (none-held .0)
 
   can-rank : canRank (stateOf w) l ≡ true
-  can-rank = not-false (canRank (stateOf w) l) (row-out (rankOrder w l) 3 (none-held .0))
+  can-rank = not-false (canRank (stateOf w) l) (later-row w (rankRows w l) (none-held .0) 2)
 
   -- what a draw of the index that a rank answered lists is what was ranked
   pub list-forth : (image list : List ℕ) → DrawWrote w i image list → list ≡ l

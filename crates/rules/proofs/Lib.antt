@@ -30,3 +30,4 @@ pub mod TakenWords
 pub mod FairCalls
 pub mod Tables
 pub mod ChainLimit
+pub mod Faults

@@ -2,7 +2,7 @@
 use Prim.Native.Nat.{ℕ, zero, suc}
 use native.Mathlib.Nat.{suc-ne-zero}
 use native.Mathlib.Omega.{arith}
-use borrow.Author.Tests.{not-true, eq-eqb}
+use borrow.Author.Tests.{not-true, eqb-true, eq-eqb}
 use mathlib.Core.Path.{_≡_, refl, sym, ap, _∙_}
 use mathlib.Core.Bool.{Bool, true, false, not, _&&_, _||_, or-true, false≢true}
 use mathlib.Core.List.{[], _∷_, _++_, append-nil}
@@ -11,7 +11,7 @@ use lib.ListN.{length, getD}
 use Rattle.lists.specs.Choice.{_if_else_, firstOf}
 use Rattle.lists.specs.Lists.{all, any}
 use Rattle.lists.proofs.Tests.{and-left, and-right}
-use Rattle.rules.specs.Tables.{Table, by, fault, noneHold, FirstRow}
+use Rattle.rules.specs.Tables.{Table, byWord, by, fault, noneHold, FirstRow}
 use Rattle.rules.specs.State.{State}
 use Rattle.rules.specs.Image.{imageOf}
 use Rattle.rules.specs.Setting.{settingOrder, settingCheck, initialState}
@@ -20,15 +20,23 @@ use Rattle.rules.specs.Says.{Says, refuses, gives, first, byTable, seen}
 use Rattle.rules.specs.declared.Setting.{Setting}
 use Rattle.rules.specs.declared.Refusal.{Refusal}
 
--- each row has a number, which is not 0
+-- a number that is not 0, and no word
+abbrev pub numberAlone : Refusal → Bool
+numberAlone k = ltb 0 (k .number) && eqb (k .word) 0
+
+-- each row has a number, which is not 0, and no word
 abbrev pub numbered : Table → Bool
-numbered t = all (λ (e : Refusal × Bool). ltb 0 (e .0 .number)) t
+numbered t = all (λ (e : Refusal × Bool). numberAlone (e .0)) t
+
+-- such a refusal is that of its number
+alone-by : (k : Refusal) → numberAlone k ≡ true → k ≡ by (k .number)
+alone-by k h = let z : k .word ≡ 0 = eqb-true (k .word) 0 (and-right (ltb 0 (k .number)) _ h) in λ i. byWord (k .number) (z i)
 
 -- of two tables in a row, the second decides where the first finds nothing
 pub fault-both : (t u : Table) → numbered t ≡ true → fault (t ++ u) ≡ firstOf (fault t) (fault u)
 unfolding fault all
 fault-both [] u h = refl
-fault-both (e ∷ es) u h = go (e .0 .number) (e .1) (and-left _ _ h) (fault-both es u (and-right (ltb 0 (e .0 .number)) _ h))
+fault-both (e ∷ es) u h = go (e .0 .number) (e .1) (and-left _ _ (and-left _ _ h)) (fault-both es u (and-right (numberAlone (e .0)) _ h))
   where
     go : (n : ℕ) (b : Bool) → ltb 0 n ≡ true → fault (es ++ u) ≡ firstOf (fault es) (fault u) → (n if b else fault (es ++ u)) ≡ firstOf (n if b else fault es) (fault u)
     go zero b z q = absurd (false≢true z)
@@ -39,7 +47,7 @@ fault-both (e ∷ es) u h = go (e .0 .number) (e .1) (and-left _ _ h) (fault-bot
 pub fault-none : (t : Table) → numbered t ≡ true → fault t ≡ 0 → noneHold t ≡ true
 unfolding fault all
 fault-none [] h z = refl
-fault-none (e ∷ es) h z = go (e .0 .number) (e .1) (and-left _ _ h) (fault-none es (and-right (ltb 0 (e .0 .number)) _ h)) z
+fault-none (e ∷ es) h z = go (e .0 .number) (e .1) (and-left _ _ (and-left _ _ h)) (fault-none es (and-right (numberAlone (e .0)) _ h)) z
   where
     go : (n : ℕ) (b : Bool) → ltb 0 n ≡ true → (fault es ≡ 0 → noneHold es ≡ true) → (n if b else fault es) ≡ 0 → (not b && noneHold es) ≡ true
     go zero b p q z = absurd (false≢true p)
@@ -165,7 +173,9 @@ module _ {A : Type 0} where
   pub table-then : (t u : Table) (r : Says A) → numbered t ≡ true → byTable (t ++ u) r ≡ first (fault t) (byTable u r)
   unfolding fault byTable all
   table-then [] u r h = refl
-  table-then (e ∷ es) u r h = go (e .0 .number) (e .1) (and-left _ _ h) (table-then es u r (and-right (ltb 0 (e .0 .number)) _ h))
+  table-then (e ∷ es) u r h =
+      ap (λ (k : Refusal). refuses k if e .1 else byTable (es ++ u) r) (alone-by (e .0) (and-left _ _ h))
+      ∙ go (e .0 .number) (e .1) (and-left _ _ (and-left _ _ h)) (table-then es u r (and-right (numberAlone (e .0)) _ h))
     where
       go : (n : ℕ) (b : Bool) → ltb 0 n ≡ true → byTable (es ++ u) r ≡ first (fault es) (byTable u r)
           → (refuses (by n) if b else byTable (es ++ u) r) ≡ first (n if b else fault es) (byTable u r)

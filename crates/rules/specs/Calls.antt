@@ -27,6 +27,10 @@ use Rattle.rules.specs.declared.Weights.{Weights}
 unfoldable pub settingSays : Setting → Says (Unit {0})
 settingSays s = byTable (settingOrder s) (gives tt)
 
+-- what is wrong with an image, and where
+unfoldable pub imageSays : List ℕ → Says (Unit {0})
+imageSays w = byTable (imageOrder w) (gives tt)
+
 -- room is the length of the lent buffer
 unfoldable pub initialSays : Setting → ℕ → Says State
 initialSays s room = byTable (initialOrder s room) (gives (initialState s))

@@ -16,6 +16,7 @@ pub mod View
 pub mod LengthKey
 pub mod Turns
 pub mod Reward
+pub mod Faults
 pub mod Says
 pub mod Orders
 pub mod Calls

@@ -10,7 +10,8 @@ use Rattle.lists.specs.Below.{someBelow}
 use Rattle.rules.specs.Tables.{Table, by}
 use Rattle.rules.specs.Grid.{sameZ}
 use Rattle.rules.specs.State.{State, count, snakeOf}
-use Rattle.rules.specs.Image.{snakesIn, sideIn, dueIn, areaIn, imageOf, stateOf, wellFormed}
+use Rattle.rules.specs.Image.{snakesIn, sideIn, dueIn, areaIn, imageOf, stateOf}
+use Rattle.rules.specs.Faults.{imageRows}
 use Rattle.rules.specs.Setting.{settingOrder, initialState}
 use Rattle.rules.specs.Step.{stepped}
 use Rattle.rules.specs.Chance.{outcomes, drawn, afterDraw, canRank}
@@ -18,13 +19,9 @@ use Rattle.rules.specs.Reward.{allFinite}
 use Rattle.rules.specs.declared.Setting.{Setting}
 use Rattle.rules.specs.declared.Weights.{Weights}
 
--- 20 'image not well-formed', 21 'n or g differs from the setting', 22 / 23 'food is due at a step / none is due at a draw', 24 'action count is not n',
--- 25 'a living snake's action above 2', 26 'agent not below n', 27 'outcome not below the count', 28 'count above 2^64 - 1', 29 'an output buffer shorter
+-- Where document 01 says 20, `imageRows` stands, 50 to 56: 'where 20 stood in an order, the whole group stands' (02, wish 4).
+-- 21 'n or g differs from the setting', 22 / 23 'food is due at a step / none is due at a draw', 24 'action count is not n', 25 'a living snake's action above 2', 26 'agent not below n', 27 'outcome not below the count', 28 'count above 2^64 - 1', 29 'an output buffer shorter
 -- than its answer', 30 'list to rank: wrong length, a cell not free, or repeated', 31 'a reward weight not finite'; 1 to 12 stand in Setting
-
--- what is asked of every image
-abbrev pub imageRows : List ℕ → Table
-imageRows w = (by 20, not (wellFormed w)) ∷ []
 
 -- 'Initial state: setting, 29'; room is the length of the lent buffer
 abbrev pub initialOrder : Setting → ℕ → Table
@@ -71,19 +68,26 @@ dueRows w = (by 23, eqb (dueIn w) 0) ∷ (by 28, ltb (2 ^ 64 - 1) (outcomes (sta
 abbrev pub countOrder : List ℕ → Table
 countOrder w = imageRows w ++ dueRows w
 
+-- 27 and 29, asked of an index
+abbrev pub drawRows : List ℕ → ℕ → ℕ → ℕ → Table
+drawRows w i room listRoom =
+    (by 27, not (ltb i (outcomes (stateOf w))))
+    ∷ (by 29, ltb room (length (imageOf (afterDraw (stateOf w) i))) || ltb listRoom (length (drawn (stateOf w) i)))
+    ∷ []
+
 -- 'Draw: 20, 23, 28, 27, 29'
 abbrev pub drawOrder : List ℕ → ℕ → ℕ → ℕ → Table
-drawOrder w i room listRoom =
-    countOrder w
-    ++ ((by 27, not (ltb i (outcomes (stateOf w))))
-    ∷ (by 29, ltb room (length (imageOf (afterDraw (stateOf w) i))) || ltb listRoom (length (drawn (stateOf w) i)))
-    ∷ [])
+drawOrder w i room listRoom = countOrder w ++ drawRows w i room listRoom
+
+-- 30, asked of a list
+abbrev pub rankRows : List ℕ → List ℕ → Table
+rankRows w l = (by 30, not (canRank (stateOf w) l)) ∷ []
 
 -- 'Rank: 20, 23, 28, 30'
 abbrev pub rankOrder : List ℕ → List ℕ → Table
-rankOrder w l = countOrder w ++ ((by 30, not (canRank (stateOf w) l)) ∷ [])
+rankOrder w l = countOrder w ++ rankRows w l
 
--- 'Actor, .. length cell: 20'
+-- 'Actor, .. length cell: 20'; the check of an image
 abbrev pub imageOrder : List ℕ → Table
 imageOrder w = imageRows w
 

@@ -11,13 +11,14 @@ use Rattle.rules.specs.Headings.{turned}
 use Rattle.rules.specs.Events.{blank, eight}
 use Rattle.rules.specs.Image.{imageOf, wellFormed}
 use Rattle.rules.specs.Struck.{noHit}
-use Rattle.rules.specs.Says.{seen, beside, lent, says, saysVerdict, saysNumber, saysKey, saysActor, saysLegal, saysMark, saysSum, saysSpace}
-use Rattle.rules.specs.Calls.{settingSays, initialSays, stepSays, struckSays, observeSays, countSays, drawSays, rankSays, actorSays, legalSays, keySays, truncationSays, rewardSays, spaceSays, actionSays, bodyAsked}
+use Rattle.rules.specs.Says.{refuses, seen, beside, lent, says, saysVerdict, saysNumber, saysKey, saysActor, saysLegal, saysMark, saysSum, saysSpace}
+use Rattle.rules.specs.Calls.{settingSays, imageSays, initialSays, stepSays, struckSays, observeSays, countSays, drawSays, rankSays, actorSays, legalSays, keySays, truncationSays, rewardSays, spaceSays, actionSays, bodyAsked}
 use Rattle.rules.specs.declared.Heading.{Heading}
 use Rattle.rules.specs.declared.RelativeAction.{RelativeAction}
 use Rattle.rules.specs.declared.Setting.{Setting}
 use Rattle.rules.specs.declared.Event.{Event}
 use Rattle.rules.specs.declared.Weights.{Weights}
+use Rattle.rules.specs.declared.Refusal.{Refusal}
 use Rattle.rules.specs.declared.Verdict.{Verdict}
 use Rattle.rules.specs.declared.Answer.{Answer}
 use Rattle.rules.specs.declared.Stepped.{Stepped}
@@ -36,6 +37,14 @@ pub record Turns (h : Heading) (a : RelativeAction) (r : Heading) : Type 0 where
 
 pub record Checks (w : List ℕ) (r : Bool) : Type 0 where
   pub answer : r ≡ wellFormed w
+
+-- accepted, or the first fault of 50 to 56 and the first word that shows it
+pub record Examines (w : List ℕ) (r : Verdict) : Type 0 where
+  pub answer : saysVerdict r ≡ imageSays w
+
+-- the same of an image that is known not to be well-formed
+pub record Faulty (w : List ℕ) (r : Refusal) : Type 0 where
+  pub answer : wellFormed w ≡ false → refuses r ≡ imageSays w
 
 pub record Validates (s : Setting) (r : Verdict) : Type 0 where
   pub answer : saysVerdict r ≡ settingSays s

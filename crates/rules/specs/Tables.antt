@@ -7,9 +7,13 @@ use Rattle.lists.specs.Choice.{_if_else_}
 use Rattle.lists.specs.Lists.{all}
 use Rattle.rules.specs.declared.Refusal.{Refusal}
 
--- the refusal of a number
+-- the refusal of a number, and the word that shows it
+abbrev pub byWord : ℕ → ℕ → Refusal
+byWord k at = record { number = k; word = at }
+
+-- of a number alone: its word is 0
 abbrev pub by : ℕ → Refusal
-by k = record { number = k }
+by k = byWord k 0
 
 abbrev pub Table : Type 0
 Table = List (Refusal × Bool)

@@ -71,9 +71,10 @@ pub struct Weights {
 
 // ---- answers
 
-// Why a call refuses: the paper's number.
+// Why a call refuses: the paper's number, and the first word of an image that shows the fault; 0 for every number but 50 to 56.
 pub struct Refusal {
     pub number: u8,
+    pub word: usize,
 }
 
 pub enum Verdict {

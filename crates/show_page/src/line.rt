@@ -112,9 +112,10 @@ fn put_next(
     image: &[u16],
     bytes: &mut [u8],
 ) -> Shown {
-    let mut past = [0u16; 9253];
+    let mut past = [0u16; 9254];
     let before = load(contents, words, page, &mut past, bytes);
-    if !before.read || before.number != 0 {
+    let why = before.why;
+    if !before.read || why.number != 0 {
         return put_unknown(image);
     }
     put_turn(

@@ -50,14 +50,14 @@ fn put_page(contents: &[u16], words: usize, page: u64, image: &[u16], bytes: &mu
 }
 
 fn show_in(contents: &[u16], words: usize, page: u64, bytes: &mut [u8]) -> Fault {
-    let mut image = [0u16; 9253];
+    let mut image = [0u16; 9254];
     let loaded = load(contents, words, page, &mut image, bytes);
     if !loaded.read {
         return Fault::NotRead;
     }
-    let number = loaded.number;
-    if number != 0 {
-        tell_refused(number, page, contents);
+    let why = loaded.why;
+    if why.number != 0 {
+        tell_refused(why, page, contents);
         return Fault::Refused;
     }
     let len = loaded.len;

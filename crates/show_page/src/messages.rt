@@ -1,10 +1,11 @@
-// The words below the board, and what is wrong, in one line on standard error. A refusal's line begins with `r` and its number.
+// The words below the board, and what is wrong, in one line on standard error. A refusal's line begins with `r` and its number, for 50 to 56 its word too.
 use crate::Fault;
 use crate::line::Shown;
 use libc::STDERR_FILENO;
 use libc::STDOUT_FILENO;
 use lists::word_at;
 use page_file::moves_to;
+use rules::Refusal;
 
 // Pages are numbered from 0.
 fn last_of(pages: u64) -> u64 {
@@ -84,7 +85,32 @@ fn say_page(front: &[u8], page: u64, back: &[u8]) {
     say(back);
 }
 
-pub(crate) fn tell_refused(number: u8, page: u64, contents: &[u16]) {
+fn say_fault(number: u8) {
+    match number {
+        50 => say(b": words are missing from its contents\n"),
+        51 => say(b": a content word is out of range\n"),
+        52 => say(b": a start is out of line\n"),
+        53 => say(b": its total length is wrong\n"),
+        54 => say(b": a cell is beyond the grid\n"),
+        55 => say(b": a cell stands twice in a body\n"),
+        _ => say(b": its food is not ascending\n"),
+    }
+}
+
+fn say_damaged(why: Refusal, page: u64) {
+    say(b"r ");
+    say_number(why.number as u64);
+    say(b" ");
+    say_number(why.word as u64);
+    say(b": page ");
+    say_number(page);
+    say(b" is damaged at its word ");
+    say_number(why.word as u64);
+    say_fault(why.number);
+}
+
+pub(crate) fn tell_refused(why: Refusal, page: u64, contents: &[u16]) {
+    let number = why.number;
     if number == 40 {
         say(b"r 40: this is no match book, or its contents are damaged\n");
         return;
@@ -93,12 +119,8 @@ pub(crate) fn tell_refused(number: u8, page: u64, contents: &[u16]) {
         say_pages(word_at(contents, 16));
         return;
     }
-    if number == 20 {
-        say_page(
-            b"r 20: page ",
-            page,
-            b" is damaged: it is no state of a match\n",
-        );
+    if 50 <= number {
+        say_damaged(why, page);
         return;
     }
     say_page(

@@ -9,16 +9,17 @@ use lib.ListN.{length, getD, replicate}
 use borrow.Author.Tests.{eqb-true, not-false, ltb-false, lt-ltb, le-ltb, eq-eqb, ne-eqb}
 use Rattle.lists.specs.Below.{someBelow}
 use Rattle.lists.proofs.Below.{some-ext}
-use Rattle.rules.specs.Tables.{Table, by}
+use Rattle.rules.specs.Tables.{Table, by, noneHold}
 use Rattle.rules.specs.Setting.{settingOrder}
 use Rattle.rules.specs.State.{Snake, snakeOf}
 use Rattle.rules.specs.Image.{snakesIn, sideIn, dueIn, foodAt, stateOf, imageOf, wellFormed}
 use Rattle.rules.specs.Facts.{Sound}
 use Rattle.rules.specs.Says.{Says, refuses, gives, seen, beside, lent, says, saysVerdict, byTable}
 use Rattle.rules.specs.Events.{blank, eight}
-use Rattle.rules.specs.Promises.{Validates, Steps}
+use Rattle.rules.specs.Promises.{Validates, Steps, Faulty}
 use Rattle.rules.specs.Calls.{settingSays, stepSays}
-use Rattle.rules.specs.Orders.{differs, badAction, imageRows, askedRows, askedOrder}
+use Rattle.rules.specs.Faults.{imageRows}
+use Rattle.rules.specs.Orders.{differs, badAction, askedRows, askedOrder}
 use Rattle.rules.specs.Step.{Transition, transitionOf, stepped}
 use Rattle.rules.specs.declared.Setting.{Setting}
 use Rattle.rules.specs.declared.Refusal.{Refusal}
@@ -26,7 +27,8 @@ use Rattle.rules.specs.declared.Stepped.{Stepped}
 use Rattle.rules.specs.declared.Verdict.{Verdict}
 use Rattle.rules.specs.declared.Verdict.the-variants.{Accepted, Refused}
 use Rattle.rules.proofs.Facts.{sound}
-use Rattle.rules.proofs.Tables.{andThen, table-after, then-gives, given-out}
+use Rattle.rules.proofs.Tables.{andThen, row-out, table-after, then-gives, table-given}
+use Rattle.rules.proofs.Faults.{image-on, image-out, rows-formed, rows-after}
 use Rattle.rules.proofs.Parts.{state-count, state-snake}
 use Rattle.judge.specs.declared.Judged.{Judged}
 use Rattle.judge.specs.World.{judgedWorld, Judges}
@@ -98,13 +100,11 @@ module _ (s : Setting) (w acts : List ℕ) (v : Verdict) (p : Validates s v) whe
     accepted : byTable (askedOrder s w acts) (gives tt) ≡ rows
     accepted = by-rows ∙ ap (λ (x : Verdict). andThen (saysVerdict x) rows) e
 
-    pub asked-20 : (x : Refusal) → x ≡ by 20 → wellFormed w ≡ false → Asks s w acts (Refused x)
-    unfolding byTable
-    asked-20 x q f = record { answer = ap refuses q ∙ sym (accepted ∙ rw f) }
+    pub asked-faulty : (x : Refusal) → Faulty w x → wellFormed w ≡ false → Asks s w acts (Refused x)
+    asked-faulty x q f = record { answer = image-out w (askedRows s w acts) (gives tt) f x q ∙ sym accepted }
 
     pub asked-image : (r : Verdict) → Sound w → AsksImage s w acts r → Asks s w acts r
-    unfolding byTable
-    asked-image r f q = record { answer = q .answer ∙ sym (accepted ∙ rw (f .formed)) }
+    asked-image r f q = record { answer = q .answer ∙ sym (accepted ∙ image-on w (askedRows s w acts) (gives tt) (f .formed)) }
 
 -- ---- what is known where none refuses
 
@@ -112,25 +112,29 @@ module _ (s : Setting) (w acts : List ℕ) (v : Verdict) (a : Asks s w acts v) (
   abbrev table : Table
   table = imageRows w ++ askedRows s w acts
 
-  no-row : (k : ℕ) → getD table k (by 0, false) .1 ≡ false
-  no-row =
+  none : noneHold table ≡ true
+  none =
       let both = sym (table-after (settingOrder s) table (gives tt)) ∙ sym (a .answer) ∙ ap saysVerdict e in
-      given-out table tt tt (then-gives (byTable (settingOrder s) (gives tt)) (byTable table (gives tt)) tt both)
+      table-given table tt tt (then-gives (byTable (settingOrder s) (gives tt)) (byTable table (gives tt)) tt both) .0
+
+  -- the k-th row after the image's own
+  no-row : (k : ℕ) → getD (askedRows s w acts) k (by 0, false) .1 ≡ false
+  no-row k = row-out (askedRows s w acts) k (rows-after w (askedRows s w acts) none)
 
   pub asked-sound : Sound w
-  asked-sound = sound w (not-false (wellFormed w) (no-row 0))
+  asked-sound = sound w (rows-formed w (askedRows s w acts) none)
 
   pub asked-same : differs s w ≡ false
-  asked-same = no-row 1
+  asked-same = no-row 0
 
   pub asked-due : dueIn w ≡ 0
-  asked-due = let h = ltb-false 0 (dueIn w) (no-row 2) in omega arith
+  asked-due = let h = ltb-false 0 (dueIn w) (no-row 1) in omega arith
 
   pub asked-count : length acts ≡ snakesIn w
-  asked-count = eqb-true _ _ (not-false (eqb (length acts) (snakesIn w)) (no-row 3))
+  asked-count = eqb-true _ _ (not-false (eqb (length acts) (snakesIn w)) (no-row 2))
 
   pub asked-good : badAction (stateOf w) acts ≡ false
-  asked-good = no-row 4
+  asked-good = no-row 3
 
 -- ---- a judged array is ready to be applied
 

@@ -1,4 +1,4 @@
-// The refusals of a step but the last, in their order: `setting, 20, 21, 22, 24, 25`.
+// The refusals of a step but the last, in their order: `setting, 50 to 56, 21, 22, 24, 25`.
 use rules::Setting;
 use rules::Verdict;
 ghost use mathlib.Core.Path.{_≡_};
@@ -52,7 +52,7 @@ pub fn asked(setting: Setting, image: &[u16], actions: &[u64]) -> Verdict
         return verdict;
     };
     if !image::well_formed(image) {
-        return Verdict::Refused(refusals::by(20));
+        return Verdict::Refused(image::fault_in(image));
     }
     asked_in(setting, image, actions)
 }

@@ -8,6 +8,7 @@ use lib.ListN.{length, take, drop, replicate}
 use Rattle.lists.specs.Below.{concatBelow}
 use Rattle.lists.proofs.Insert.{over-take}
 use Rattle.rules.specs.Tables.{Table, noneHold}
+use Rattle.rules.specs.Faults.{imageRows}
 use Rattle.rules.specs.Says.{seen, lent, says}
 use Rattle.rules.specs.declared.Setting.{Setting}
 use Rattle.rules.specs.declared.Refusal.{Refusal}
@@ -27,7 +28,7 @@ use Rattle.book.specs.Orders.{pageRows, rowOrder, readOrder, askedOrder, writeO
 use Rattle.book.specs.Calls.{pageSays, writeSays}
 use Rattle.book.specs.Promises.{Writes, Pages}
 use Rattle.theorems.specs.Answers.{RefusedBy}
-use Rattle.theorems.proofs.Refusals.{numbers, settingNumbers, by-rows, by-words, kept, kept-after}
+use Rattle.theorems.proofs.Refusals.{numbers, settingNumbers, imageNumbers, by-rows, by-words, kept, kept-after}
 use Rattle.theorems.proofs.Definitions.{lawful}
 
 -- ---- the tables' numbers are those of wish 1
@@ -37,31 +38,35 @@ pub find-order : (c : List ℕ) (n i : ℕ) → numbers (findOrder c n i) ≡ re
 unfolding findOrder contentsOrder layoutRows startRows
 find-order c n i = refl
 
+-- '20 and 21 for the page', wish 4's group in 20's place
+abbrev pub pageNumbers : List ℕ
+pageNumbers = imageNumbers ++ (21 ∷ [])
+
 -- 'reading, 40 ..; then 41 no such page, then 20 and 21 for the page'
-pub read-order : (b : List ℕ) (i : ℕ) → numbers (readOrder b i) ≡ replicate 11 40 ++ (41 ∷ 20 ∷ 21 ∷ [])
-unfolding readOrder findOrder contentsOrder layoutRows startRows
+pub read-order : (b : List ℕ) (i : ℕ) → numbers (readOrder b i) ≡ replicate 11 40 ++ (41 ∷ pageNumbers)
+unfolding readOrder findOrder contentsOrder layoutRows startRows imageRows
 read-order b i = refl
 
 numbers-join : (t u : Table) → numbers (t ++ u) ≡ numbers t ++ numbers u
 numbers-join [] u = refl
 numbers-join (e ∷ es) u = ap (λ (l : List ℕ). e .0 .number ∷ l) (numbers-join es u)
 
-numbers-pages : (s : Setting) (row : List ℕ) (p : ℕ) → numbers (concatBelow p (λ i. pageRows s (rowPage row i))) ≡ concatBelow p (λ i. 20 ∷ 21 ∷ [])
-unfolding concatBelow
+numbers-pages : (s : Setting) (row : List ℕ) (p : ℕ) → numbers (concatBelow p (λ i. pageRows s (rowPage row i))) ≡ concatBelow p (λ i. pageNumbers)
+unfolding concatBelow imageRows
 numbers-pages s row zero = refl
 numbers-pages s row (suc p) =
-    numbers-join (concatBelow p (λ i. pageRows s (rowPage row i))) (pageRows s (rowPage row p)) ∙ ap (λ (l : List ℕ). l ++ (20 ∷ 21 ∷ [])) (numbers-pages s row p)
+    numbers-join (concatBelow p (λ i. pageRows s (rowPage row i))) (pageRows s (rowPage row p)) ∙ ap (λ (l : List ℕ). l ++ pageNumbers) (numbers-pages s row p)
 
--- 'writing, the setting's, then 42 above 65,535 pages, then 20 and 21 page by page, then 29'; words after the last page are 20
+-- 'writing, the setting's, then 42 above 65,535 pages, then 20 and 21 page by page, then 29'; words after the last page are 53
 pub write-order : (s : Setting) (p : ℕ) (row : List ℕ) (room : ℕ)
-    → numbers (writeOrder s p row room) ≡ settingNumbers ++ (42 ∷ (concatBelow p (λ i. 20 ∷ 21 ∷ []) ++ (20 ∷ 29 ∷ [])))
+    → numbers (writeOrder s p row room) ≡ settingNumbers ++ (42 ∷ (concatBelow p (λ i. pageNumbers) ++ (53 ∷ 29 ∷ [])))
 unfolding writeOrder askedOrder rowOrder
 write-order s p row room =
     ap
     (λ (l : List ℕ). settingNumbers ++ (42 ∷ l))
     (ap numbers (append-assoc (concatBelow p (λ i. pageRows s (rowPage row i))) _ _)
     ∙ numbers-join (concatBelow p (λ i. pageRows s (rowPage row i))) _
-    ∙ ap (λ (l : List ℕ). l ++ (20 ∷ 29 ∷ [])) (numbers-pages s row p))
+    ∙ ap (λ (l : List ℕ). l ++ (53 ∷ 29 ∷ [])) (numbers-pages s row p))
 
 -- ---- refused by k if and only if k is the number of the table's first row that holds
 

@@ -19,8 +19,8 @@ use Rattle.rules.specs.LengthKey.{lengthKey}
 use Rattle.rules.specs.Turns.{chanceActs, legalFor, truncated}
 use Rattle.rules.specs.Reward.{rewardOf}
 use Rattle.rules.specs.Says.{gives, byTable, box, seen, beside, lent, saysKey, saysActor, saysLegal}
-use Rattle.rules.specs.Calls.{settingSays, initialSays, stepSays, observeSays, countSays, Draw, drawSays, rankSays, actorSays, legalSays, keySays, truncationSays, rewardSays, spaceSays, bodyAsked}
-use Rattle.rules.specs.Promises.{Turns, Checks, Validates, Starts, Steps, Observes, Counts, Draws, Ranks, ActsNext, Allows, Keys, Truncates, Rewards, ObservationSpace, ActionSpace, Parts}
+use Rattle.rules.specs.Calls.{settingSays, imageSays, initialSays, stepSays, observeSays, countSays, Draw, drawSays, rankSays, actorSays, legalSays, keySays, truncationSays, rewardSays, spaceSays, bodyAsked}
+use Rattle.rules.specs.Promises.{Turns, Checks, Examines, Validates, Starts, Steps, Observes, Counts, Draws, Ranks, ActsNext, Allows, Keys, Truncates, Rewards, ObservationSpace, ActionSpace, Parts}
 use Rattle.rules.specs.declared.Heading.{Heading}
 use Rattle.rules.specs.declared.RelativeAction.{RelativeAction}
 use Rattle.rules.specs.declared.Setting.{Setting}
@@ -66,6 +66,11 @@ check-is w r p = p .answer
 -- the body query hands back the body, or the empty part
 pub body-is : (w : List ℕ) (i : ℕ) (r : List ℕ) → Parts w i r → r ≡ bodyAsked w i
 body-is w i r p = p .answer
+
+-- an image without a fault is accepted
+pub examine-is : (w : List ℕ) (r : Verdict) → Examines w r → noneHold (imageOrder w) ≡ true → r ≡ Accepted
+unfolding imageSays
+examine-is w r p h = verdict-one r Accepted (p .answer ∙ lawful (imageOrder w) tt h)
 
 -- a setting without a fault is accepted
 pub validate-is : (s : Setting) (r : Verdict) → Validates s r → noneHold (settingOrder s) ≡ true → r ≡ Accepted

@@ -9,13 +9,13 @@ pub use Rattle.rules.proofs.ChainLimit.{without-7, never-7}
 pub use Rattle.rules.proofs.Tables.{table-gives, table-refuses, table-first}
 -- Demand 1: so a call is refused by k if and only if k is the number of its table's first row that holds
 pub use Rattle.theorems.specs.Answers.{RefusedBy}
-pub use Rattle.theorems.proofs.Refusals.{validate-refused, initial-refused, step-refused, struck-refused, observe-refused, count-refused, draw-refused, rank-refused, actor-refused, legal-refused, key-refused, truncation-refused, reward-refused, space-refused}
+pub use Rattle.theorems.proofs.Refusals.{examine-refused, validate-refused, initial-refused, step-refused, struck-refused, observe-refused, count-refused, draw-refused, rank-refused, actor-refused, legal-refused, key-refused, truncation-refused, reward-refused, space-refused}
 -- Demand 1: a refusal leaves every lent word, both buffers of a draw
 pub use Rattle.theorems.proofs.Refusals.{initial-untouched, step-untouched, observe-untouched, draw-untouched}
 -- Demand 1: an answer is a count of words, and the words after them keep their values
 pub use Rattle.theorems.proofs.Refusals.{initial-after, step-after, observe-after, draw-after}
 -- Demand 2: where no row holds, each call answers what its definition says
-pub use Rattle.theorems.proofs.Definitions.{turn-is, check-is, body-is, validate-is, initial-is, step-is, observe-is, count-is, draw-is, rank-is, actor-is, legal-is, key-is, truncation-is, reward-is, space-is, action-space-is}
+pub use Rattle.theorems.proofs.Definitions.{turn-is, check-is, examine-is, body-is, validate-is, initial-is, step-is, observe-is, count-is, draw-is, rank-is, actor-is, legal-is, key-is, truncation-is, reward-is, space-is, action-space-is}
 -- Demand 2: document 01's twelve examples, one table; a second one for wrong definitions that neither they nor a law shuts out
 pub use Rattle.rules.proofs.Examples.{examples-hold, more-hold}
 -- Demand 2: what a program prints that takes the lines of its input one by one is the replay of that input
@@ -68,7 +68,7 @@ pub use Rattle.theorems.proofs.Struck.{struck-itself, struck-another}
 -- Document 02, wish 7: a number is found exactly where it is a member, so what asked for membership did not move
 pub use Rattle.lists.proofs.Search.{found-member}
 -- Tightness: two answers that meet one promise are equal, and so are the lent buffers
-pub use Rattle.rules.proofs.Answers.{one-turn, one-check, one-verdict, one-start, one-step, one-struck, one-view, one-count, one-draw, one-rank, one-actor, one-legal, one-key, one-truncation, one-reward, one-space, one-action-space, one-body}
+pub use Rattle.rules.proofs.Answers.{one-turn, one-check, one-examination, one-verdict, one-start, one-step, one-struck, one-view, one-count, one-draw, one-rank, one-actor, one-legal, one-key, one-truncation, one-reward, one-space, one-action-space, one-body}
 -- Tightness: two parts that the body query may hand back have equal words at one address
 pub use Rattle.theorems.proofs.Definitions.{one-part}
 -- One image for each state
@@ -99,6 +99,11 @@ pub use Rattle.contents.proofs.Laying.{setting-wordy}
 -- Request 1: a damaged page elsewhere changes nothing of the page that is read; a page is found by the contents alone
 pub use Rattle.book.proofs.Separate.{page-alone}
 pub use Rattle.book.proofs.Theorems.{find-alone, find-then-read, find-refuses, find-reads}
+-- Request 4, what is wrong with an image: no fault exactly where it is well-formed; its first fault's word is below 65,536
+pub use Rattle.rules.proofs.Faults.{no-fault}
+pub use Rattle.flat.proofs.Words.{fault-word}
+-- Request 4: the record, the start and the body that are named are the first that show the fault
+pub use Rattle.theorems.proofs.Shown.{FirstOut, range-shown, start-shown, twice-shown}
 -- Request 14, the outcome of a unit number: its table has wish 14's numbers in its order, exactly those are given, and where no row holds the answer is the definition's
 pub use Rattle.theorems.proofs.Units.{outcome-order, outcome-refused, outcome-is}
 -- Request 14: two answers that meet its promise are equal

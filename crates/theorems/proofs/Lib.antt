@@ -8,4 +8,5 @@ pub mod Longest
 pub mod Definitions
 pub mod Books
 pub mod Units
+pub mod Shown
 pub mod Headlines

@@ -22,8 +22,8 @@ use Rattle.rules.specs.LengthKey.{lengthKey}
 use Rattle.rules.specs.Turns.{chanceActs, legalFor, truncated}
 use Rattle.rules.specs.Reward.{rewardOf}
 use Rattle.rules.specs.Says.{Says, refuses, gives, byTable, seen, beside, lent, says, saysVerdict, saysNumber, saysKey, saysActor, saysLegal, saysMark, saysSum, box, saysSpace}
-use Rattle.rules.specs.Calls.{settingSays, initialSays, stepSays, struckSays, observeSays, countSays, Draw, drawSays, rankSays, actorSays, legalSays, keySays, truncationSays, rewardSays, spaceSays}
-use Rattle.rules.specs.Promises.{Validates, Starts, Steps, Strikes, Observes, Counts, Draws, Ranks, ActsNext, Allows, Keys, Truncates, Rewards, ObservationSpace}
+use Rattle.rules.specs.Calls.{settingSays, imageSays, initialSays, stepSays, struckSays, observeSays, countSays, Draw, drawSays, rankSays, actorSays, legalSays, keySays, truncationSays, rewardSays, spaceSays}
+use Rattle.rules.specs.Promises.{Examines, Validates, Starts, Steps, Strikes, Observes, Counts, Draws, Ranks, ActsNext, Allows, Keys, Truncates, Rewards, ObservationSpace}
 use Rattle.rules.specs.declared.Setting.{Setting}
 use Rattle.rules.specs.declared.Event.{Event}
 use Rattle.rules.specs.declared.Weights.{Weights}
@@ -50,17 +50,22 @@ use Rattle.rules.specs.declared.Reward.{Reward}
 use Rattle.rules.specs.declared.Reward.the-variants.{Refused as RefusedSum}
 use Rattle.rules.specs.declared.Space.{Space}
 use Rattle.rules.specs.declared.Space.the-variants.{Refused as RefusedSpace}
+use Rattle.rules.specs.Faults.{imageRows}
 use Rattle.rules.specs.Orders.{initialOrder, stepOrder, struckOrder, observeOrder, countOrder, drawOrder, rankOrder, imageOrder, agentOrder, rewardOrder, spaceOrder}
 use Rattle.rules.proofs.Tables.{table-refuses, table-first, table-seen}
 use Rattle.rules.proofs.Answers.{answer-one, verdict-one, number-one, key-one, actor-one, legal-one, mark-one, sum-one, space-one}
 use Rattle.theorems.specs.Answers.{RefusedBy}
 
--- document 01's 'Order', and that each table has those numbers
+-- document 01's 'Order' with document 02's group in 20's place, and that each table has those numbers
 abbrev pub numbers : Table → List ℕ
 numbers t = map (λ (e : Refusal × Bool). e .0 .number) t
 
 abbrev pub settingNumbers : List ℕ
 settingNumbers = 1 ∷ 2 ∷ 3 ∷ 4 ∷ 5 ∷ 6 ∷ 8 ∷ 9 ∷ 10 ∷ 11 ∷ 12 ∷ []
+
+-- 'in place of 20, tested in this order' (02, wish 4)
+abbrev pub imageNumbers : List ℕ
+imageNumbers = 50 ∷ 51 ∷ 52 ∷ 53 ∷ 54 ∷ 55 ∷ 56 ∷ []
 
 pub setting-order : (s : Setting) → numbers (settingOrder s) ≡ settingNumbers
 setting-order s = refl
@@ -72,30 +77,38 @@ chain-order s = refl
 pub initial-order : (s : Setting) (room : ℕ) → numbers (initialOrder s room) ≡ settingNumbers ++ (29 ∷ [])
 initial-order s room = refl
 
-pub step-order : (s : Setting) (w acts : List ℕ) (room : ℕ) → numbers (stepOrder s w acts room) ≡ settingNumbers ++ (20 ∷ 21 ∷ 22 ∷ 24 ∷ 25 ∷ 29 ∷ [])
+pub step-order : (s : Setting) (w acts : List ℕ) (room : ℕ) → numbers (stepOrder s w acts room) ≡ settingNumbers ++ (imageNumbers ++ (21 ∷ 22 ∷ 24 ∷ 25 ∷ 29 ∷ []))
+unfolding imageRows
 step-order s w acts room = refl
 
-pub struck-order : (s : Setting) (w acts : List ℕ) → numbers (struckOrder s w acts) ≡ settingNumbers ++ (20 ∷ 21 ∷ 22 ∷ 24 ∷ 25 ∷ [])
+pub struck-order : (s : Setting) (w acts : List ℕ) → numbers (struckOrder s w acts) ≡ settingNumbers ++ (imageNumbers ++ (21 ∷ 22 ∷ 24 ∷ 25 ∷ []))
+unfolding imageRows
 struck-order s w acts = refl
 
-pub observe-order : (w : List ℕ) (a room : ℕ) → numbers (observeOrder w a room) ≡ 20 ∷ 26 ∷ 29 ∷ []
+pub observe-order : (w : List ℕ) (a room : ℕ) → numbers (observeOrder w a room) ≡ imageNumbers ++ (26 ∷ 29 ∷ [])
+unfolding imageRows
 observe-order w a room = refl
 
-pub count-order : (w : List ℕ) → numbers (countOrder w) ≡ 20 ∷ 23 ∷ 28 ∷ []
+pub count-order : (w : List ℕ) → numbers (countOrder w) ≡ imageNumbers ++ (23 ∷ 28 ∷ [])
+unfolding imageRows
 count-order w = refl
 
-pub draw-order : (w : List ℕ) (i room listRoom : ℕ) → numbers (drawOrder w i room listRoom) ≡ 20 ∷ 23 ∷ 28 ∷ 27 ∷ 29 ∷ []
+pub draw-order : (w : List ℕ) (i room listRoom : ℕ) → numbers (drawOrder w i room listRoom) ≡ imageNumbers ++ (23 ∷ 28 ∷ 27 ∷ 29 ∷ [])
+unfolding imageRows
 draw-order w i room listRoom = refl
 
-pub rank-order : (w l : List ℕ) → numbers (rankOrder w l) ≡ 20 ∷ 23 ∷ 28 ∷ 30 ∷ []
+pub rank-order : (w l : List ℕ) → numbers (rankOrder w l) ≡ imageNumbers ++ (23 ∷ 28 ∷ 30 ∷ [])
+unfolding imageRows
 rank-order w l = refl
 
--- of the actor and the length cell
-pub image-order : (w : List ℕ) → numbers (imageOrder w) ≡ 20 ∷ []
+-- of the check of an image, the actor and the length cell
+pub image-order : (w : List ℕ) → numbers (imageOrder w) ≡ imageNumbers
+unfolding imageRows
 image-order w = refl
 
 -- of the legal actions and truncation
-pub agent-order : (w : List ℕ) (a : ℕ) → numbers (agentOrder w a) ≡ 20 ∷ 26 ∷ []
+pub agent-order : (w : List ℕ) (a : ℕ) → numbers (agentOrder w a) ≡ imageNumbers ++ (26 ∷ [])
+unfolding imageRows
 agent-order w a = refl
 
 pub reward-order : (w : Weights) → numbers (rewardOrder w) ≡ 31 ∷ []
@@ -124,6 +137,10 @@ by-number = by-rows saysNumber RefusedNumber (λ k. refl) number-one
 pub validate-refused : (s : Setting) (r : Verdict) → Validates s r → RefusedBy RefusedVerdict (settingOrder s) r
 unfolding settingSays
 validate-refused s r p = by-rows saysVerdict RefusedVerdict (λ k. refl) verdict-one (settingOrder s) tt r (p .answer)
+
+pub examine-refused : (w : List ℕ) (r : Verdict) → Examines w r → RefusedBy RefusedVerdict (imageOrder w) r
+unfolding imageSays
+examine-refused w r p = by-rows saysVerdict RefusedVerdict (λ k. refl) verdict-one (imageOrder w) tt r (p .answer)
 
 pub initial-refused : (s : Setting) (old new : List ℕ) (r : Answer) → Starts s old new r → RefusedBy RefusedAnswer (initialOrder s (length old)) r
 unfolding initialSays

@@ -6,7 +6,6 @@ use mathlib.Core.Bool.{Bool, true, false, not}
 use mathlib.Core.List.{List, _++_}
 use lib.Dec.{ltb}
 use lib.ListN.{length, getD, replicate}
-use borrow.Author.Tests.{not-false}
 use Rattle.lists.specs.Below.{eachBelow, filled}
 use Rattle.lists.specs.Lists.{all}
 use Rattle.lists.proofs.Tests.{and-right}
@@ -15,11 +14,12 @@ use Rattle.lists.proofs.Below.{each-at, each-past, filled-at, filled-is}
 use Rattle.rules.specs.Tables.{Table, noneHold}
 use Rattle.rules.specs.State.{State, nobody, count}
 use Rattle.rules.specs.Setting.{settingOrder}
-use Rattle.rules.specs.Image.{snakesIn, stateOf, wellFormed}
+use Rattle.rules.specs.Image.{snakesIn, stateOf}
 use Rattle.rules.specs.Events.{blank, eight}
 use Rattle.rules.specs.Step.{Moved, Transition, stays, movedOf, causeOf, transitionOf, stepped}
 use Rattle.rules.specs.Struck.{noHit, hitOf, hitsIn, strikes, HitsItself, HitsAnother}
-use Rattle.rules.specs.Orders.{imageRows, askedRows, struckOrder, stepOrder}
+use Rattle.rules.specs.Faults.{imageRows}
+use Rattle.rules.specs.Orders.{askedRows, struckOrder, stepOrder}
 use Rattle.rules.specs.Says.{seen, beside}
 use Rattle.rules.specs.Calls.{struckSays}
 use Rattle.rules.specs.Promises.{Steps, Strikes}
@@ -36,7 +36,7 @@ use Rattle.rules.proofs.Answers.{verdict-one}
 use Rattle.rules.proofs.Facts.{sound}
 use Rattle.rules.proofs.Parts.{state-count}
 use Rattle.rules.proofs.Struck.{hits-itself, hits-another, hit-told, hit-else}
-use Rattle.rules.proofs.Tables.{row-out}
+use Rattle.rules.proofs.Faults.{rows-formed}
 use Rattle.theorems.proofs.Definitions.{lawful, step-is}
 use Rattle.theorems.proofs.Placings.{event-at}
 
@@ -67,7 +67,7 @@ module _ (s : Setting) (w acts : List ℕ) (r : Hits) (p : Strikes s w acts r) (
   few =
       let rows : Table = imageRows w ++ askedRows s w acts in
       let rest = and-right (noneHold (settingOrder s)) (noneHold rows) (sym (all-append (λ (e : Refusal × Bool). not (e .1)) (settingOrder s) rows) ∙ none) in
-      omega (arith, sound w (not-false (wellFormed w) (row-out rows 0 rest)) .snakes-max, state-count w)
+      omega (arith, sound w (rows-formed w (askedRows s w acts) rest) .snakes-max, state-count w)
 
   hit-is : (i : ℕ) → i < count t → getD (r .hits) i noHit ≡ hitOf (t .side) (count t) (movedIn t acts) i
   unfolding hitsIn

@@ -3,24 +3,27 @@
 use Prim.Native.Nat.{ℕ, suc, _+_, _-_, _≤_, _<_, min}
 use native.Mathlib.Omega.{arith}
 use mathlib.Core.Path.{_≡_, refl, sym, ap, subst, _∙_}
-use mathlib.Core.Bool.{Bool, true, false}
-use mathlib.Core.List.{List, [], _∷_}
-use lib.ListN.{length}
+use mathlib.Core.Bool.{true, false, not, true≢false}
+use mathlib.Core.List.{List, _++_}
+use lib.Dec.{ltb}
+use lib.ListN.{length, drop}
 use lib.IntN.{pos, negsuc}
 use lib.Ieee.{Float, fin, binary64, mul, ofInt, toUnsigned}
 use borrow.Author.Tests.{lt-ltb, le-ltb, ne-eqb}
+use Rattle.lists.specs.Lists.{any}
 use Rattle.rules.specs.Tables.{by}
 use Rattle.rules.specs.Image.{imageOf, stateOf}
 use Rattle.rules.specs.Chance.{outcomes, drawn, afterDraw}
-use Rattle.rules.specs.Says.{Says, refuses, gives, byTable, says, saysNumber}
-use Rattle.rules.specs.Orders.{countOrder, drawOrder}
+use Rattle.rules.specs.Says.{gives, byTable, says, saysNumber}
+use Rattle.rules.specs.Faults.{imageRows}
+use Rattle.rules.specs.Orders.{countOrder, drawRows, drawOrder}
 use Rattle.rules.specs.Calls.{Draw, countSays, drawSays}
 use Rattle.rules.specs.Promises.{Counts, Draws}
 use Rattle.rules.specs.declared.Number.{Number}
 use Rattle.rules.specs.declared.Number.the-variants.{Value}
 use Rattle.rules.specs.declared.Drawn.{Drawn}
 use Rattle.rules.specs.declared.Answer.the-variants.{Refused}
-use Rattle.rules.proofs.Tables.{given-out, given-is, table-seen}
+use Rattle.rules.proofs.Tables.{given-out, given-is, table-seen, table-without, table-listed}
 use Rattle.rules.proofs.Answers.{number-one}
 use Rattle.unit.specs.UnitNumber.{outsideCount, outcomeOf, wholePart}
 use Rattle.unit.specs.Orders.{outcomeOrder}
@@ -71,29 +74,17 @@ module _ (c : ℕ) (u : Float) where
 
 -- ---- of a draw
 
--- the number of a refusal, 0 where there is none
-abbrev numberIn : Says ℕ → ℕ
-numberIn (refuses k) = k .number
-numberIn (gives n) = 0
-
--- 27 comes of its own row alone
-not-27 : (a b c e : Bool) (n : ℕ) → byTable ((by 20, a) ∷ (by 23, b) ∷ (by 28, c) ∷ (by 27, false) ∷ (by 29, e) ∷ []) (gives n) ≡ refuses (by 27) → ⊥
-unfolding byTable
-not-27 true b c e n h = let z : _≡_ {A = ℕ} 20 27 = ap numberIn h in omega arith
-not-27 false true c e n h = let z : _≡_ {A = ℕ} 23 27 = ap numberIn h in omega arith
-not-27 false false true e n h = let z : _≡_ {A = ℕ} 28 27 = ap numberIn h in omega arith
-not-27 false false false true n h = let z : _≡_ {A = ℕ} 29 27 = ap numberIn h in omega arith
-not-27 false false false false n h = let z : _≡_ {A = ℕ} 0 27 = ap numberIn h in omega arith
-
 module _ (w : List ℕ) (i : ℕ) where
+  -- where its row does not hold, no other gives 27
   below-27 : i < outcomes (stateOf w) → (old new list cells : List ℕ) (d : Drawn) → Draws w i old new list cells d → d .answer ≡ Refused (by 27) → ⊥
-  unfolding drawSays
+  unfolding drawSays any imageRows
   below-27 h old new list cells d p e =
       let f : Draw → ℕ = λ x. length (imageOf (x .next)) in
       let t = drawOrder w i (length old) (length list) in
       let x : Draw = record { next = afterDraw (stateOf w) i; cells = drawn (stateOf w) i } in
-      let q : byTable t (gives (f x)) ≡ refuses (by 27) = sym (table-seen f t x) ∙ sym (p .answer) ∙ ap says e in
-      not-27 _ _ _ _ (f x) (rw (lt-ltb i (outcomes (stateOf w)) h) at q)
+      let rest = drop 1 (drawRows w i (length old) (length list)) in
+      let above = table-without (countOrder w) rest (by 27, not (ltb i (outcomes (stateOf w)))) (gives (f x)) (λ z. ap not (lt-ltb i (outcomes (stateOf w)) h)) in
+      true≢false (sym (table-listed (countOrder w ++ rest) (f x) (by 27) (sym above ∙ sym (table-seen f t x) ∙ sym (p .answer) ∙ ap says e)))
 
   -- the count of an image, and an index chosen of it by a unit number: a draw of that index may be refused, but not by 27
   pub chosen-draws : (c : ℕ) (u : Float) (n r : Number) → Counts w n → n ≡ Value c → Chooses c u r → r ≡ Value i → NeverAbove w i

@@ -18,6 +18,7 @@ use Rattle.rules.specs.Promises.{Observes}
 use Rattle.rules.specs.declared.Answer.{Answer}
 use Rattle.rules.proofs.Facts.{sound}
 use Rattle.rules.proofs.Answers.{answer-one}
+use Rattle.rules.proofs.Faults.{image-on}
 use Rattle.rules.specs.Seen.{Alike, DifferOnly, SameSeen}
 use Rattle.rules.proofs.View.{same-view, alike}
 
@@ -26,12 +27,14 @@ module _ (w v : List ℕ) (a : ℕ) (p : wellFormed w ≡ true) (q : wellFormed 
   unfolding observeSays byTable
   inside-says room t =
       let u : ltb a (snakesIn v) ≡ true = ap (ltb a) (sym (k .snakes)) ∙ t in
-      rw (p, q, t, u)
+      image-on w _ _ p
+      ∙ rw (t, u)
       (ap₂ (λ (g : ℕ) (x : List Float). refuses (by 29) if ltb room (5 * (g * g)) else gives x) (k .side) (same-view w v a (ltb-true a (snakesIn w) t) k))
+      ∙ sym (image-on v _ _ q)
 
   outside-says : (room : ℕ) → ltb a (snakesIn w) ≡ false → observeSays w a room ≡ observeSays v a room
   unfolding observeSays byTable
-  outside-says room t = let u : ltb a (snakesIn v) ≡ false = ap (ltb a) (sym (k .snakes)) ∙ t in rw (p, q, t, u)
+  outside-says room t = let u : ltb a (snakesIn v) ≡ false = ap (ltb a) (sym (k .snakes)) ∙ t in image-on w _ _ p ∙ (rw (t, u)) ∙ sym (image-on v _ _ q)
 
   same-says : (room : ℕ) → observeSays w a room ≡ observeSays v a room
   same-says room = ⊎-elim (inside-says room) (outside-says room) (tell (ltb a (snakesIn w)))

@@ -74,10 +74,10 @@ module _ (w : List ℕ) where
 -- ---- `body_once`: the body of snake i, whose start and length stand at words k and m
 
 module _ (w : List ℕ) (o : OnBoard w) (i : ℕ) (h : i < snakesIn w) (k m : ℕ) (e : k ≡ 5 + 4 * i) (q : m ≡ 6 + 4 * i) where
-  abbrev body : List ℕ
+  abbrev pub body : List ℕ
   body = take (getD w k 0 + getD w m 0 - getD w k 0) (drop (getD w k 0) w)
 
-  body-is : body ≡ bodyAt w i
+  pub body-is : body ≡ bodyAt w i
   body-is = part-is w (getD w k 0) (getD w m 0) ∙ rw (e, q)
 
   body-early : getD w k 0 + getD w m 0 ≤ 8229

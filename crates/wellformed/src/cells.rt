@@ -24,7 +24,7 @@ fn cells_below(cells: &[u16], area: u16) -> bool
 }
 
 // No cell of the i-th body twice, by its own stamp.
-fn body_once(image: &[u16], i: usize, board: &mut [u8; 1024]) -> bool
+pub fn body_once(image: &[u16], i: usize, board: &mut [u8; 1024]) -> bool
     requires { ⌜ OnBoard (now image) × (i < snakesIn (now image)) ⌝ }
     requires { ⌜ Board (i + 1) (now board) ⌝ }
     ensures { λ r. ⌜ Stamped (bodyAt (now (image .entry)) i) (i + 1) r (now (board .exit)) ⌝ }
@@ -79,7 +79,7 @@ fn lists_fit(image: &[u16], food: usize) -> bool
     rising(&image[food..])
 }
 
-fn cells_fit(image: &[u16]) -> bool
+pub fn cells_fit(image: &[u16]) -> bool
     requires { ⌜ Ranged (now image) ⌝ }
     ensures { λ r. ⌜ r ≡ cellsFit (now (image .entry)) ⌝ }
 {

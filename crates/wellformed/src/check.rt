@@ -1,4 +1,4 @@
-// Refusal 20: whether a lent slice is a well-formed image. The tests come in the order of the definition, so that the words
+// Whether a lent slice is a well-formed image. The tests come in the order of the definition, so that the words
 // of an overlong slice are never read: its length is tested before any cell.
 use crate::cells::parts_fit;
 use crate::contents::laid_out;

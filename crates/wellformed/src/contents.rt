@@ -12,9 +12,9 @@ ghost use Rattle.rules.specs.Image.{front, areaIn, longEnough, contentsFit, rec
 ghost use Rattle.wellformed.specs.Checked.{Long, Ranged, Adds};
 
 // Whether every body starts where it is due, and where the food is due.
-pub(crate) struct Layout {
-    pub(crate) fits: bool,
-    pub(crate) food: usize,
+pub struct Layout {
+    pub fits: bool,
+    pub food: usize,
 }
 
 pub(crate) fn long_enough(image: &[u16]) -> bool
@@ -26,7 +26,7 @@ pub(crate) fn long_enough(image: &[u16]) -> bool
     front(image[0] as usize) <= image.len()
 }
 
-fn contents_fit(image: &[u16]) -> bool
+pub fn contents_fit(image: &[u16]) -> bool
     requires { ⌜ 5 ≤ length (now image) ⌝ }
     ensures { λ r. ⌜ r ≡ contentsFit (now (image .entry)) ⌝ }
 {
@@ -40,7 +40,7 @@ fn contents_fit(image: &[u16]) -> bool
         & (foods <= g * g)
 }
 
-fn record_fits(image: &[u16], area: usize, i: usize) -> bool
+pub fn record_fits(image: &[u16], area: usize, i: usize) -> bool
     requires { ⌜ (i < 65536) × (8 + 4 * i < length (now image)) × (area ≡ areaIn (now image)) ⌝ }
     ensures { λ r. ⌜ r ≡ recordFits (now (image .entry)) i ⌝ }
 {
@@ -74,7 +74,7 @@ pub(crate) fn ranges_fit(image: &[u16]) -> bool
 }
 
 // A running sum: each start is held against the lengths before it.
-pub(crate) fn laid_out(image: &[u16]) -> Layout
+pub fn laid_out(image: &[u16]) -> Layout
     requires { ⌜ Ranged (now image) ⌝ }
     ensures { λ r. ⌜ Adds (now (image .entry)) r ⌝ }
 {

@@ -7,6 +7,7 @@ use reinfors_core::{Reward, Space, StateEncoder};
 
 use crate::paper::{self, Number, Setting, State};
 use crate::paper_books::{self, Refused};
+use crate::paper_faults::{self, Refusal};
 use crate::paper_rules;
 use crate::paper_struck::{self, Hit};
 use crate::rust;
@@ -65,7 +66,7 @@ fn step_state(s: &Setting, state: &State, actions: &[u64]) -> Stepped {
     Stepped { terminal: ruled.terminal, events, next }
 }
 
-pub fn step(s: &Setting, words: &[u16], actions: &[u64]) -> Result<Stepped, Number> {
+pub fn step(s: &Setting, words: &[u16], actions: &[u64]) -> Result<Stepped, Refusal> {
     check_setting(s)?;
     let state = paper::check_step(s, words, actions)?;
     Ok(step_state(s, &state, actions))
@@ -77,7 +78,7 @@ pub fn step_image(
     words: &[u16],
     actions: &[u64],
     room: u64,
-) -> Result<(bool, Vec<StepEvent>, Vec<u16>), Number> {
+) -> Result<(bool, Vec<StepEvent>, Vec<u16>), Refusal> {
     let stepped = step(s, words, actions)?;
     let next = image(&stepped.next);
     paper::check_room(room, next.len())?;
@@ -86,7 +87,7 @@ pub fn step_image(
 
 /// Who was hit where: the causes are the Rust's, the rest is the paper's. A moved head is hit by nobody: two heads that
 /// meet are another cause.
-pub fn struck(s: &Setting, words: &[u16], actions: &[u64]) -> Result<[Hit; 8], Number> {
+pub fn struck(s: &Setting, words: &[u16], actions: &[u64]) -> Result<[Hit; 8], Refusal> {
     let stepped = step(s, words, actions)?;
     let state = paper::check_step(s, words, actions)?;
     let causes: Vec<u64> = stepped.events.iter().map(|e| rust::event_numbers(e)[2]).collect();
@@ -110,19 +111,19 @@ fn rust_count(state: &State) -> u64 {
     }
 }
 
-pub fn count(words: &[u16]) -> Result<u64, Number> {
-    let state = paper::read_image(words).ok_or(20)?;
+pub fn count(words: &[u16]) -> Result<u64, Refusal> {
+    let state = paper_faults::state(words)?;
     let answer = paper::count(&state);
     match answer {
         Ok(n) => assert_eq!(n, rust_count(&state), "the paper and chance_node differ"),
         Err(28) => assert!(rust::caught(|| rust_count(&state)).is_err(), "the Rust counts beyond 28"),
         Err(_) => {}
     }
-    answer
+    Ok(answer?)
 }
 
 /// The draw of an index: the Rust's next state, and the paper's ordered list, which must lead to it.
-pub fn draw(words: &[u16], index: u64) -> Result<(State, Vec<u16>), Number> {
+pub fn draw(words: &[u16], index: u64) -> Result<(State, Vec<u16>), Refusal> {
     let state = paper::check_draw(words, index)?;
     let ruled = rust::game_of(&state).apply_chance_node(&rust::to_rust(&state), index as usize);
     assert!(!ruled.terminal && ruled.events.iter().all(Option::is_none), "a draw is silent");
@@ -133,7 +134,7 @@ pub fn draw(words: &[u16], index: u64) -> Result<(State, Vec<u16>), Number> {
 }
 
 /// The draw into two lent buffers.
-pub fn draw_image(words: &[u16], index: u64, room: u64, list_room: u64) -> Result<(Vec<u16>, Vec<u16>), Number> {
+pub fn draw_image(words: &[u16], index: u64, room: u64, list_room: u64) -> Result<(Vec<u16>, Vec<u16>), Refusal> {
     let (state, list) = draw(words, index)?;
     let next = image(&state);
     paper::check_room(room, next.len())?;
@@ -142,15 +143,15 @@ pub fn draw_image(words: &[u16], index: u64, room: u64, list_room: u64) -> Resul
 }
 
 /// Rank, by the paper; the draw of the answer must give the list.
-pub fn rank(words: &[u16], list: &[u16]) -> Result<u64, Number> {
-    let state = paper::read_image(words).ok_or(20)?;
+pub fn rank(words: &[u16], list: &[u16]) -> Result<u64, Refusal> {
+    let state = paper_faults::state(words)?;
     let index = paper::rank(&state, list)?;
     assert_eq!(draw(words, index).expect("a rank is an index").1, list, "the rank's draw is another list");
     Ok(index)
 }
 
 /// Observation: 5g² numbers, each 0.0 or 1.0.
-pub fn observation(words: &[u16], agent: u64, room: u64) -> Result<Vec<u8>, Number> {
+pub fn observation(words: &[u16], agent: u64, room: u64) -> Result<Vec<u8>, Refusal> {
     let state = paper::check_agent(words, agent)?;
     let ruled = rust::to_rust(&state);
     let planes = snake::egocentric_parts(&ruled.snakes, &ruled.food, i32::from(state.side), agent as usize);
@@ -167,8 +168,8 @@ pub fn observation(words: &[u16], agent: u64, room: u64) -> Result<Vec<u8>, Numb
 }
 
 /// Whether chance acts.
-pub fn actor(words: &[u16]) -> Result<bool, Number> {
-    let state = paper::read_image(words).ok_or(20)?;
+pub fn actor(words: &[u16]) -> Result<bool, Refusal> {
+    let state = paper_faults::state(words)?;
     let chance = match rust::game_of(&state).actor(&rust::to_rust(&state)) {
         Actor::Chance => true,
         Actor::Simultaneous => false,
@@ -178,7 +179,7 @@ pub fn actor(words: &[u16]) -> Result<bool, Number> {
     Ok(chance)
 }
 
-pub fn legal_actions(words: &[u16], agent: u64) -> Result<Vec<usize>, Number> {
+pub fn legal_actions(words: &[u16], agent: u64) -> Result<Vec<usize>, Refusal> {
     let state = paper::check_agent(words, agent)?;
     let actions = rust::game_of(&state).legal_actions(&rust::to_rust(&state), agent as usize);
     let read = paper_rules::legal_actions(&state, agent as usize);
@@ -186,14 +187,14 @@ pub fn legal_actions(words: &[u16], agent: u64) -> Result<Vec<usize>, Number> {
     Ok(actions)
 }
 
-pub fn length_cell(words: &[u16]) -> Result<Option<u64>, Number> {
-    let state = paper::read_image(words).ok_or(20)?;
+pub fn length_cell(words: &[u16]) -> Result<Option<u64>, Refusal> {
+    let state = paper_faults::state(words)?;
     let cell = snake::snake_length_cell(&rust::to_rust(&state));
     assert_eq!(cell, paper_rules::length_cell(&state), "the paper and snake_length_cell differ");
     Ok(cell)
 }
 
-pub fn truncation(words: &[u16], agent: u64, event: StepEvent) -> Result<StepEvent, Number> {
+pub fn truncation(words: &[u16], agent: u64, event: StepEvent) -> Result<StepEvent, Refusal> {
     let state = paper::check_agent(words, agent)?;
     let read = paper_rules::truncation(&state, agent as usize, rust::event_numbers(&event));
     let mut trace = vec![(agent as usize, event)];
@@ -234,7 +235,7 @@ pub fn outcome_of(count: u64, u: f64) -> Result<u64, Number> {
 }
 
 /// The three sizes of the observation space, whose bounds must be 0.0 and 1.0.
-pub fn observation_space(grid: i32) -> Result<Vec<usize>, Number> {
+pub fn observation_space(grid: i32) -> Result<Vec<usize>, Refusal> {
     paper::check_space(grid)?;
     match (EgocentricSnake { grid_size: grid }).observation_space() {
         Space::Box { shape, low, high } => {
@@ -274,7 +275,7 @@ pub fn turn(heading: u16, action: usize) -> u16 {
 fn hold_row(row: &[u16]) {
     let mut rest = row;
     loop {
-        let length = paper_books::first_image(rest).map(|(_, length)| length);
+        let length = paper_books::first_image(rest).map(|(_, length)| length).ok();
         let is_image = |&length: &usize| paper::read_image(&rest[..length]).is_some();
         assert_eq!(length, (0..=rest.len()).find(is_image), "an image's own contents tell its length");
         match length {
@@ -295,13 +296,13 @@ fn hold_written(s: &Setting, pages: u64, row: &[u16], book: &[u16]) {
         rest = &rest[length..];
     }
     assert!(rest.is_empty(), "the pages are the whole row");
-    assert_eq!(paper_books::read(book, pages), Err((41, "no such page")));
+    assert_eq!(paper_books::read(book, pages), Err((41.into(), "no such page")));
 }
 
 /// The book of the images in a row, in a lent buffer.
 pub fn write_book(s: &Setting, pages: u64, row: &[u16], room: u64) -> Result<Vec<u16>, Refused> {
     let answer = paper_books::write(s, pages, row, room);
-    let refused = check_setting(s).map_err(|number| (number, "the setting's"));
+    let refused = check_setting(s).map_err(|number| (Refusal::from(number), "the setting's"));
     assert!(refused.is_ok() || answer.as_ref().err() == refused.as_ref().err(), "a refused setting comes first");
     if row.len() <= 100 {
         hold_row(row);

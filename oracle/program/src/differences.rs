@@ -155,7 +155,8 @@ struct Table {
 impl Table {
     fn row(&mut self, number: u8, what: &str, call: Call) {
         let refused = probe::answer(call.line.as_bytes());
-        assert_eq!(refused, format!("r {number}"), "{}", call.line);
+        let given = refused.strip_prefix("r ").and_then(|text| text.split(' ').next());
+        assert_eq!(given, Some(number.to_string().as_str()), "{}", call.line);
         let does = match call.does {
             Ok(text) => format!("answers {text}"),
             Err(why) => format!("panics: {}", why.replace('\n', " ")),
@@ -223,27 +224,27 @@ impl Table {
     fn images(&mut self) {
         let any = "2 3 1 0 - 0 -";
         let doubled = state(3, 0, false, &[alive(RIGHT, &[4, 3, 3]), alive(LEFT, &[8])], &[]);
-        self.row(20, "`step`, a cell twice in a body", step(any, &doubled, &[0, 0]));
-        self.row(20, "`snake_length_cell`, the same", length_cell(&doubled));
+        self.row(55, "`step`, a cell twice in a body", step(any, &doubled, &[0, 0]));
+        self.row(55, "`snake_length_cell`, the same", length_cell(&doubled));
         let bodiless = state(3, 0, false, &[alive(RIGHT, &[]), alive(LEFT, &[8])], &[]);
-        self.row(20, "`step`, a living snake with no cell", step(any, &bodiless, &[0, 0]));
-        self.row(20, "`egocentric_parts`, the same", observed(&bodiless, 0));
-        self.row(20, "`legal_actions`, the same", legal(&bodiless, 0));
-        self.row(20, "`snake_length_cell`, the same", length_cell(&bodiless));
+        self.row(51, "`step`, a living snake with no cell", step(any, &bodiless, &[0, 0]));
+        self.row(51, "`egocentric_parts`, the same", observed(&bodiless, 0));
+        self.row(51, "`legal_actions`, the same", legal(&bodiless, 0));
+        self.row(51, "`snake_length_cell`, the same", length_cell(&bodiless));
         let outside = state(3, 0, false, &[alive(RIGHT, &[9]), alive(LEFT, &[8])], &[]);
-        self.row(20, "`step`, a body cell g²", step(any, &outside, &[1, 0]));
-        self.row(20, "`egocentric_parts`, the same, an agent that heads Left", observed(&outside, 1));
-        self.row(20, "`egocentric_parts`, the same, an agent that heads Right: a wrong place", observed(&outside, 0));
+        self.row(54, "`step`, a body cell g²", step(any, &outside, &[1, 0]));
+        self.row(54, "`egocentric_parts`, the same, an agent that heads Left", observed(&outside, 1));
+        self.row(54, "`egocentric_parts`, the same, an agent that heads Right: a wrong place", observed(&outside, 0));
         let pair = [alive(RIGHT, &[4]), alive(LEFT, &[5])];
-        self.row(20, "`chance_node`, food on cell g²", count(&state(3, 1, false, &pair, &[9])));
-        self.row(20, "`chance_node`, food due 1,025", count(&state(3, 1025, true, &pair, &[])));
+        self.row(54, "`chance_node`, food on cell g²", count(&state(3, 1, false, &pair, &[9])));
+        self.row(51, "`chance_node`, food due 1,025", count(&state(3, 1025, true, &pair, &[])));
         let spot = [alive(RIGHT, &[0]), alive(LEFT, &[0])];
-        self.row(20, "`chance_node`, more cells taken than g²", count(&state(1, 1, false, &spot, &[1])));
-        self.row(20, "`chance_node`, side 33", count(&state(33, 1, false, &pair, &[])));
-        self.row(20, "`chance_node`, first side whose square overflows", count(&state(46341, 1, false, &pair, &[])));
+        self.row(54, "`chance_node`, more cells taken than g²", count(&state(1, 1, false, &spot, &[1])));
+        self.row(51, "`chance_node`, side 33", count(&state(33, 1, false, &pair, &[])));
+        self.row(51, "`chance_node`, first side whose square overflows", count(&state(46341, 1, false, &pair, &[])));
         let nine = vec![alive(UP, &[0, 1, 2]); 9];
-        self.row(20, "`snake_length_cell`, nine snakes", length_cell(&state(3, 0, false, &nine, &[])));
-        self.row(20, "`step`, one snake", step(any, &state(3, 0, false, &[alive(RIGHT, &[4])], &[]), &[0]));
+        self.row(51, "`snake_length_cell`, nine snakes", length_cell(&state(3, 0, false, &nine, &[])));
+        self.row(51, "`step`, one snake", step(any, &state(3, 0, false, &[alive(RIGHT, &[4])], &[]), &[0]));
     }
 
     fn steps(&mut self) {

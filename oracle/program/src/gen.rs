@@ -13,6 +13,9 @@ pub const BASE: &str = "vvvissssssssccdddddkkkkkooobbtllzzuuwwwpqhxx";
 /// Letters of document 02.
 pub const LATER: &str = "BBPPPHHHnn";
 
+/// Letters whose images are all damaged: those that take one, the check most often, and books.
+pub const FAULTS: &str = "xxxxxxxxsHcdkotlzuBBBPPP";
+
 /// As many words as a line with a book or a row may hold.
 const MOST_BOOK_WORDS: u64 = 262_144;
 
@@ -34,6 +37,9 @@ pub struct Generator {
     /// Calls with the single faults of one short row, and of one short book, that are still to come.
     row_faults: Vec<String>,
     book_faults: Vec<String>,
+    /// Whether all images are damaged, and the single faults of one small image that are still to come.
+    damaged: bool,
+    image_faults: Vec<Vec<u16>>,
 }
 
 fn joined<T: ToString>(numbers: &[T]) -> String {
@@ -49,8 +55,10 @@ impl Generator {
     pub fn new(seed: u64, letters: &str, size: Size) -> Self {
         let mut rng = Random::new(seed);
         let player = Player::new(&mut rng);
+        let damaged = letters == FAULTS;
         let letters = letters.bytes().collect();
-        Generator { rng, player, letters, size, row_faults: Vec::new(), book_faults: Vec::new() }
+        let (row_faults, book_faults, image_faults) = (Vec::new(), Vec::new(), Vec::new());
+        Generator { rng, player, letters, size, row_faults, book_faults, damaged, image_faults }
     }
 
     /// The next line, without its newline.
@@ -87,7 +95,7 @@ impl Generator {
             b'p' => format!("p {}", self.any_grid()),
             b'q' => "q".to_string(),
             b'h' => self.turn(),
-            b'x' => self.well_formed(),
+            b'x' => self.check_image(),
             b'H' => self.struck(),
             b'B' => self.write_book(),
             b'P' => self.read_page(),
@@ -119,6 +127,9 @@ impl Generator {
 
     /// The words of a state, one in eight with one fault or two.
     fn perhaps_damaged(&mut self, state: &State, once_in: u64) -> Vec<u16> {
+        if self.damaged {
+            return self.damaged_words(state);
+        }
         let mut words = paper::write_image(state);
         if self.rng.once_in(once_in) {
             for _ in 0..self.rng.between(1, 2) {
@@ -133,6 +144,35 @@ impl Generator {
             words.resize(count, 1);
         }
         words
+    }
+
+    /// Every single fault of a small image in turn, another small image once they are all given; one in three times the
+    /// words of this state with one fault to three.
+    fn damaged_words(&mut self, state: &State) -> Vec<u16> {
+        if self.rng.once_in(3) {
+            let mut words = paper::write_image(state);
+            for _ in 0..self.rng.between(1, 3) {
+                images::damage(&mut self.rng, &mut words);
+            }
+            return words;
+        }
+        if self.image_faults.is_empty() {
+            let small = self.small_image();
+            self.image_faults = books::single_faults(&small);
+            self.rng.shuffle(&mut self.image_faults);
+        }
+        self.image_faults.pop().expect("an image has faults")
+    }
+
+    /// The words of a state of few cells.
+    fn small_image(&mut self) -> Vec<u16> {
+        loop {
+            let (n, side) = (self.rng.between(2, 4), self.rng.between(1, 6) as u16);
+            let words = paper::write_image(&images::any_state(&mut self.rng, n, side));
+            if words.len() <= 60 {
+                return words;
+            }
+        }
     }
 
     fn image(&mut self, for_draw: bool) -> Vec<u16> {
@@ -186,7 +226,7 @@ impl Generator {
         format!("z{}", listed(&words))
     }
 
-    fn well_formed(&mut self) -> String {
+    fn check_image(&mut self) -> String {
         let state = self.state(true);
         let words = self.perhaps_damaged(&state, 2);
         format!("x{}", listed(&words))

@@ -11,6 +11,7 @@ mod match_stats;
 mod matches;
 mod paper;
 mod paper_books;
+mod paper_faults;
 mod paper_rules;
 mod paper_struck;
 mod probe;
@@ -51,7 +52,8 @@ fn number(text: &str) -> u64 {
 fn usage() -> ! {
     eprintln!(
         "usage: oracle                            answer the calls on standard input
-       oracle gen N SEED [OPS [SIZE]]    N calls; OPS is their letters, or all, or 01 for those of document 01;
+       oracle gen N SEED [OPS [SIZE]]    N calls; OPS is their letters, or all, or 01 for those of document 01,
+                                         or faults for calls on damaged images alone;
                                          SIZE is the longest line in bytes, or full for the largest image and
                                          for books of more than 65,535 words alone
        oracle stats                      how often each answer comes to the calls on standard input
@@ -73,6 +75,7 @@ fn generate(count: u64, seed: u64, ops: &str, size: gen::Size) -> io::Result<()>
     let letters = match ops {
         "all" => &all,
         "01" => gen::BASE,
+        "faults" => gen::FAULTS,
         letters => letters,
     };
     if letters.is_empty() || !letters.chars().all(|letter| all.contains(letter)) {

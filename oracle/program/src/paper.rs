@@ -3,6 +3,7 @@
 //! Nothing here calls the Rust; `calls.rs` holds the two against each other where both know the answer.
 
 use crate::fields::{flag, grid, number, optional, Fields};
+use crate::paper_faults::{self, Refusal};
 
 /// A refusal's number.
 pub type Number = u8;
@@ -257,7 +258,7 @@ pub fn draws(state: &State) -> u64 {
     }
 }
 
-/// Count: 20 is the caller's; then 23, 28.
+/// Count: the image is the caller's; then 23, 28.
 pub fn count(state: &State) -> Result<u64, Number> {
     if state.due == 0 {
         return Err(23);
@@ -293,7 +294,7 @@ pub fn after_draw(state: &State, cells: &[u16]) -> State {
     next
 }
 
-/// Rank: 20 is the caller's; then 23, 28, 30.
+/// Rank: the image is the caller's; then 23, 28, 30.
 pub fn rank(state: &State, list: &[u16]) -> Result<u64, Number> {
     count(state)?;
     if list.len() as u64 != draws(state) {
@@ -321,41 +322,41 @@ pub fn check_board(s: &Setting, state: &State) -> Result<(), Number> {
     }
 }
 
-/// Step: setting, 20, 21, 22, 24, 25; 29 needs the answer and is last.
-pub fn check_step(s: &Setting, words: &[u16], actions: &[u64]) -> Result<State, Number> {
+/// Step: setting, the image's, 21, 22, 24, 25; 29 needs the answer and is last.
+pub fn check_step(s: &Setting, words: &[u16], actions: &[u64]) -> Result<State, Refusal> {
     check_setting(s)?;
-    let state = read_image(words).ok_or(20)?;
+    let state = paper_faults::state(words)?;
     check_board(s, &state)?;
     if state.due > 0 {
-        return Err(22);
+        return Err(22.into());
     }
     if actions.len() != state.snakes.len() {
-        return Err(24);
+        return Err(24.into());
     }
     let beyond = |(snake, &action): (&Snake, &u64)| snake.alive && action > 2;
     if state.snakes.iter().zip(actions).any(beyond) {
-        return Err(25);
+        return Err(25.into());
     }
     Ok(state)
 }
 
-/// Observation, legal actions, truncation: 20, 26.
-pub fn check_agent(words: &[u16], agent: u64) -> Result<State, Number> {
-    let state = read_image(words).ok_or(20)?;
+/// Observation, legal actions, truncation: the image's, 26.
+pub fn check_agent(words: &[u16], agent: u64) -> Result<State, Refusal> {
+    let state = paper_faults::state(words)?;
     if agent < state.snakes.len() as u64 {
         Ok(state)
     } else {
-        Err(26)
+        Err(26.into())
     }
 }
 
-/// Draw: 20, 23, 28, 27; 29 needs the answer and is last.
-pub fn check_draw(words: &[u16], index: u64) -> Result<State, Number> {
-    let state = read_image(words).ok_or(20)?;
+/// Draw: the image's, 23, 28, 27; 29 needs the answer and is last.
+pub fn check_draw(words: &[u16], index: u64) -> Result<State, Refusal> {
+    let state = paper_faults::state(words)?;
     if index < count(&state)? {
         Ok(state)
     } else {
-        Err(27)
+        Err(27.into())
     }
 }
 

@@ -1,10 +1,11 @@
 //! Document 02's first wish, read a second time: a match book, written and read, with every refusal in its order.
 //! The published Rust has no books; `calls.rs` holds writer and reader against each other.
 
-use crate::paper::{self, Number, Setting, State};
+use crate::paper::{self, Setting, State};
+use crate::paper_faults::{self, Refusal};
 
-/// A refusal's number, and the paper's words that it was given under, which `oracle stats` counts.
-pub type Refused = (Number, &'static str);
+/// A refusal, and the paper's words that it was given under, which `oracle stats` counts.
+pub type Refused = (Refusal, &'static str);
 
 /// "number of pages up to 65,535"
 const MOST_PAGES: u64 = 65_535;
@@ -49,36 +50,39 @@ pub fn contents(s: &Setting, lengths: &[usize]) -> Vec<u16> {
     words
 }
 
-/// The image at the front of a row, and its length, which its own contents tell.
-pub fn first_image(row: &[u16]) -> Option<(State, usize)> {
-    let (snakes, food) = (usize::from(*row.first()?), usize::from(*row.get(4)?));
-    let records = row.get(5..5 + 4 * snakes)?;
-    let bodies: usize = records.chunks(4).map(|record| usize::from(record[1])).sum();
-    let length = 5 + records.len() + bodies + food;
-    Some((paper::read_image(row.get(..length)?)?, length))
+/// The image at the front of a row, and its length: all of the row, or up to the first word that is left over.
+pub fn first_image(row: &[u16]) -> Result<(State, usize), Refusal> {
+    // no image has more than 9,253 words
+    let length = match paper_faults::fault(&row[..row.len().min(9_254)]) {
+        Some(Refusal { number: 53, word: Some(word) }) => word,
+        _ => row.len(),
+    };
+    Ok((paper_faults::state(&row[..length])?, length))
 }
 
-/// "writing, the setting's, then 42 above 65,535 pages, then 20 and 21 page by page, then 29"
+/// "writing, the setting's, then 42 above 65,535 pages, then 20 and 21 page by page, then 29"; "where 20 stood in an
+/// order, the whole group stands", and "in a book or a writer's row, words count from the page's own start"
 pub fn write(s: &Setting, pages: u64, row: &[u16], room: u64) -> Result<Vec<u16>, Refused> {
-    paper::check_setting(s).map_err(|number| (number, "the setting's"))?;
+    paper::check_setting(s).map_err(|number| (number.into(), "the setting's"))?;
     if pages > MOST_PAGES {
-        return Err((42, "above 65,535 pages"));
+        return Err((42.into(), "above 65,535 pages"));
     }
     let mut lengths = Vec::new();
     let mut rest = row;
     for _ in 0..pages {
-        let (state, length) = first_image(rest).ok_or((20, "page by page"))?;
-        paper::check_board(s, &state).map_err(|number| (number, "page by page"))?;
+        let (state, length) = first_image(rest).map_err(|refusal| (refusal, "page by page"))?;
+        paper::check_board(s, &state).map_err(|number| (number.into(), "page by page"))?;
         lengths.push(length);
         rest = &rest[length..];
     }
-    // "words after the last, tested after its 21, are 20 too"
+    // "words after the last, tested after its 21, are 20 too": the first of them, from the last page's own start
     if !rest.is_empty() {
-        return Err((20, "words after the last"));
+        let word = lengths.last().copied().unwrap_or(0);
+        return Err((Refusal { number: 53, word: Some(word) }, "words after the last"));
     }
     // "then the state images one after another, no word left over"
     let book = [contents(s, &lengths).as_slice(), row].concat();
-    paper::check_room(room, book.len()).map_err(|number| (number, "the buffer"))?;
+    paper::check_room(room, book.len()).map_err(|number| (number.into(), "the buffer"))?;
     Ok(book)
 }
 
@@ -150,17 +154,17 @@ pub fn read_contents(book: &[u16]) -> Result<Contents, &'static str> {
 pub fn page(contents: &Contents, book: &[u16], page: u64) -> Result<(usize, usize), Refused> {
     let Contents { setting, starts } = contents;
     if page >= starts.len() as u64 {
-        return Err((41, "no such page"));
+        return Err((41.into(), "no such page"));
     }
     let start = starts[page as usize];
     let end = starts.get(page as usize + 1).copied().unwrap_or(book.len());
-    let state = paper::read_image(&book[start..end]).ok_or((20, "for the page"))?;
-    paper::check_board(setting, &state).map_err(|number| (number, "for the page"))?;
+    let state = paper_faults::state(&book[start..end]).map_err(|refusal| (refusal, "for the page"))?;
+    paper::check_board(setting, &state).map_err(|number| (number.into(), "for the page"))?;
     Ok((start, end - start))
 }
 
 /// "reading, 40 ..; then 41 .., then 20 and 21 for the page"
 pub fn read(book: &[u16], at: u64) -> Result<(usize, usize), Refused> {
-    let contents = read_contents(book).map_err(|why| (40, why))?;
+    let contents = read_contents(book).map_err(|why| (40.into(), why))?;
     page(&contents, book, at)
 }

@@ -4,8 +4,9 @@ use std::fmt::Display;
 
 use crate::calls;
 use crate::fields::{self, Fields};
-use crate::paper::{self, Number, Setting};
+use crate::paper::{self, Setting};
 use crate::paper_books::Refused;
+use crate::paper_faults::{self, Refusal};
 use crate::rust;
 use crate::snake::StepEvent;
 
@@ -16,7 +17,7 @@ const MOST_RANKED: u64 = 2_048;
 const MOST_BOOK_WORDS: u64 = 262_144;
 
 /// An answer's text after `a`, or a refusal.
-type Answer = Result<String, Number>;
+type Answer = Result<String, Refusal>;
 
 fn put(text: &mut String, number: impl Display) {
     use std::fmt::Write;
@@ -71,14 +72,14 @@ fn event(fields: &mut Fields) -> Option<StepEvent> {
 fn setting_check(f: &mut Fields) -> Option<Answer> {
     let s = Setting::read(f)?;
     f.end()?;
-    Some(calls::check_setting(&s).map(|()| String::new()))
+    Some(calls::check_setting(&s).map(|()| String::new()).map_err(Refusal::from))
 }
 
 fn initial(f: &mut Fields) -> Option<Answer> {
     let s = Setting::read(f)?;
     let room = f.up_to(MOST_WORDS)?;
     f.end()?;
-    Some(calls::initial_image(&s, room).map(|image| {
+    Some(calls::initial_image(&s, room).map_err(Refusal::from).map(|image| {
         let mut text = String::new();
         put_list(&mut text, &image);
         text
@@ -206,20 +207,20 @@ fn reward(f: &mut Fields) -> Option<Answer> {
     }
     let event = event(f)?;
     f.end()?;
-    Some(calls::reward(&weights, &event).map(|sum| texted(&[sum.to_bits()])))
+    Some(calls::reward(&weights, &event).map_err(Refusal::from).map(|sum| texted(&[sum.to_bits()])))
 }
 
 fn outcome_of(f: &mut Fields) -> Option<Answer> {
     let count = f.number()?;
     let u = f64::from_bits(f.number()?);
     f.end()?;
-    Some(calls::outcome_of(count, u).map(|index| texted(&[index])))
+    Some(calls::outcome_of(count, u).map_err(Refusal::from).map(|index| texted(&[index])))
 }
 
 fn observation_space(f: &mut Fields) -> Option<Answer> {
     let grid = fields::grid(f.next()?)?;
     f.end()?;
-    Some(calls::observation_space(grid).map(|sizes| {
+    Some(calls::observation_space(grid).map_err(Refusal::from).map(|sizes| {
         let mut text = String::new();
         put_all(&mut text, sizes);
         text
@@ -238,9 +239,9 @@ fn turn(f: &mut Fields) -> Option<Answer> {
     Some(Ok(texted(&[u64::from(calls::turn(heading as u16, action as usize))])))
 }
 
-fn well_formed(f: &mut Fields) -> Option<Answer> {
+fn check_image(f: &mut Fields) -> Option<Answer> {
     let image = words(f)?;
-    Some(paper::read_image(&image).map(|_| String::new()).ok_or(20))
+    Some(paper_faults::state(&image).map(|_| String::new()))
 }
 
 /// `B`: the book.
@@ -254,7 +255,7 @@ fn written(f: &mut Fields) -> Option<Result<Vec<u16>, Refused>> {
 
 fn write_book(f: &mut Fields) -> Option<Answer> {
     let answer = written(f)?;
-    Some(answer.map_err(|(number, _)| number).map(|book| {
+    Some(answer.map_err(|(refusal, _)| refusal).map(|book| {
         let mut text = String::new();
         put_list(&mut text, &book);
         text
@@ -271,7 +272,7 @@ fn page(f: &mut Fields) -> Option<Result<(usize, Vec<u16>), Refused>> {
 
 fn read_page(f: &mut Fields) -> Option<Answer> {
     let answer = page(f)?;
-    Some(answer.map_err(|(number, _)| number).map(|(start, words)| {
+    Some(answer.map_err(|(refusal, _)| refusal).map(|(start, words)| {
         let mut text = texted(&[start as u64]);
         put_list(&mut text, &words);
         text
@@ -309,7 +310,7 @@ fn call(line: &[u8]) -> Option<Answer> {
         b"p" => observation_space(&mut f),
         b"q" => action_space(&mut f),
         b"h" => turn(&mut f),
-        b"x" => well_formed(&mut f),
+        b"x" => check_image(&mut f),
         b"B" => write_book(&mut f),
         b"P" => read_page(&mut f),
         b"H" => struck(&mut f),
@@ -321,7 +322,8 @@ fn call(line: &[u8]) -> Option<Answer> {
 pub fn answer(line: &[u8]) -> String {
     match call(line) {
         None => "e".to_string(),
-        Some(Err(number)) => format!("r {number}"),
+        Some(Err(Refusal { number, word: Some(word) })) => format!("r {number} {word}"),
+        Some(Err(Refusal { number, word: None })) => format!("r {number}"),
         Some(Ok(text)) => format!("a{text}"),
     }
 }

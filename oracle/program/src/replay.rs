@@ -103,13 +103,13 @@ impl Match {
     }
 
     pub fn draw(&mut self, index: u64) -> Result<String, Number> {
-        self.state = calls::draw(&paper::write_image(&self.state), index)?.0;
+        self.state = calls::draw(&paper::write_image(&self.state), index).map_err(|refusal| refusal.number)?.0;
         Ok(self.line('d', false, &[]))
     }
 
     pub fn play(&mut self, actions: &[u64]) -> Result<String, Number> {
         let words = paper::write_image(&self.state);
-        let Stepped { terminal, mut events, next } = calls::step(&self.setting, &words, actions)?;
+        let Stepped { terminal, mut events, next } = calls::step(&self.setting, &words, actions).map_err(|refusal| refusal.number)?;
         self.state = next;
         self.moves += 1;
         for (died, event) in self.died.iter_mut().zip(&events) {

@@ -41,7 +41,8 @@ impl Stats {
             return;
         }
         *self.kinds.entry(format!("{letter} {kind}")).or_default() += 1;
-        if let Some(number) = answer.strip_prefix("r ") {
+        if let Some(refusal) = answer.strip_prefix("r ") {
+            let number = refusal.split(' ').next().expect("a number");
             *self.refusals.entry(number.parse().expect("a number")).or_default() += 1;
         } else if letter == 's' {
             self.add_step(answer);
@@ -71,8 +72,8 @@ impl Stats {
     }
 
     fn add_book(&mut self, letter: char, line: &[u8], answer: &str) {
-        if let Some((number, why)) = probe::book_refusal(line) {
-            *self.books.entry(format!("{letter} r {number:>2}, {why}:")).or_default() += 1;
+        if let Some((refusal, why)) = probe::book_refusal(line) {
+            *self.books.entry(format!("{letter} r {:>2}, {why}:", refusal.number)).or_default() += 1;
             return;
         }
         let number = |text: &str, field: usize| -> usize {

@@ -23,6 +23,7 @@ pub const ALL: &[(&str, fn())] = &[
     ("refused_books", refused_books),
     ("lent_books", lent_books),
     ("sentences", sentences),
+    ("faults", faults),
     ("boards", boards),
     ("what_an_image_shows", what_an_image_shows),
     ("events_as_letters", events_as_letters),
@@ -306,18 +307,18 @@ fn length_cells() {
 
 fn refused_images() {
     let bad = Image::unchecked(vec![2, 3, 0]);
-    assert_eq!(number(Image::checked(vec![])), 20);
+    assert_eq!(number(Image::checked(vec![])), 50);
     assert!(bad.body(0).is_empty());
-    assert_eq!(number(bad.step(&setting(2, 3, 1, 1), &[Forward; 2])), 20);
-    assert_eq!(number(bad.struck(&setting(2, 3, 1, 1), &[Forward; 2])), 20);
-    assert_eq!(number(bad.count()), 20);
-    assert_eq!(number(bad.draw(0)), 20);
-    assert_eq!(number(bad.rank(&[])), 20);
-    assert_eq!(number(bad.observe(9)), 20);
-    assert_eq!(number(bad.length_cell()), 20);
-    assert_eq!(number(bad.actor()), 20);
-    assert_eq!(number(bad.legal_actions(9)), 20);
-    assert_eq!(number(bad.truncation(9, Event::default())), 20);
+    assert_eq!(number(bad.step(&setting(2, 3, 1, 1), &[Forward; 2])), 50);
+    assert_eq!(number(bad.struck(&setting(2, 3, 1, 1), &[Forward; 2])), 50);
+    assert_eq!(number(bad.count()), 50);
+    assert_eq!(number(bad.draw(0)), 50);
+    assert_eq!(number(bad.rank(&[])), 50);
+    assert_eq!(number(bad.observe(9)), 50);
+    assert_eq!(number(bad.length_cell()), 50);
+    assert_eq!(number(bad.actor()), 50);
+    assert_eq!(number(bad.legal_actions(9)), 50);
+    assert_eq!(number(bad.truncation(9, Event::default())), 50);
     let good = image(3, 0, 0, &[alive(0, &[2]), alive(0, &[3])], &[]);
     assert!(good.body(2).is_empty());
     assert_eq!(number(good.observe(2)), 26);
@@ -609,11 +610,11 @@ fn refused_books() {
     assert_eq!(number(setting(2, 3, 0, 1).write_book(&with(&[&bad]))), 2);
     assert_eq!(number(set.write_book(&vec![bad.clone(); 65536])), 42);
     assert_eq!(number(set.write_book(&with(&[&other, &bad]))), 21);
-    assert_eq!(number(set.write_book(&with(&[&bad, &other]))), 20);
+    assert_eq!(number(set.write_book(&with(&[&bad, &other]))), 50);
     // two parts that only together are an image
     let (front, back) = images[0].words().split_at(7);
     let parts = [front, back].map(|words| Image::unchecked(words.to_vec()));
-    assert_eq!(number(set.write_book(&parts)), 20);
+    assert_eq!(number(set.write_book(&parts)), 50);
     let book = set.write_book(&images).unwrap();
     assert_eq!(number(book.page(3)), 41);
     assert_eq!(number(book.page(u64::MAX)), 41);
@@ -628,10 +629,15 @@ fn refused_books() {
     for cut in 0..book.words().len() {
         let opened = Book::open(book.words()[..cut].to_vec());
         assert_eq!(opened.as_ref().is_ok(), last < cut, "cut at {cut}");
-        assert_eq!(
-            opened.map_or(40, |book| number(book.page(2))),
-            if last < cut { 20 } else { 40 }
-        );
+        // a page that is cut is short of its contents' words, or of its own
+        let due = if last >= cut {
+            40
+        } else if cut < last + 13 {
+            50
+        } else {
+            53
+        };
+        assert_eq!(opened.map_or(40, |book| number(book.page(2))), due);
     }
     // a damaged page is refused alone
     let mut words = book.words().to_vec();
@@ -641,7 +647,7 @@ fn refused_books() {
         .pages()
         .map(|page| page.map_or_else(Refusal::number, |_| 0))
         .collect();
-    assert_eq!(pages, [0, 20, 0]);
+    assert_eq!(pages, [0, 54, 0]);
     let mut words = book.words().to_vec();
     words[2] = 4;
     assert_eq!(number(Book::open(words).unwrap().page(0)), 21);
@@ -665,8 +671,19 @@ fn lent_books() {
     let start = 23 + images[0].words().len();
     assert_eq!(page.as_ptr(), out[start..].as_ptr());
     assert_eq!(page, images[1].words());
-    assert_eq!(number(lend::write_book(&set, 2, &row, &mut out)), 20);
-    assert_eq!(number(lend::write_book(&set, 4, &row, &mut out)), 20);
+    assert_eq!(number(lend::write_book(&set, 2, &row, &mut out)), 53);
+    assert_eq!(number(lend::write_book(&set, 4, &row, &mut out)), 50);
+    // of a row no word is at hand, so the sentence tells no more than the fault
+    let says = |pages, row: &[u16]| {
+        let refusal = lend::write_book(&set, pages, row, &mut [0; 99]).unwrap_err();
+        refusal.to_string()
+    };
+    assert_eq!(says(0, &row), "refusal 53: word 0: total length wrong");
+    let nine: Vec<u16> = [9].iter().chain(&row[1..]).copied().collect();
+    assert_eq!(
+        says(3, &nine),
+        "refusal 51: word 0: a content word out of range, or a living snake's length 0"
+    );
     assert_eq!(number(lend::page(&[], 0)), 40);
 }
 
@@ -677,14 +694,106 @@ fn sentences() {
     let _: &dyn std::error::Error = &refusal;
     for number in 1..=u8::MAX {
         let refusal = Refusal::from_number(number).expect("not 0");
-        let named = [1..=6, 8..=12, 20..=31, 33..=33, 40..=42, 80..=81]
+        let named = [1..=6, 8..=12, 21..=31, 33..=33, 40..=42, 80..=81]
             .iter()
             .any(|numbers| numbers.contains(&number));
+        let fault = (50..=56).contains(&number);
         assert_eq!(refusal.number(), number);
         assert_eq!(Refusal::ALL.contains(&refusal), named);
-        assert_eq!(refusal == Refusal::Unnamed(number), !named);
+        assert_eq!(refusal.word().is_some(), fault);
+        assert_eq!(refusal == Refusal::Unnamed(number), !named && !fault);
     }
-    assert_eq!((Refusal::from_number(0), Refusal::ALL.len()), (None, 29));
+    assert_eq!((Refusal::from_number(0), Refusal::ALL.len()), (None, 28));
+    assert_eq!(FaultKind::ALL.len(), 7);
+}
+
+// Each fault in an image of its own: the number, the word, and what was expected there.
+fn faults() {
+    let good = image(4, 0, 0, &[alive(0, &[2, 6]), alive(0, &[3])], &[8, 9]);
+    let cases: [(usize, u16, &str); 12] = [
+        (
+            0,
+            9,
+            "refusal 51: word 0: the number of snakes is 9, 2 to 8 is due",
+        ),
+        (1, 0, "refusal 51: word 1: the side is 0, 1 to 32 is due"),
+        (
+            4,
+            17,
+            "refusal 51: word 4: the food count is 17, 0 to 16 is due",
+        ),
+        (
+            6,
+            0,
+            "refusal 51: word 6: snake 0's length, while it lives, is 0, 1 to 16 is due",
+        ),
+        (
+            11,
+            4,
+            "refusal 51: word 11: snake 1's heading is 4, 0 to 3 is due",
+        ),
+        (
+            12,
+            2,
+            "refusal 51: word 12: snake 1's alive flag is 2, 0 to 1 is due",
+        ),
+        (
+            9,
+            40,
+            "refusal 52: word 9: snake 1's start is 40, its body is due at 15",
+        ),
+        (
+            10,
+            3,
+            "refusal 53: word 18: it is missing, 20 words are due",
+        ),
+        (
+            4,
+            1,
+            "refusal 53: word 17: it is left over, 17 words are due",
+        ),
+        (
+            13,
+            16,
+            "refusal 54: word 13: the cell is 16, a cell below 16 is due",
+        ),
+        (
+            14,
+            2,
+            "refusal 55: word 14: snake 0's cell is 2, which stands in its body at word 13 already",
+        ),
+        (
+            17,
+            8,
+            "refusal 56: word 17: the food is 8, food above 8 is due",
+        ),
+    ];
+    for (word, value, sentence) in cases {
+        let mut words = good.words().to_vec();
+        words[word] = value;
+        let refusal = Image::checked(words).unwrap_err();
+        assert_eq!(refusal.to_string(), sentence);
+        assert!(matches!(refusal, Refusal::Fault(fault) if Some(fault.word) == refusal.word()));
+    }
+    for cut in 0..good.words().len() {
+        let refusal = Image::checked(good.words()[..cut].to_vec()).unwrap_err();
+        let due = if cut < 5 {
+            (50, 5)
+        } else if cut < 13 {
+            (50, 13)
+        } else {
+            (53, 18)
+        };
+        assert_eq!(
+            (refusal.number(), refusal.word()),
+            (due.0, Some(cut as u16))
+        );
+        let told = format!(
+            "refusal {}: word {cut}: it is missing, {} words are due",
+            due.0, due.1
+        );
+        assert_eq!(refusal.to_string(), told);
+    }
 }
 
 fn boards() {

@@ -1,7 +1,7 @@
 -- `chance::rank` meets its contract, as `count` does. Assumes nothing.
 use borrow.Author.Needs.{needs}
 use Rattle.rules.proofs.Facts.{passed, failed}
-use Rattle.chance.proofs.Saying.{rank-20}
+use Rattle.chance.proofs.Saying.{rank-faulty}
 use Rattle.chance.proofs.rank.Statement.{statement}
 use Rattle.chance.proofs.rank.Tie as tie
 
@@ -10,6 +10,6 @@ rank-spec =
     tie.close
     (tie.spec
     (λ c κs. search needs) (λ c κs. search needs)
-    (λ c. search (rank-20, failed))
+    (λ c. search (rank-faulty, failed))
     (λ c κs. search passed)
     (λ c. search needs))

@@ -1,4 +1,4 @@
--- `book::pages::page_in` meets its contract: what the contents find, then the page's 20 and 21. Assumes nothing.
+-- `book::pages::page_in` meets its contract: what the contents find, then the page's own verdict. Assumes nothing.
 use borrow.Author.Needs.{needs}
 use Rattle.contents.proofs.Finding.{part-long, part-inside}
 use Rattle.book.proofs.Paging.{page-none, page-refused, page-part}
@@ -13,6 +13,6 @@ page-in-spec =
     (λ c. search page-none)
     (λ c κs. search part-long)
     (λ c κs. search part-inside)
-    (λ c κs. search needs) (λ c κs. search needs)
-    (λ c. search page-refused)
-    (λ c. search page-part))
+    (λ c κs. search needs) (λ c. search needs) (λ c. search needs)
+    (λ c. search page-part)
+    (λ c. search page-refused))

@@ -1,4 +1,4 @@
--- `book::rows::told` meets its contract: contents that are cut short tell 0, others the sum of their parts.
+-- `book::rows::told` meets its contract: contents that are cut short tell all words, others the sum of their parts, as far as there are words.
 -- Assumes nothing.
 use borrow.Author.Needs.{needs}
 use Rattle.book.proofs.RowLaws.{told-five, told-short, told-is}
@@ -12,5 +12,5 @@ told-spec =
     (λ c. search told-five)
     (λ c κs. search needs) (λ c. search needs) (λ c. search needs)
     (λ c. search told-short)
-    (λ c. search needs) (λ c. search needs) (λ c κs. search needs) (λ c. search needs) (λ c κs. search needs) (λ c. search needs)
+    (λ c. search needs) (λ c. search needs) (λ c κs. search needs) (λ c. search needs) (λ c κs. search needs) (λ c. search needs) (λ c κs. search needs)
     (λ c. search told-is))

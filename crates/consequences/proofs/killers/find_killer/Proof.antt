@@ -2,15 +2,13 @@
 -- Assumes nothing.
 use Prim.Native.Nat.{_-_}
 use borrow.Author.Needs.{needs}
-use Rattle.judge.specs.Loops.{Passing}
-use Rattle.consequences.specs.After.{holdsIn}
-use Rattle.judge.proofs.Loops.{pass-none}
-use Rattle.consequences.proofs.Laws.{part-in, holder-here, holder-on, holder-none}
+use Rattle.lists.proofs.Lowest.{pass-none}
+use Rattle.consequences.proofs.Laws.{NoHolder, part-in, holder-here, holder-on, holder-none}
 use Rattle.consequences.proofs.killers.find_killer.Statement.{statement}
 use Rattle.consequences.proofs.killers.find_killer.Tie as tie
 
 abbrev Inv-loop : tie.InvT-loop
-Inv-loop image n cell all j₀ j = Passing (holdsIn image all cell) n j
+Inv-loop image n cell all j₀ j = NoHolder image all n cell j
 
 abbrev μ-loop : tie.MeasureT-loop
 μ-loop image n cell all j₀ j = n - j

@@ -2,15 +2,13 @@
 -- Assumes nothing.
 use Prim.Native.Nat.{_-_}
 use borrow.Author.Needs.{needs}
-use Rattle.judge.specs.Loops.{Passing}
-use Rattle.judge.specs.Judging.{stopsAt}
-use Rattle.judge.proofs.Loops.{pass-none}
-use Rattle.judge.proofs.Judging.{rest-in, hit-fits, other-here, other-on, other-none}
+use Rattle.lists.proofs.Lowest.{pass-none}
+use Rattle.judge.proofs.Judging.{NoStop, rest-in, hit-fits, other-here, other-on, other-none}
 use Rattle.judge.proofs.causes.find_other.Statement.{statement}
 use Rattle.judge.proofs.causes.find_other.Tie as tie
 
 abbrev Inv-loop : tie.InvT-loop
-Inv-loop image n i cell all j₀ j = Passing (stopsAt image all i cell) n j
+Inv-loop image n i cell all j₀ j = NoStop image all n i cell j
 
 abbrev μ-loop : tie.MeasureT-loop
 μ-loop image n i cell all j₀ j = n - j
