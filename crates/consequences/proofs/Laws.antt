@@ -19,31 +19,30 @@ use Rattle.lists.proofs.Search.{found-member}
 use Rattle.lists.proofs.Below.{count-none, count-next, sum-none, sum-next}
 use Rattle.rules.specs.declared.Event.{Event}
 use Rattle.rules.specs.Events.{dies, byBody, blank}
-use Rattle.judge.specs.declared.Judged.{Judged}
-use Rattle.judge.specs.World.{untouched}
+use Rattle.rules.specs.declared.Cause.{Cause}
+use Rattle.judge.specs.declared.Fate.{Fate}
+use Rattle.judge.specs.declared.Move.{Move}
+use Rattle.judge.specs.World.{still, unharmed}
 use Rattle.judge.specs.Loops.{Filling, Seeking}
 use Rattle.judge.proofs.Loops.{fill-none, fill-next, seek-next, seek-all}
 use Rattle.lists.proofs.Lowest.{Passing, pass-here, pass-on, pass-all}
 use Rattle.consequences.specs.declared.after.After.{After}
 use Rattle.consequences.specs.declared.after.Tally.{Tally}
-use Rattle.consequences.specs.After.{settled, settledAt, gone, cells, living, causes, sizeOf, sizes, PartIn, InImage, Short, Counted, Counting, holdsIn, killerIn, creditedTo, HasCell, Holder, KilledBy, Credited, eventAt}
+use Rattle.consequences.specs.After.{settled, settledAt, gone, cells, living, causes, sizeOf, sizes, PartIn, InImage, Short, Counted, Counting, holdsIn, killerIn, creditedTo, HasCell, Holder, KilledBy, Credited, eventBy, eventAt}
 
 -- ---- the settled snakes: d is whether the cause is a death
 
-pub settled-so : (j : Judged) (d : Bool) → d ≡ dies (j .cause)
-    → record { heading = j .moved .heading; lives = j .moved .moves && not d; ate = j .moved .eats && not d; cause = j .cause; cell = j .moved .cell; keep = j .moved .keep } ≡ settled j
-settled-so j d e = λ k. record {
-  heading = j .moved .heading;
-  lives = j .moved .moves && not (e k);
-  ate = j .moved .eats && not (e k);
-  cause = j .cause;
-  cell = j .moved .cell;
-  keep = j .moved .keep;
-}
+pub settled-so : (m : Move) (c : Cause) (d : Bool) → d ≡ dies c
+    → record { heading = m .heading; lives = m .moves && not d; ate = m .eats && not d; cause = c; cell = m .cell; keep = m .keep } ≡ settled m c
+settled-so m c d e = λ k. record { heading = m .heading; lives = m .moves && not (e k); ate = m .eats && not (e k); cause = c; cell = m .cell; keep = m .keep }
 
-pub settled-next : (js : List Judged) (n i : ℕ) (all : List After) → Filling (settledAt js) gone n i all → i < n → (a : After) → a ≡ settled (getD js i untouched)
-    → Filling (settledAt js) gone n (i + 1) (set all i a)
-settled-next js n i all q l a e = fill-next (settledAt js) gone n i all q l a e
+module _ (ms : List Move) (fs : List Fate) (n : ℕ) where
+  pub settled-none : n ≤ 8 → Filling (settledAt ms fs) gone n 0 (replicate 8 gone)
+  settled-none h = fill-none (settledAt ms fs) gone n h
+
+  pub settled-next : (i : ℕ) (all : List After) → Filling (settledAt ms fs) gone n i all → i < n → (a : After) → a ≡ settled (getD ms i still) (getD fs i unharmed .cause)
+      → Filling (settledAt ms fs) gone n (i + 1) (set all i a)
+  settled-next i all q l a e = fill-next (settledAt ms fs) gone n i all q l a e
 
 -- ---- counts
 
@@ -155,24 +154,24 @@ credit-next to n j i found q l = seek-next (creditedTo to j) n i found q l (eqb 
 
 -- ---- events: d is whether the cause is a death, c whether a death is credited
 
-pub event-so : (all : List After) (to : List ℕ) (n : ℕ) (counts : Tally) (leader i : ℕ) (d : Bool) → d ≡ dies (getD all i gone .cause) → (c : Bool) → Credited to n i c
+pub event-so : (a : After) (to : List ℕ) (n : ℕ) (counts : Tally) (leader i : ℕ) (d : Bool) → d ≡ dies (a .cause) → (c : Bool) → Credited to n i c
     → record {
-      «ate_food» = getD all i gone .ate;
+      «ate_food» = a .ate;
       died = d;
-      «death_cause» = getD all i gone .cause;
+      «death_cause» = a .cause;
       «killed_opponent» = c;
-      won = getD all i gone .lives && eqb (counts .alive) 1 && ltb 0 (counts .deaths) || eqb i leader;
-      lost = d && ltb 0 (counts .alive) || (getD all i gone .lives && not (eqb i leader) && ltb leader n);
+      won = a .lives && eqb (counts .alive) 1 && ltb 0 (counts .deaths) || eqb i leader;
+      lost = d && ltb 0 (counts .alive) || (a .lives && not (eqb i leader) && ltb leader n);
       drew = d && eqb (counts .alive) 0 && ltb 1 (counts .deaths);
       «survived_to_max_ticks» = false;
-    } ≡ eventAt all to n (counts .alive) (counts .deaths) leader i
-event-so all to n counts leader i d pd c pc = λ k. record {
-  «ate_food» = getD all i gone .ate;
+    } ≡ eventBy a to n (counts .alive) (counts .deaths) leader i
+event-so a to n counts leader i d pd c pc = λ k. record {
+  «ate_food» = a .ate;
   died = pd k;
-  «death_cause» = getD all i gone .cause;
+  «death_cause» = a .cause;
   «killed_opponent» = pc .is k;
-  won = getD all i gone .lives && eqb (counts .alive) 1 && ltb 0 (counts .deaths) || eqb i leader;
-  lost = pd k && ltb 0 (counts .alive) || (getD all i gone .lives && not (eqb i leader) && ltb leader n);
+  won = a .lives && eqb (counts .alive) 1 && ltb 0 (counts .deaths) || eqb i leader;
+  lost = pd k && ltb 0 (counts .alive) || (a .lives && not (eqb i leader) && ltb leader n);
   drew = pd k && eqb (counts .alive) 0 && ltb 1 (counts .deaths);
   «survived_to_max_ticks» = false;
 }
@@ -184,5 +183,5 @@ module _ (all : List After) (to : List ℕ) (n : ℕ) (counts : Tally) (leader :
   pub events-none : n ≤ 8 → (told : List Event) → told ≡ replicate 8 blank → Filling event blank n 0 told
   events-none h told e = rw e (fill-none event blank n h)
 
-  pub events-next : (i : ℕ) (told : List Event) → Filling event blank n i told → i < n → (x : Event) → x ≡ event i → Filling event blank n (i + 1) (set told i x)
+  pub events-next : (i : ℕ) (told : List Event) → Filling event blank n i told → i < n → (x : Event) → x ≡ eventBy (getD all i gone) to n (counts .alive) (counts .deaths) leader i → Filling event blank n (i + 1) (set told i x)
   events-next i told q l x e = fill-next event blank n i told q l x e

@@ -17,24 +17,25 @@ use Rattle.rules.specs.Events.{dies}
 use Rattle.rules.specs.Image.{startAt}
 use Rattle.rules.specs.State.{Snake}
 use Rattle.rules.specs.Step.{killerOf}
-use Rattle.judge.specs.declared.Judged.{Judged}
-use Rattle.judge.specs.World.{untouched}
+use Rattle.judge.specs.declared.Fate.{Fate}
+use Rattle.judge.specs.declared.Move.{Move}
+use Rattle.judge.specs.World.{still, unharmed}
 use Rattle.consequences.specs.declared.after.After.{After}
 use Rattle.consequences.specs.declared.after.Tally.{Tally}
 
--- a judged move, settled
-abbrev pub settled : Judged → After
-settled j = record {
-  heading = j .moved .heading;
-  lives = j .moved .moves && not (dies (j .cause));
-  cell = j .moved .cell;
-  keep = j .moved .keep;
-  ate = j .moved .eats && not (dies (j .cause));
-  cause = j .cause;
+-- a move that led to this cause, settled
+abbrev pub settled : Move → Cause → After
+settled m c = record {
+  heading = m .heading;
+  lives = m .moves && not (dies c);
+  cell = m .cell;
+  keep = m .keep;
+  ate = m .eats && not (dies c);
+  cause = c;
 }
 
-abbrev pub settledAt : List Judged → ℕ → After
-settledAt js i = settled (getD js i untouched)
+abbrev pub settledAt : List Move → List Fate → ℕ → After
+settledAt ms fs i = settled (getD ms i still) (getD fs i unharmed .cause)
 
 -- a place of the array that no snake has
 abbrev pub gone : After
@@ -132,15 +133,18 @@ pub record KilledBy (w : List ℕ) (all : List After) (n i r : ℕ) : Type 0 whe
 pub record Credited (to : List ℕ) (n j : ℕ) (r : Bool) : Type 0 where
   pub is : r ≡ someBelow n (creditedTo to j)
 
--- the event of snake i, of n: the array, whom each death is credited to, the counts of the living and the dead, who leads
-abbrev pub eventAt : List After → List ℕ → ℕ → ℕ → ℕ → ℕ → ℕ → Event
-eventAt all to n alive deaths leader i = record {
-  «ate_food» = eating all i;
-  died = dies (causes all i);
-  «death_cause» = causes all i;
+-- the event of snake i, of n, settled so: whom each death is credited to, the counts of the living and the dead, who leads
+abbrev pub eventBy : After → List ℕ → ℕ → ℕ → ℕ → ℕ → ℕ → Event
+eventBy a to n alive deaths leader i = record {
+  «ate_food» = a .ate;
+  died = dies (a .cause);
+  «death_cause» = a .cause;
   «killed_opponent» = someBelow n (creditedTo to i);
-  won = living all i && eqb alive 1 && ltb 0 deaths || eqb i leader;
-  lost = dies (causes all i) && ltb 0 alive || (living all i && not (eqb i leader) && ltb leader n);
-  drew = dies (causes all i) && eqb alive 0 && ltb 1 deaths;
+  won = a .lives && eqb alive 1 && ltb 0 deaths || eqb i leader;
+  lost = dies (a .cause) && ltb 0 alive || (a .lives && not (eqb i leader) && ltb leader n);
+  drew = dies (a .cause) && eqb alive 0 && ltb 1 deaths;
   «survived_to_max_ticks» = false;
 }
+
+abbrev pub eventAt : List After → List ℕ → ℕ → ℕ → ℕ → ℕ → ℕ → Event
+eventAt all to n alive deaths leader i = eventBy (getD all i gone) to n alive deaths leader i

@@ -1,6 +1,7 @@
 // The snakes after the step, and how many live, died, and how many cells they have.
 use events::is_death;
 use judge::Judged;
+use judge::Move;
 use lists::more_if;
 use rules::Cause;
 use rules::Heading;
@@ -27,11 +28,9 @@ pub struct Tally {
 }
 
 // 'The dying lose their head cell', and did not eat.
-fn settle(j: Judged) -> After
-    ensures { λ r. ⌜ r ≡ settled j ⌝ }
+fn settle(m: Move, cause: Cause) -> After
+    ensures { λ r. ⌜ r ≡ settled m cause ⌝ }
 {
-    let m = j.moved;
-    let cause = j.cause;
     let heading = m.heading;
     let lasts = !is_death(cause);
     After {
@@ -44,10 +43,12 @@ fn settle(j: Judged) -> After
     }
 }
 
-pub fn settle_all(judged: [Judged; 8], n: usize) -> [After; 8]
+pub fn settle_all(judged: Judged, n: usize) -> [After; 8]
     requires { ⌜ n ≤ 8 ⌝ }
-    ensures { λ r. ⌜ r ≡ filled (settledAt judged) n 8 gone ⌝ }
+    ensures { λ r. ⌜ r ≡ filled (settledAt (judged .moves) (judged .fates)) n 8 gone ⌝ }
 {
+    let moves = judged.moves;
+    let fates = judged.fates;
     let mut all = [After {
         heading: Heading::Up,
         lives: false,
@@ -58,8 +59,10 @@ pub fn settle_all(judged: [Judged; 8], n: usize) -> [After; 8]
     }; 8];
     let mut i = 0;
     while i < n {
-        let j = judged[i];
-        all[i] = settle(j);
+        let m = moves[i];
+        let fate = fates[i];
+        let cause = fate.cause;
+        all[i] = settle(m, cause);
         i += 1;
     }
     all

@@ -6,23 +6,16 @@ use events::is_death;
 use events::no_events;
 use rules::Event;
 ghost use mathlib.Core.Path.{_≡_};
-ghost use Prim.Native.Nat.{_<_, _≤_};
+ghost use Prim.Native.Nat.{_≤_};
 ghost use Rattle.lists.specs.Below.{filled};
 ghost use Rattle.rules.specs.Events.{blank};
-ghost use Rattle.consequences.specs.After.{eventAt};
+ghost use Rattle.consequences.specs.After.{eventBy, eventAt};
 
-fn event_of(
-    all: [After; 8],
-    to: [usize; 8],
-    n: usize,
-    counts: Tally,
-    leader: usize,
-    i: usize,
-) -> Event
-    requires { ⌜ (n ≤ 8) × (i < 8) ⌝ }
-    ensures { λ r. ⌜ r ≡ eventAt all to n (counts .alive) (counts .deaths) leader i ⌝ }
+// Snake i's, settled so.
+fn event_of(a: After, to: [usize; 8], n: usize, counts: Tally, leader: usize, i: usize) -> Event
+    requires { ⌜ n ≤ 8 ⌝ }
+    ensures { λ r. ⌜ r ≡ eventBy a to n (counts .alive) (counts .deaths) leader i ⌝ }
 {
-    let a = all[i];
     let c = a.cause;
     let alive = counts.alive;
     let deaths = counts.deaths;
@@ -52,7 +45,8 @@ pub fn all_events(
     let mut told = no_events();
     let mut i = 0;
     while i < n {
-        told[i] = event_of(all, to, n, counts, leader, i);
+        let a = all[i];
+        told[i] = event_of(a, to, n, counts, leader, i);
         i += 1;
     }
     told

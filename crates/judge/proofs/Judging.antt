@@ -1,4 +1,4 @@
--- A cause by its five tests, the tests on an array of moves, and what the judged array says. Assumes nothing.
+-- A cause by its five tests, the tests on an array of moves, and what the judged moves say. Assumes nothing.
 use Prim.Native.Nat.{ℕ, _+_, _-_, _*_, _<_, _≤_}
 use native.Mathlib.Omega.{arith}
 use mathlib.Core.Path.{_≡_, refl, sym, ap, _∙_}
@@ -37,11 +37,12 @@ use Rattle.rules.specs.declared.Hit.{Hit}
 use Rattle.rules.specs.declared.Place.{Place}
 use Rattle.rules.specs.declared.Setting.{Setting}
 use Rattle.judge.specs.declared.Move.{Move}
+use Rattle.judge.specs.declared.Fate.{Fate}
 use Rattle.judge.specs.declared.Judged.{Judged}
-use Rattle.judge.specs.World.{still, shown, world, untouched, movesOf, causesOf, judgedWorld, movedWorld, Judges}
+use Rattle.judge.specs.World.{still, shown, world, unharmed, causesOf, judgedWorld, movedWorld, Judges}
 use Rattle.judge.specs.Loops.{Filling, Seeking}
 use Rattle.judge.specs.Moving.{moveAt}
-use Rattle.judge.specs.Judging.{Rests, RestIn, RestFound, Judging, meetsAt, hitIn, HitFits, stopsBy, stopsAt, stopFound, otherHit, bodyCause, Meets, Stops, Stopped, OnBody, judgedAt}
+use Rattle.judge.specs.Judging.{Rests, RestIn, RestFound, Judging, meetsAt, hitIn, HitFits, stopsBy, stopsAt, stopFound, otherHit, bodyCause, Stops, Stopped, OnBody, fateAt}
 use Rattle.judge.proofs.Loops.{fill-none, fill-next, fill-all, seek-next, seek-all}
 use Rattle.judge.proofs.Moving.{origin-cell, shown-move, move-part, move-short, move-cell, move-inner}
 
@@ -79,13 +80,17 @@ module _ (w : List ℕ) (all : List Move) (n i : ℕ) (q : Judging w all n i) wh
   pub cause-stays : not (me .moves) ≡ true → NoCause ≡ causeOf (sideIn w) n (world w all) i
   cause-stays h = cause-by (sideIn w) n (world w all) i (not-true (me .moves) h) refl refl refl refl
 
-  module _ (go : not (me .moves) ≡ false) (met : Bool) (pm : Meets all n i (me .head) met) where
+  -- all others are passed, and met is whether one of them moved to the same place
+  module _ (go : not (me .moves) ≡ false) (j : ℕ) (met : Bool) (pm : Seeking (meetsAt all i (me .head)) n j met) (end : n ≤ j) where
+    meets : met ≡ someBelow n (meetsAt all i (me .head))
+    meets = seek-all (meetsAt all i (me .head)) n j met pm end
+
     pub cause-meets : met ≡ true → HeadOn ≡ causeOf (sideIn w) n (world w all) i
-    cause-meets h = cause-by (sideIn w) n (world w all) i (not-false (me .moves) go) (sym (pm .is) ∙ h) refl refl refl
+    cause-meets h = cause-by (sideIn w) n (world w all) i (not-false (me .moves) go) (sym meets ∙ h) refl refl refl
 
     module _ (h : met ≡ false) where
       apart : someBelow n (meetsAt all i (me .head)) ≡ false
-      apart = sym (pm .is) ∙ h
+      apart = sym meets ∙ h
 
       inner : inside (pos (sideIn w)) (me .head) ≡ me .inside
       inner = sym (q .rests .inner i (not-false (me .moves) go))
@@ -114,9 +119,6 @@ pub meets-next : (all : List Move) (n i : ℕ) (p : Place) (j : ℕ) (found : Bo
     → Seeking (meetsAt all i p) n (j + 1) (found || (not (eqb i j) && getD all j still .moves && b))
 meets-next all n i p j found q l b e =
     seek-next (meetsAt all i p) n j found q l (not (eqb i j) && getD all j still .moves && b) (ap (λ (b : Bool). not (eqb i j) && getD all j still .moves && b) e)
-
-pub meets-all : (all : List Move) (n i : ℕ) (p : Place) (j : ℕ) (found : Bool) → Seeking (meetsAt all i p) n j found → n ≤ j → Meets all n i p found
-meets-all all n i p j found q l = record { is = seek-all (meetsAt all i p) n j found q l }
 
 -- ---- a rest: k is the place of its start
 
@@ -300,57 +302,42 @@ module _ (w acts : List ℕ) (s : Sound w) (all : List Move) (q : all ≡ filled
   pub world-is : world w all ≡ movedWorld w acts
   world-is = λ k j. world-at j k
 
-  -- ---- the judged array
+  -- ---- what each move led to
 
   module _ (pl : length acts ≡ snakesIn w) where
     pub judging-at : (i : ℕ) → i < length acts → Judging w all (length acts) i
     judging-at i l = record { sound = s; rests = all-rests; snakes = pl; one = l }
 
-    pub judged-none : Filling (judgedAt w all (length acts)) untouched (length acts) 0 (replicate 8 untouched)
-    judged-none = fill-none (judgedAt w all (length acts)) untouched (length acts) (omega (arith, s .snakes-max))
+    pub fates-none : Filling (fateAt w all (length acts)) unharmed (length acts) 0 (replicate 8 unharmed)
+    fates-none = fill-none (fateAt w all (length acts)) unharmed (length acts) (omega (arith, s .snakes-max))
 
-    module _ (r : List Judged) (i : ℕ) (f : Filling (judgedAt w all (length acts)) untouched (length acts) i r) where
-      pub judged-next : i < length acts → (c : Cause) → c ≡ causeOf (sideIn w) (length acts) (world w all) i
-          → Filling (judgedAt w all (length acts)) untouched (length acts) (i + 1) (set r i (record { moved = getD all i still; cause = c }))
-      judged-next l c e = fill-next (judgedAt w all (length acts)) untouched (length acts) i r f l (record { moved = getD all i still; cause = c }) (λ k. record { moved = getD all i still; cause = e k })
+    module _ (fs : List Fate) (i : ℕ) (f : Filling (fateAt w all (length acts)) unharmed (length acts) i fs) where
+      pub fates-next : i < length acts → (c : Cause) → c ≡ causeOf (sideIn w) (length acts) (world w all) i
+          → Filling (fateAt w all (length acts)) unharmed (length acts) (i + 1) (set fs i (record { cause = c }))
+      fates-next l c e = fill-next (fateAt w all (length acts)) unharmed (length acts) i fs f l (record { cause = c }) (λ k. record { cause = e k })
 
       module _ (l : length acts ≤ i) where
-        r-is : r ≡ filled (judgedAt w all (snakesIn w)) (snakesIn w) 8 untouched
-        r-is = fill-all (judgedAt w all (length acts)) untouched (length acts) i r f l ∙ ap (λ (k : ℕ). filled (judgedAt w all k) k 8 untouched) pl
+        fates-are : fs ≡ filled (fateAt w all (snakesIn w)) (snakesIn w) 8 unharmed
+        fates-are = fill-all (fateAt w all (length acts)) unharmed (length acts) i fs f l ∙ ap (λ (k : ℕ). filled (fateAt w all k) k 8 unharmed) pl
 
-        judged-at : (j : ℕ) → getD r j untouched ≡ getD (eachBelow (snakesIn w) (judgedAt w all (snakesIn w))) j untouched
-        judged-at j = ap (λ (l : List Judged). getD l j untouched) r-is ∙ filled-is (judgedAt w all (snakesIn w)) (snakesIn w) 8 untouched j
+        causes-at : (j : ℕ) → getD fs j unharmed .cause ≡ getD (eachBelow (snakesIn w) (causeOf (sideIn w) (snakesIn w) (world w all))) j NoCause
+        causes-at j =
+            ap (λ (l : List Fate). getD l j unharmed .cause) fates-are
+            ∙ ap (λ (z : Fate). z .cause) (filled-is (fateAt w all (snakesIn w)) (snakesIn w) 8 unharmed j)
+            ∙ each-map (λ (z : Fate). z .cause) (snakesIn w) (fateAt w all (snakesIn w)) unharmed j
 
-        moves-at : (j : ℕ) → movesOf r j ≡ getD all j still
-        moves-at j = ap (λ (z : Judged). z .moved) (judged-at j) ∙ elim (ordered j (snakesIn w)) [
-          | less l t ↦ ap (λ (z : Judged). z .moved) (each-at (snakesIn w) (judgedAt w all (snakesIn w)) untouched j l)
-          | more l t ↦ ap (λ (z : Judged). z .moved) (each-past (snakesIn w) (judgedAt w all (snakesIn w)) untouched j l) ∙ sym (past-still j l)
-        ]
+        pub judges : Judges w acts (record { moves = all; fates = fs })
+        judges = record { moves = q; moved = world-is; causes = λ k j. causes-at j k; cells = cell-at; parts = part-at; short = short-at }
 
-        causes-at : (j : ℕ) → causesOf r j ≡ getD (eachBelow (snakesIn w) (causeOf (sideIn w) (snakesIn w) (world w all))) j NoCause
-        causes-at j = ap (λ (z : Judged). z .cause) (judged-at j) ∙ each-map (λ (z : Judged). z .cause) (snakesIn w) (judgedAt w all (snakesIn w)) untouched j
+-- ---- what the definition makes of judged moves
 
-        world-judged : judgedWorld w r ≡ world w all
-        world-judged = λ k j. shown w j (moves-at j k)
+pub cause-judged : (w acts : List ℕ) (js : Judged) → Judges w acts js → (i : ℕ) → i < snakesIn w → causesOf js i ≡ causeOf (sideIn w) (snakesIn w) (judgedWorld w js) i
+cause-judged w acts js j i l = (λ k. j .causes k i) ∙ each-at (snakesIn w) (causeOf (sideIn w) (snakesIn w) (judgedWorld w js)) NoCause i l
 
-        pub judges : Judges w acts r
-        judges = record {
-          moved = world-judged ∙ world-is;
-          causes = λ k j. (causes-at j ∙ ap (λ (m : ℕ → Moved). getD (eachBelow (snakesIn w) (causeOf (sideIn w) (snakesIn w) m)) j NoCause) (sym world-judged)) k;
-          cells = λ j. rw (moves-at j) (cell-at j);
-          parts = λ j l. rw (moves-at j) (part-at j l);
-          short = λ j. rw (moves-at j) (short-at j);
-        }
-
--- ---- what the definition makes of a judged array
-
-pub cause-judged : (w acts : List ℕ) (r : List Judged) → Judges w acts r → (i : ℕ) → i < snakesIn w → causesOf r i ≡ causeOf (sideIn w) (snakesIn w) (judgedWorld w r) i
-cause-judged w acts r j i l = (λ k. j .causes k i) ∙ each-at (snakesIn w) (causeOf (sideIn w) (snakesIn w) (judgedWorld w r)) NoCause i l
-
-pub stepped-by : (w acts : List ℕ) (r : List Judged) (s : Setting) → Judges w acts r
-    → stepped s (stateOf w) acts ≡ transitionOf s (sideIn w) (snakesIn w) (foodAt w) (judgedWorld w r)
+pub stepped-by : (w acts : List ℕ) (js : Judged) (s : Setting) → Judges w acts js
+    → stepped s (stateOf w) acts ≡ transitionOf s (sideIn w) (snakesIn w) (foodAt w) (judgedWorld w js)
 unfolding stepped stateOf
-stepped-by w acts r s j =
+stepped-by w acts js s j =
     let e = state-count w in
     (λ k. transitionOf s (sideIn w) (e k) (foodAt w) (λ i. getD (eachBelow (e k) (movedOf (stateOf w) acts)) i (stays nobody)))
     ∙ ap (transitionOf s (sideIn w) (snakesIn w) (foodAt w)) (sym (j .moved))

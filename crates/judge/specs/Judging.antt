@@ -22,7 +22,7 @@ use Rattle.rules.specs.Facts.{Sound}
 use Rattle.rules.specs.Step.{causeOf}
 use Rattle.rules.specs.Struck.{noHit}
 use Rattle.judge.specs.declared.Move.{Move}
-use Rattle.judge.specs.declared.Judged.{Judged}
+use Rattle.judge.specs.declared.Fate.{Fate}
 use Rattle.judge.specs.World.{still, shown, world}
 
 -- each rest is a part of the image, and of its words after the records; the cell is that of the head, and a moved head is inside the grid where it says so
@@ -82,9 +82,6 @@ bodyCause w all n i cell = SelfBody if member cell (world w all i .rest) else Op
 
 -- ---- what each function finds
 
-pub record Meets (all : List Move) (n i : ℕ) (p : Place) (r : Bool) : Type 0 where
-  pub is : r ≡ someBelow n (meetsAt all i p)
-
 pub record RestFound (w : List ℕ) (j : ℕ) (m : Move) (cell : ℕ) (r : Found) : Type 0 where
   pub is : r ≡ foundIn (shown w j m .rest) cell
 
@@ -97,6 +94,6 @@ pub record Stopped (w : List ℕ) (all : List Move) (n i cell : ℕ) (r : Hit) :
 pub record OnBody (w : List ℕ) (all : List Move) (n i cell : ℕ) (r : Cause) : Type 0 where
   pub is : r ≡ bodyCause w all n i cell
 
--- snake i's move, and the cause judged among n snakes on the world of all moves
-abbrev pub judgedAt : List ℕ → List Move → ℕ → ℕ → Judged
-judgedAt w all n i = record { moved = getD all i still; cause = causeOf (sideIn w) n (world w all) i }
+-- what snake i's move led to, judged among n snakes on the world of all moves
+abbrev pub fateAt : List ℕ → List Move → ℕ → ℕ → Fate
+fateAt w all n i = record { cause = causeOf (sideIn w) n (world w all) i }

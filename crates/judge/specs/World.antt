@@ -5,7 +5,7 @@ use mathlib.Core.Bool.{false}
 use mathlib.Core.List.{List}
 use lib.IntN.{pos}
 use lib.ListN.{length, getD, take, drop}
-use Rattle.lists.specs.Below.{eachBelow}
+use Rattle.lists.specs.Below.{eachBelow, filled}
 use Rattle.rules.specs.declared.Cause.{Cause}
 use Rattle.rules.specs.declared.Cause.the-variants.{NoCause}
 use Rattle.rules.specs.declared.Heading.the-variants.{Up}
@@ -14,7 +14,9 @@ use Rattle.rules.specs.State.{nobody}
 use Rattle.rules.specs.Image.{snakesIn, sideIn, startAt, stateOf}
 use Rattle.rules.specs.Step.{Moved, stays, movedOf, causeOf}
 use Rattle.judge.specs.declared.Move.{Move}
+use Rattle.judge.specs.declared.Fate.{Fate}
 use Rattle.judge.specs.declared.Judged.{Judged}
+use Rattle.judge.specs.Moving.{moveAt}
 
 -- a place of the array that no snake has
 abbrev pub still : Move
@@ -27,27 +29,29 @@ shown w i m = record { moves = m .moves; heading = m .heading; head = m .head; r
 abbrev pub world : List ℕ → List Move → ℕ → Moved
 world w all i = shown w i (getD all i still)
 
-abbrev pub untouched : Judged
-untouched = record { moved = still; cause = NoCause }
+abbrev pub movesOf : Judged → ℕ → Move
+movesOf js i = getD (js .moves) i still
 
-abbrev pub movesOf : List Judged → ℕ → Move
-movesOf all i = getD all i untouched .moved
+-- what befalls no snake
+abbrev pub unharmed : Fate
+unharmed = record { cause = NoCause }
 
-abbrev pub causesOf : List Judged → ℕ → Cause
-causesOf all i = getD all i untouched .cause
+abbrev pub causesOf : Judged → ℕ → Cause
+causesOf js i = getD (js .fates) i unharmed .cause
 
--- the world that a judged array holds
-abbrev pub judgedWorld : List ℕ → List Judged → ℕ → Moved
-judgedWorld w all i = shown w i (movesOf all i)
+-- the world that the judged moves make
+abbrev pub judgedWorld : List ℕ → Judged → ℕ → Moved
+judgedWorld w js = world w (js .moves)
 
 -- the world of the definition: each snake moved, and nobody after them
 abbrev pub movedWorld : List ℕ → List ℕ → ℕ → Moved
 movedWorld w acts i = getD (eachBelow (snakesIn w) (movedOf (stateOf w) acts)) i (stays nobody)
 
--- all moves of the image w by these actions, with the cells of their heads, and for each snake the cause judged on that one world; untouched after the last snake
-pub record Judges (w acts : List ℕ) (all : List Judged) : Type 0 where
-  pub moved : judgedWorld w all ≡ movedWorld w acts
-  pub causes : causesOf all ≡ (λ (i : ℕ). getD (eachBelow (snakesIn w) (causeOf (sideIn w) (snakesIn w) (judgedWorld w all))) i NoCause)
-  pub cells : (i : ℕ) → movesOf all i .cell ≡ cellOf (sideIn w) (movesOf all i .head)
-  pub parts : (i : ℕ) → i < snakesIn w → startAt w i + movesOf all i .keep ≤ length w
-  pub short : (i : ℕ) → movesOf all i .keep ≤ 1024
+-- all moves of the image w by these actions, with the cells of their heads, and for each snake the cause judged on that one world; nothing after the last snake
+pub record Judges (w acts : List ℕ) (js : Judged) : Type 0 where
+  pub moves : js .moves ≡ filled (moveAt w acts) (snakesIn w) 8 still
+  pub moved : judgedWorld w js ≡ movedWorld w acts
+  pub causes : causesOf js ≡ (λ (i : ℕ). getD (eachBelow (snakesIn w) (causeOf (sideIn w) (snakesIn w) (judgedWorld w js))) i NoCause)
+  pub cells : (i : ℕ) → movesOf js i .cell ≡ cellOf (sideIn w) (movesOf js i .head)
+  pub parts : (i : ℕ) → i < snakesIn w → startAt w i + movesOf js i .keep ≤ length w
+  pub short : (i : ℕ) → movesOf js i .keep ≤ 1024

@@ -1,4 +1,5 @@
 // All causes of death, judged on the one world of all moves: resolve_collisions of the Rust.
+use crate::Fate;
 use crate::Judged;
 use crate::Move;
 use crate::hits::hit_at;
@@ -7,32 +8,14 @@ use crate::moves::move_all;
 use lists::Found;
 use lists::is_found;
 use rules::Cause;
-use rules::Heading;
 use rules::Hit;
-use rules::Place;
 ghost use mathlib.Core.Path.{_≡_};
-ghost use Prim.Native.Nat.{_≤_};
 ghost use lib.ListN.{length};
 ghost use Rattle.rules.specs.Image.{snakesIn, sideIn};
 ghost use Rattle.rules.specs.Facts.{Sound};
 ghost use Rattle.rules.specs.Step.{causeOf};
 ghost use Rattle.judge.specs.World.{world, Judges};
-ghost use Rattle.judge.specs.Judging.{RestIn, RestFound, Judging, Meets, Stops, Stopped, OnBody};
-
-// Whether another snake than i moved to the same place.
-fn head_on(all: [Move; 8], n: usize, i: usize, head: Place) -> bool
-    requires { ⌜ n ≤ 8 ⌝ }
-    ensures { λ r. ⌜ Meets all n i head r ⌝ }
-{
-    let mut found = false;
-    let mut j = 0;
-    while j < n {
-        let you = all[j];
-        found = found | (i != j) & you.moves & grid::same(head, you.head);
-        j += 1;
-    }
-    found
-}
+ghost use Rattle.judge.specs.Judging.{RestIn, RestFound, Judging, Stops, Stopped, OnBody};
 
 // The first place of a cell in the rest of snake j's body.
 pub fn find_rest(image: &[u16], j: usize, you: Move, cell: u16) -> Found
@@ -92,6 +75,7 @@ fn body_cause(image: &[u16], all: [Move; 8], n: usize, i: usize, cell: u16) -> C
     Cause::NoCause
 }
 
+// Why snake i dies, if it does. The heads are compared here: a function of their own would be handed the eight moves once more.
 fn cause_of(image: &[u16], all: [Move; 8], n: usize, i: usize) -> Cause
     requires { ⌜ Judging (now image) all n i ⌝ }
     ensures { λ r. ⌜ r ≡ causeOf (sideIn (now (image .entry))) n (world (now (image .entry)) all) i ⌝ }
@@ -100,7 +84,14 @@ fn cause_of(image: &[u16], all: [Move; 8], n: usize, i: usize) -> Cause
     if !me.moves {
         return Cause::NoCause;
     }
-    let met = head_on(all, n, i, me.head);
+    let head = me.head;
+    let mut met = false;
+    let mut j = 0;
+    while j < n {
+        let you = all[j];
+        met = met | (i != j) & you.moves & grid::same(head, you.head);
+        j += 1;
+    }
     if met {
         return Cause::HeadOn;
     }
@@ -115,33 +106,22 @@ fn cause_of(image: &[u16], all: [Move; 8], n: usize, i: usize) -> Cause
 }
 
 // Every snake's move and cause.
-pub fn judge(image: &[u16], actions: &[u64]) -> [Judged; 8]
+pub fn judge(image: &[u16], actions: &[u64]) -> Judged
     requires { ⌜ Sound (now image) ⌝ }
     requires { ⌜ length (now actions) ≡ snakesIn (now image) ⌝ }
     ensures { λ r. ⌜ Judges (now (image .entry)) (now (actions .entry)) r ⌝ }
 {
     let moves = move_all(image, actions);
     let n = actions.len();
-    let mut all = [Judged {
-        moved: Move {
-            moves: false,
-            heading: Heading::Up,
-            eats: false,
-            inside: false,
-            head: Place { row: 0, col: 0 },
-            cell: 0,
-            keep: 0,
-        },
+    let mut fates = [Fate {
         cause: Cause::NoCause,
     }; 8];
     let mut i = 0;
     while i < n {
-        let moved = moves[i];
-        all[i] = Judged {
-            moved,
+        fates[i] = Fate {
             cause: cause_of(image, moves, n, i),
         };
         i += 1;
     }
-    all
+    Judged { moves, fates }
 }

@@ -8,7 +8,6 @@ pub use causes::find_rest;
 pub use causes::judge;
 pub use hits::hit_at;
 pub use hits::no_hit;
-pub use moves::move_all;
 use rules::Cause;
 use rules::Heading;
 use rules::Place;
@@ -25,8 +24,13 @@ pub struct Move {
     pub keep: u16,
 }
 
-// A move and what it led to.
-pub struct Judged {
-    pub moved: Move,
+// What a move led to.
+pub struct Fate {
     pub cause: Cause,
+}
+
+// All moves, and what each led to.
+pub struct Judged {
+    pub moves: [Move; 8],
+    pub fates: [Fate; 8],
 }

@@ -136,14 +136,14 @@ module _ (s : Setting) (w acts : List ℕ) (v : Verdict) (a : Asks s w acts v) (
   pub asked-good : badAction (stateOf w) acts ≡ false
   asked-good = no-row 3
 
--- ---- a judged array is ready to be applied
+-- ---- judged moves are ready to be applied
 
-pub judged-ready : (w acts : List ℕ) (all : List Judged) → Judges w acts all → Ready w all
-judged-ready w acts all j = record { causes = cause-judged w acts all j; cells = λ i h. j .cells i; parts = j .parts; short = λ i h. j .short i }
+pub judged-ready : (w acts : List ℕ) (js : Judged) → Judges w acts js → Ready w js
+judged-ready w acts js j = record { causes = cause-judged w acts js j; cells = λ i h. j .cells i; parts = j .parts; short = λ i h. j .short i }
 
-pub step-so : (s : Setting) (w acts : List ℕ) (all : List Judged) → Judges w acts all → (old new : List ℕ) (r : Stepped)
-    → Applied (transitionOf s (sideIn w) (snakesIn w) (foodAt w) (judgedWorld w all)) old new r → Applied (stepped s (stateOf w) acts) old new r
-step-so s w acts all j old new r a = subst (λ (o : Transition). Applied o old new r) (sym (stepped-by w acts all s j)) a
+pub step-so : (s : Setting) (w acts : List ℕ) (js : Judged) → Judges w acts js → (old new : List ℕ) (r : Stepped)
+    → Applied (transitionOf s (sideIn w) (snakesIn w) (foodAt w) (judgedWorld w js)) old new r → Applied (stepped s (stateOf w) acts) old new r
+step-so s w acts js j old new r a = subst (λ (o : Transition). Applied o old new r) (sym (stepped-by w acts js s j)) a
 
 -- ---- the promise, from either end
 

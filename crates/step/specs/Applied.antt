@@ -16,8 +16,8 @@ use Rattle.rules.specs.Step.{causeOf, Transition}
 use Rattle.judge.specs.declared.Judged.{Judged}
 use Rattle.judge.specs.World.{movesOf, causesOf, judgedWorld}
 
--- a judged array: each cause is that of the world it holds, each cell that of its head, each rest is a part of the image, no longer than a body
-pub record Ready (w : List ℕ) (js : List Judged) : Type 0 where
+-- judged moves: each cause is that of the world it holds, each cell that of its head, each rest is a part of the image, no longer than a body
+pub record Ready (w : List ℕ) (js : Judged) : Type 0 where
   pub causes : (i : ℕ) → i < snakesIn w → causesOf js i ≡ causeOf (sideIn w) (snakesIn w) (judgedWorld w js) i
   pub cells : (i : ℕ) → i < snakesIn w → movesOf js i .cell ≡ cellOf (sideIn w) (movesOf js i .head)
   pub parts : (i : ℕ) → i < snakesIn w → startAt w i + movesOf js i .keep ≤ length w

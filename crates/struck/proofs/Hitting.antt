@@ -37,12 +37,11 @@ use Rattle.rules.proofs.Struck.{apart-rest, self-holds, opp-tests, met-below, h
 use Rattle.rules.proofs.Tables.{table-seen}
 use Rattle.judge.specs.declared.Move.{Move}
 use Rattle.judge.specs.declared.Judged.{Judged}
-use Rattle.judge.specs.World.{still, world, movedWorld, causesOf, Judges}
+use Rattle.judge.specs.World.{still, world, causesOf, judgedWorld, Judges}
 use Rattle.judge.specs.Loops.{Filling}
-use Rattle.judge.specs.Moving.{moveAt}
 use Rattle.judge.specs.Judging.{RestFound, Judging, HitFits, hitIn, stopsAt, Stopped}
 use Rattle.judge.proofs.Loops.{fill-none, fill-next, fill-all}
-use Rattle.judge.proofs.Judging.{found-fits, world-is, cause-judged}
+use Rattle.judge.proofs.Judging.{found-fits, judging-at, cause-judged}
 use Rattle.step.specs.Asked.{Asks}
 use Rattle.struck.specs.Own.{ownAt, OwnHit}
 
@@ -107,14 +106,15 @@ module _ (w : List ℕ) (all : List Move) (n i : ℕ) (q : Judging w all n i) (c
 
 -- ---- all of them
 
-module _ (w acts : List ℕ) (s : Sound w) (pl : length acts ≡ snakesIn w) (all : List Move) (q : all ≡ filled (moveAt w acts) (snakesIn w) 8 still) where
+module _ (w acts : List ℕ) (s : Sound w) (pl : length acts ≡ snakesIn w) (js : Judged) (q : Judges w acts js) where
   abbrev hit : ℕ → Hit
-  hit = hitOf (sideIn w) (length acts) (world w all)
+  hit = hitOf (sideIn w) (length acts) (judgedWorld w js)
 
-  -- snake i of a judged array has its cause in that world
-  pub cause-handed : (r : List Judged) → Judges w acts r → (i : ℕ) → i < length acts → causesOf r i ≡ causeOf (sideIn w) (length acts) (world w all) i
-  cause-handed r j i l =
-      cause-judged w acts r j i (omega (arith, pl)) ∙ (λ t. causeOf (sideIn w) (sym pl t) ((j .moved ∙ sym (world-is w acts s all q)) t) i)
+  pub hit-judging : (i : ℕ) → i < length acts → Judging w (js .moves) (length acts) i
+  hit-judging = judging-at w acts s (js .moves) (q .moves) pl
+
+  pub cause-handed : (i : ℕ) → i < length acts → causesOf js i ≡ causeOf (sideIn w) (length acts) (judgedWorld w js) i
+  cause-handed i l = cause-judged w acts js q i (omega (arith, pl)) ∙ (λ t. causeOf (sideIn w) (sym pl t) (judgedWorld w js) i)
 
   pub hits-none : Filling hit noHit (length acts) 0 (replicate 8 noHit)
   hits-none = fill-none hit noHit (length acts) (omega (arith, s .snakes-max))
@@ -127,9 +127,8 @@ module _ (w acts : List ℕ) (s : Sound w) (pl : length acts ≡ snakesIn w) (al
     unfolding hitsIn stateOf
     hits-all l =
         let e = state-count w in
-        let v = world-is w acts s all q in
         fill-all hit noHit (length acts) i hs f l
-        ∙ (λ t. filled (hitOf (sideIn w) (pl t) (v t)) (pl t) 8 noHit)
+        ∙ (λ t. filled (hitOf (sideIn w) (pl t) (q .moved t)) (pl t) 8 noHit)
         ∙ sym (λ t. filled (hitOf (sideIn w) (e t) (λ i. getD (eachBelow (e t) (movedOf (stateOf w) acts)) i (stays nobody))) (e t) 8 noHit)
 
 -- ---- the promise: v is the verdict

@@ -4,7 +4,6 @@ use judge::find_other;
 use judge::find_rest;
 use judge::hit_at;
 use judge::judge;
-use judge::move_all;
 use judge::no_hit;
 use lists::Found;
 use rules::Cause;
@@ -58,9 +57,9 @@ fn find_hits(image: &[u16], actions: &[u64]) -> [Hit; 8]
     requires { ⌜ length (now actions) ≡ snakesIn (now image) ⌝ }
     ensures { λ r. ⌜ r ≡ hitsIn (stateOf (now (image .entry))) (now (actions .entry)) ⌝ }
 {
-    // The moves once more: `judge` has each beside its cause, and the searches take all of them at once.
     let judged = judge(image, actions);
-    let moves = move_all(image, actions);
+    let moves = judged.moves;
+    let fates = judged.fates;
     let n = actions.len();
     let mut hits = [Hit {
         snake: 8,
@@ -68,8 +67,8 @@ fn find_hits(image: &[u16], actions: &[u64]) -> [Hit; 8]
     }; 8];
     let mut i = 0;
     while i < n {
-        let one = judged[i];
-        let cause = one.cause;
+        let fate = fates[i];
+        let cause = fate.cause;
         hits[i] = hit_of(image, moves, n, i, cause);
         i += 1;
     }

@@ -1,4 +1,4 @@
--- `step::go_on` meets its contract: the judged array is the definition's world, and ready to be applied (`Refusals`).
+-- `step::go_on` meets its contract: the judged moves are the definition's world, and ready to be applied (`Refusals`).
 -- Assumes nothing.
 use borrow.Author.Needs.{needs}
 use Rattle.step.proofs.Refusals.{judged-ready, step-so}

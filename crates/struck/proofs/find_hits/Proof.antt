@@ -6,16 +6,15 @@ use Rattle.rules.specs.Image.{sideIn}
 use Rattle.rules.specs.Struck.{noHit, hitOf}
 use Rattle.judge.specs.Loops.{Filling}
 use Rattle.judge.specs.World.{world}
-use Rattle.judge.proofs.Judging.{judging-at}
-use Rattle.struck.proofs.Hitting.{cause-handed, hits-none, hits-next, hits-all}
+use Rattle.struck.proofs.Hitting.{hit-judging, cause-handed, hits-none, hits-next, hits-all}
 use Rattle.struck.proofs.find_hits.Statement.{statement}
 use Rattle.struck.proofs.find_hits.Tie as tie
 
 abbrev Inv-loop : tie.InvT-loop
-Inv-loop image actions judged moves n hits₀ i₀ hits i = Filling (hitOf (sideIn image) n (world image moves)) noHit n i hits
+Inv-loop image actions moves fates n hits₀ i₀ hits i = Filling (hitOf (sideIn image) n (world image moves)) noHit n i hits
 
 abbrev μ-loop : tie.MeasureT-loop
-μ-loop image actions judged moves n hits₀ i₀ hits i = n - i
+μ-loop image actions moves fates n hits₀ i₀ hits i = n - i
 
 pub find-hits-spec : {M : Type 1} → statement M
 find-hits-spec =
@@ -24,10 +23,9 @@ find-hits-spec =
     Inv-loop
     μ-loop
     (λ c κs. search needs)
-    (λ c κs. search needs)
     (λ c. search hits-none)
-    (λ c. search needs) (λ c. search needs)
-    (λ c κs. (search judging-at, search cause-handed))
+    (λ c. search needs)
+    (λ c κs. (search hit-judging, search cause-handed))
     (λ c. search needs) (λ c. search needs) (λ c. search needs) (λ c. search needs)
     (λ c. search hits-next)
     (λ c. search hits-all))

@@ -11,10 +11,10 @@ use Rattle.consequences.proofs.snake_events.all_events.Statement.{state
 use Rattle.consequences.proofs.snake_events.all_events.Tie as tie
 
 abbrev Inv-loop : tie.InvT-loop
-Inv-loop all to n counts leader told₀ i₀ told i = Filling (eventAt all to n (counts .alive) (counts .deaths) leader) blank n i told
+Inv-loop to n counts leader all told₀ i₀ told i = Filling (eventAt all to n (counts .alive) (counts .deaths) leader) blank n i told
 
 abbrev μ-loop : tie.MeasureT-loop
-μ-loop all to n counts leader told₀ i₀ told i = n - i
+μ-loop to n counts leader all told₀ i₀ told i = n - i
 
 pub all-events-spec : {M : Type 1} → statement M
 all-events-spec =
@@ -24,6 +24,6 @@ all-events-spec =
     μ-loop
     (λ c κs. search needs)
     (λ c. search events-none)
-    (λ c κs. search needs) (λ c. search needs) (λ c. search needs) (λ c. search needs) (λ c. search needs)
+    (λ c. search needs) (λ c. search needs) (λ c κs. search needs) (λ c. search needs) (λ c. search needs) (λ c. search needs) (λ c. search needs)
     (λ c. search events-next)
     (λ c. search fill-all))

@@ -9,5 +9,5 @@ pub event-of-spec : {M : Type 1} → statement M
 event-of-spec =
     tie.close
     (tie.spec
-    (λ c. search needs) (λ c. search needs) (λ c κs. search needs) (λ c κs. search needs)
+    (λ c κs. search needs) (λ c κs. search needs)
     (λ c. search event-so))
