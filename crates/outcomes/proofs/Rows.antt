@@ -28,14 +28,14 @@ module _ {A : Type 0} (t : Table) (r : Says A) (w : List ℕ) where
     unfolding byTable
     none-due z = rw (s .formed, eq-eqb (dueIn w) 0 z)
 
-    module _ (n : dueIn w ≡ 0 → ⊥) (board : List ℕ) (o : Odds) (p : Stands w board o) where
+    module _ (n : dueIn w ≡ 0 → ⊥) (strips : List ℕ) (o : Odds) (p : Stands w strips o) where
       pub too-many : o .count ≡ 0 → byTable (countOrder w ++ t) r ≡ refuses (by 28)
       unfolding byTable
-      too-many e = rw (s .formed, ne-eqb (dueIn w) 0 n, count-over w board o p e)
+      too-many e = rw (s .formed, ne-eqb (dueIn w) 0 n, count-over w strips o p e)
 
       pub none-holds : (o .count ≡ 0 → ⊥) → byTable (countOrder w ++ t) r ≡ byTable t r
       unfolding byTable
-      none-holds e = rw (s .formed, ne-eqb (dueIn w) 0 n, count-in w board o p e)
+      none-holds e = rw (s .formed, ne-eqb (dueIn w) 0 n, count-in w strips o p e)
 
 -- ---- count, which has no further row
 
@@ -52,11 +52,11 @@ module _ (w : List ℕ) where
     unfolding countSays
     count-23 z x q = record { answer = ap refuses q ∙ sym (none-due [] counts w s z) }
 
-    module _ (n : dueIn w ≡ 0 → ⊥) (board : List ℕ) (o : Odds) (p : Stands w board o) where
+    module _ (n : dueIn w ≡ 0 → ⊥) (strips : List ℕ) (o : Odds) (p : Stands w strips o) where
       pub count-28 : o .count ≡ 0 → (x : Refusal) → x ≡ by 28 → Counts w (Refused x)
       unfolding countSays
-      count-28 e x q = record { answer = ap refuses q ∙ sym (too-many [] counts w s n board o p e) }
+      count-28 e x q = record { answer = ap refuses q ∙ sym (too-many [] counts w s n strips o p e) }
 
       pub count-gives : (o .count ≡ 0 → ⊥) → Counts w (Value (o .count))
       unfolding countSays byTable
-      count-gives e = record { answer = ap gives (count-eq w board o p e) ∙ sym (none-holds [] counts w s n board o p e) }
+      count-gives e = record { answer = ap gives (count-eq w strips o p e) ∙ sym (none-holds [] counts w s n strips o p e) }
