@@ -1,0 +1,4 @@
+pub mod Bits
+pub mod Strips
+pub mod Counting
+pub mod Finding
