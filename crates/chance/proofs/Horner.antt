@@ -25,9 +25,9 @@ use Rattle.rules.specs.Chance.{free, drawSize, rankIn, canRank}
 use Rattle.rules.proofs.FreeCells.{free-distinct}
 use Rattle.rules.proofs.Draws.{InTurn, in-turn, turn-among, turn-distinct}
 use Rattle.rules.proofs.Fairness.{ranked-listed, listed-ranked}
-use Rattle.strips.specs.Marks.{marked, unmarked, Marked, Counted, Free, Took}
+use Rattle.strips.specs.Marks.{marked, unmarked, Marked, Counted, Free}
 use Rattle.strips.proofs.Finding.{unmarked-less, open-member, square-place, off-area, taken-square}
-use Rattle.chance.specs.Ranking.{inTurn, rankLeft, Rankable, Ranked, RankedTo}
+use Rattle.chance.specs.Ranking.{inTurn, rankLeft, Placed, Rankable, Ranked, RankedTo}
 
 -- ---- the test
 
@@ -186,19 +186,21 @@ module _ (l : List ℕ) (area free : ℕ) (start : List ℕ) where
           pub ranked-free : Free area b tally (getD l j 0)
           ranked-free = record { counted = v .counted; inside = g; clear = sym m ∙ y }
 
-          module _ (q : Rankable l area free start) (p : ℕ) (e : p ≡ length (unmarked b (getD l j 0))) where
+          module _ (q : Rankable l area free start) (p : ℕ) (new after : List ℕ) (k : Placed area (getD l j 0) b new after p) where
             small : p < free - j
-            small = omega (arith, place-under b area (getD l j 0) p g (sym m ∙ y) e, v .left)
+            small = omega (arith, place-under b area (getD l j 0) p g (sym m ∙ y) (k .place), v .left)
 
             pub ranked-room : Fits w64 (r * (free - j) + p)
             ranked-room = omega (arith, fits q p small)
 
-            pub ranked-next : (new after : List ℕ) → Took area (getD l j 0) b new after → RankedTo l area free start new after (r * (free - j) + p) (j + 1)
-            ranked-next new after k = record {
-              within = omega arith;
-              counted = k .counted;
-              left = left-one b new l area free j r p h g (sym m ∙ y) (k .marks) (v .left) e;
-              turn = turn-one b new l area free j r p h g (sym m ∙ y) (k .marks) (v .left) e ∙ v .turn;
-              rest = rank-one b new l area free j r p h g (sym m ∙ y) (k .marks) (v .left) e ∙ v .rest;
-              below = rank-below free j 0 r p (v .below) small;
-            }
+            pub ranked-next : RankedTo l area free start new after (r * (free - j) + p) (j + 1)
+            ranked-next =
+                let o = k .took .marks in
+                record {
+                  within = omega arith;
+                  counted = k .took .counted;
+                  left = left-one b new l area free j r p h g (sym m ∙ y) o (v .left) (k .place);
+                  turn = turn-one b new l area free j r p h g (sym m ∙ y) o (v .left) (k .place) ∙ v .turn;
+                  rest = rank-one b new l area free j r p h g (sym m ∙ y) o (v .left) (k .place) ∙ v .rest;
+                  below = rank-below free j 0 r p (v .below) small;
+                }

@@ -11,7 +11,7 @@ use Rattle.rules.specs.Tables.{by}
 use Rattle.rules.specs.Chance.{rankIn}
 use Rattle.rules.specs.Says.{refuses, gives, saysNumber}
 use Rattle.rules.specs.declared.Number.{Number}
-use Rattle.strips.specs.Marks.{unmarked, Open, Counted}
+use Rattle.strips.specs.Marks.{unmarked, Open, Counted, Took}
 
 -- each cell of the list is there when its turn comes
 unfoldable pub inTurn : List ℕ → List ℕ → Bool
@@ -23,6 +23,11 @@ pub record Rankable (l : List ℕ) (area free : ℕ) (strips : List ℕ) : Type 
   pub squares : Open area free strips
   pub few : length l ≤ free
   pub fits : falling free (length l) < 2 ^ 64
+
+-- the place of a free cell among the free ones, and its mark made
+pub record Placed (area c : ℕ) (old new tally : List ℕ) (r : ℕ) : Type 0 where
+  pub place : r ≡ length (unmarked old c)
+  pub took : Took area c old new tally
 
 -- the rank of a list among those cells, or 30
 pub record Ranked (cells l : List ℕ) (r : Number) : Type 0 where

@@ -7,8 +7,18 @@ use strips::is_marked;
 use strips::take;
 ghost use Rattle.rules.specs.Facts.{Sound};
 ghost use Rattle.rules.specs.Promises.{Ranks};
-ghost use Rattle.strips.specs.Marks.{unmarked, Counted};
-ghost use Rattle.chance.specs.Ranking.{Rankable, Ranked};
+ghost use Rattle.strips.specs.Marks.{unmarked, Counted, Free};
+ghost use Rattle.chance.specs.Ranking.{Placed, Rankable, Ranked};
+
+// The place of a free cell among the free ones, which it then leaves.
+fn take_place(strips: &mut [u64; 16], tally: &mut [u8; 16], area: usize, c: usize) -> usize
+    requires { ⌜ Free area (now strips) (now tally) c ⌝ }
+    ensures { λ r. ⌜ Placed area c (now (strips .entry)) (now (strips .exit)) (now (tally .exit)) r ⌝ }
+{
+    let place = free_below(strips, tally, area, c);
+    take(strips, tally, area, c);
+    place
+}
 
 // Refusal 30, for a cell that is not free or stood in the list before: it has a mark then.
 fn rank_cells(
@@ -32,8 +42,7 @@ fn rank_cells(
         if is_marked(strips, c) {
             return Number::Refused(refusals::by(30));
         }
-        rank = rank * (free - j) as u64 + free_below(strips, tally, area, c) as u64;
-        take(strips, tally, area, c);
+        rank = rank * (free - j) as u64 + take_place(strips, tally, area, c) as u64;
         j += 1;
     }
     Number::Value(rank)

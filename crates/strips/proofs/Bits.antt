@@ -1,16 +1,15 @@
--- One word: which of its bits are set, how many of a run of squares are clear, the first of them, and the word with that one set. Assumes nothing.
+-- One word: which of its bits are set, how many of a run of squares are clear, and its next number. Assumes nothing.
 use mathlib.Core.Path.{_≡_, refl, sym, ap, ap₂, _∙_}
 use mathlib.Core.Bool.{Bool, true, false, _||_}
-use mathlib.Core.List.{List, []}
-use Prim.Native.Nat.{ℕ, zero, suc, _+_, _-_, _*_, _/_, _%_, _^_, _<_, _≤_, max}
+use Prim.Native.Nat.{ℕ, zero, suc, _+_, _*_, _/_, _%_, _^_, _<_, max}
 use native.Mathlib.Nat.{add-zero, lt-irrefl, le-dest, mod-lt, div-one, div-self, div-eq-of-lt, div-add-mod', pow-suc, zero-lt-suc}
 use native.Mathlib.Numerals.{add-one}
 use native.Mathlib.Omega.{arith}
 use lib.Arith.{digits-div, digits-mod, lt-of-le-ne}
-use lib.Bits.{bitOr, or-step, or-self, or-shr}
-use lib.Count.{ones, ones-step, ones-le, trailingZeros}
+use lib.Bits.{bitOr, or-step, or-shr}
+use lib.Count.{ones, ones-step, ones-le}
 use lib.Dec.{eqb}
-use lib.ListN.{length, getD, drop}
+use lib.ListN.{length}
 use lib.Pow.{pow-pos, pow-lt, pow-add, shl-shr, shr-shr, shr-lt, mod-mod-pow, field}
 use Rattle.lists.proofs.Tests.{compared, same, other, ordered, less, more}
 use Rattle.boards.specs.Free.{freeFrom}
@@ -19,11 +18,11 @@ use Rattle.strips.specs.Marks.{bitOf}
 
 -- ---- a bit of a word
 
-bit-low : (x : ℕ) → bitOf x 0 ≡ eqb (x % 2) 1
+pub bit-low : (x : ℕ) → bitOf x 0 ≡ eqb (x % 2) 1
 unfolding bitOf
 bit-low x = ap (λ (k : ℕ). eqb (k % 2) 1) (div-one x)
 
-bit-up : (x b : ℕ) → bitOf x (suc b) ≡ bitOf (x / 2) b
+pub bit-up : (x b : ℕ) → bitOf x (suc b) ≡ bitOf (x / 2) b
 unfolding bitOf
 bit-up x b =
     let e : 1 + b ≡ suc b = omega arith in
@@ -36,10 +35,10 @@ halves x q r l e = (ap (λ (k : ℕ). k / 2) e ∙ digits-div q l, ap (λ (k : �
 two-pos : 0 < 2
 two-pos = omega arith
 
-low-lt : (x : ℕ) → x % 2 < 2
+pub low-lt : (x : ℕ) → x % 2 < 2
 low-lt x = mod-lt x two-pos
 
-not-one : (k : ℕ) → k < 2 → (k ≡ 1 → ⊥) → k ≡ 0
+pub not-one : (k : ℕ) → k < 2 → (k ≡ 1 → ⊥) → k ≡ 0
 not-one zero l d = refl
 not-one (suc zero) l d = absurd (d refl)
 not-one (suc (suc k)) l d = absurd (lt-irrefl 0 (omega arith))
@@ -135,28 +134,13 @@ count-clear used (suc n) a x h =
 
 -- ---- the next number, by its half and its lowest bit
 
-odd-next : (x : ℕ) → x % 2 ≡ 1 → ((x + 1) / 2 ≡ x / 2 + 1) × ((x + 1) % 2 ≡ 0)
+pub odd-next : (x : ℕ) → x % 2 ≡ 1 → ((x + 1) / 2 ≡ x / 2 + 1) × ((x + 1) % 2 ≡ 0)
 odd-next x e = halves (x + 1) (x / 2 + 1) 0 two-pos (omega (arith, div-add-mod' x 2, e))
 
-even-next : (x : ℕ) → x % 2 ≡ 0 → ((x + 1) / 2 ≡ x / 2) × ((x + 1) % 2 ≡ 1)
+pub even-next : (x : ℕ) → x % 2 ≡ 0 → ((x + 1) / 2 ≡ x / 2) × ((x + 1) % 2 ≡ 1)
 even-next x e = halves (x + 1) (x / 2) 1 (omega arith) (omega (arith, div-add-mod' x 2, e))
 
--- ---- the first that is clear: the lowest bit of the next number
-
-pub first-clear : (used : ℕ → Bool) (n a x : ℕ) → Shows used a n x → 0 < length (freeFrom used a n) → getD (freeFrom used a n) 0 0 ≡ a + trailingZeros n (x + 1)
-unfolding freeFrom trailingZeros
-first-clear used zero a x h l = absurd (lt-irrefl 0 l)
-first-clear used (suc n) a x h l = elim (compared (x % 2) 1) [
-  | same e t ↦
-      let u = shows-low used a n x h ∙ t in
-      let ih = first-clear used n (suc a) (x / 2) (shows-up used a n x h) (rw u at l) in
-      let o = odd-next x e in
-      rw (u, o .1, o .0) (omega (arith, ih))
-  | other d t ↦
-      let u = shows-low used a n x h ∙ t in
-      let o = even-next x (not-one (x % 2) (low-lt x) d) in
-      rw (u, o .1) (omega arith)
-]
+-- ---- room for the next number
 
 -- a word with a clear bit has a next number of as many bits
 pub clear-room : (used : ℕ → Bool) (n a x : ℕ) → Shows used a n x → x < 2 ^ n → 0 < length (freeFrom used a n) → x + 1 < 2 ^ n
@@ -169,38 +153,4 @@ clear-room used (suc n) a x h m l =
           let ih = clear-room used n (suc a) (x / 2) (shows-up used a n x h) half (rw (shows-low used a n x h ∙ t) at l) in
           omega (arith, ih, pow-suc 2 n, div-add-mod' x 2, e)
       | other d t ↦ let z = not-one (x % 2) (low-lt x) d in omega (arith, half, pow-suc 2 n, div-add-mod' x 2, z)
-    ]
-
--- ---- the lowest clear bit set
-
-set-odd : (x : ℕ) → x % 2 ≡ 1 → (bitOr x (x + 1) / 2 ≡ bitOr (x / 2) (x / 2 + 1)) × (bitOr x (x + 1) % 2 ≡ 1)
-set-odd x e =
-    let n = odd-next x e in
-    let j = joined x (x + 1) in
-    (j .0 ∙ ap (λ (k : ℕ). bitOr (x / 2) k) (n .0), j .1 ∙ ap₂ max e (n .1))
-
-set-even : (x : ℕ) → x % 2 ≡ 0 → (bitOr x (x + 1) / 2 ≡ x / 2) × (bitOr x (x + 1) % 2 ≡ 1)
-set-even x e =
-    let n = even-next x e in
-    let j = joined x (x + 1) in
-    (j .0 ∙ ap (λ (k : ℕ). bitOr (x / 2) k) (n .0) ∙ or-self (x / 2), j .1 ∙ ap₂ max e (n .1))
-
--- it leaves those after the first
-pub later-clear : (u v : ℕ → Bool) (n a x : ℕ) → Shows u a n x → Shows v a n (bitOr x (x + 1)) → freeFrom v a n ≡ drop 1 (freeFrom u a n)
-unfolding freeFrom
-later-clear u v zero a x h k = refl
-later-clear u v (suc n) a x h k =
-    let w = bitOr x (x + 1) in
-    let up = shows-up v a n w k in
-    elim (compared (x % 2) 1) [
-      | same e t ↦
-          let s = set-odd x e in
-          let low : v a ≡ true = shows-low v a n w k ∙ ap (λ (j : ℕ). eqb j 1) (s .1) in
-          rw (shows-low u a n x h ∙ t, low)
-          (later-clear u v n (suc a) (x / 2) (shows-up u a n x h) (λ b l. up b l ∙ ap (λ (j : ℕ). bitOf j b) (s .0)))
-      | other d t ↦
-          let s = set-even x (not-one (x % 2) (low-lt x) d) in
-          let low : v a ≡ true = shows-low v a n w k ∙ ap (λ (j : ℕ). eqb j 1) (s .1) in
-          rw (shows-low u a n x h ∙ t, low)
-          (same-word v u (suc a) n (x / 2) (λ b l. up b l ∙ ap (λ (j : ℕ). bitOf j b) (s .0)) (shows-up u a n x h))
     ]

@@ -3,18 +3,34 @@ use mathlib.Core.Path.{_≡_, refl, sym, ap, _∙_}
 use mathlib.Core.Bool.{Bool, false}
 use mathlib.Core.List.{List}
 use Prim.Native.Nat.{ℕ, zero, suc, _+_, _-_, _*_, _<_, _≤_}
-use native.Mathlib.Nat.{zero-add, lt-irrefl}
+use native.Mathlib.Nat.{zero-add, lt-irrefl, le-dest}
 use native.Mathlib.Omega.{arith}
 use lib.Arith.{lt-of-le-ne}
 use mir.Syntax.{w8, w64}
 use mir.Val.{Fits}
-use lib.ListN.{length, getD, set, replicate, length-append, length-set, length-replicate}
+use lib.ListN.{length, getD, set, replicate, length-append, length-set, length-replicate, List·getD-append}
 use lib.Seq.{getD-set-same, getD-set-other}
-use Rattle.lists.proofs.Tests.{compared, same, other}
+use Rattle.lists.proofs.Tests.{compared, same, other, ordered, less, more}
 use Rattle.boards.specs.Free.{freeFrom}
 use Rattle.boards.proofs.Free.{from-few, from-split}
 use Rattle.strips.specs.Marks.{marked, unmarked, clearFrom, Inside, Counted}
 use Rattle.strips.proofs.Strips.{strip-open}
+
+-- ---- runs of squares from one on
+
+module _ (used : ℕ → Bool) (a : ℕ) where
+  run-longer : (n d i : ℕ) → i < length (freeFrom used a n) → getD (freeFrom used a (n + d)) i 0 ≡ getD (freeFrom used a n) i 0
+  run-longer n d i h = ap (λ (l : List ℕ). getD l i 0) (from-split used n d a) ∙ List·getD-append (freeFrom used a n) (freeFrom used (a + n) d) 0 i h
+
+  -- in two runs that are both long enough, the i-th is the same
+  pub run-same : (n m i : ℕ) → i < length (freeFrom used a n) → i < length (freeFrom used a m) → getD (freeFrom used a n) i 0 ≡ getD (freeFrom used a m) i 0
+  run-same n m i h k = elim (ordered n m) [
+    | less l t ↦ let (d, e) = le-dest l in sym (ap (λ (j : ℕ). getD (freeFrom used a j) i 0) (let q : m ≡ n + suc d = omega arith in q) ∙ run-longer n (suc d) i h)
+    | more l t ↦ let (d, e) = le-dest l in ap (λ (j : ℕ). getD (freeFrom used a j) i 0) (sym e) ∙ run-longer m d i k
+  ]
+
+  pub run-more : (n d : ℕ) → length (freeFrom used a n) ≤ length (freeFrom used a (n + d))
+  run-more n d = omega (arith, ap length (from-split used n d a), length-append (freeFrom used a n) (freeFrom used (a + n) d))
 
 -- ---- the squares of the strips passed
 
@@ -53,10 +69,10 @@ module _ (strips : List ℕ) (area n s : ℕ) (v : Counting strips area n s) (h 
   counting-fits m = omega (arith, v .few, strip-open strips s, strip-few strips s)
 
 -- where no square has a mark, all are counted
-all-free : (used : ℕ → Bool) (n a : ℕ) → ((c : ℕ) → a ≤ c → used c ≡ false) → length (freeFrom used a n) ≡ n
+pub all-free : (used : ℕ → Bool) (n a : ℕ) → ((c : ℕ) → a ≤ c → c < a + n → used c ≡ false) → length (freeFrom used a n) ≡ n
 unfolding freeFrom
 all-free used zero a h = refl
-all-free used (suc n) a h = rw (h a (omega arith)) (ap suc (all-free used n (suc a) (λ c l. h c (omega arith))))
+all-free used (suc n) a h = rw (h a (omega arith) (omega arith)) (ap suc (all-free used n (suc a) (λ c l m. h c (omega arith) (omega arith))))
 
 -- past the area stands no mark
 past-all : (strips : List ℕ) (area m : ℕ) → Inside area strips → length (unmarked strips (area + m)) ≡ length (unmarked strips area) + m
@@ -65,7 +81,7 @@ past-all strips area m p =
     ap length (from-split (marked strips) area m 0)
     ∙ length-append (freeFrom (marked strips) 0 area) (freeFrom (marked strips) (0 + area) m)
     ∙ ap (λ (k : ℕ). length (freeFrom (marked strips) 0 area) + k)
-    (ap (λ (k : ℕ). length (freeFrom (marked strips) k m)) (zero-add area) ∙ all-free (marked strips) m area (p .past))
+    (ap (λ (k : ℕ). length (freeFrom (marked strips) k m)) (zero-add area) ∙ all-free (marked strips) m area (λ c l _. p .past c l))
 
 module _ (strips : List ℕ) (area n s : ℕ) (v : Counting strips area n s) (h : area ≤ s * 64) (p : Inside area strips) where
   whole : n ≡ length (unmarked strips area) + (s * 64 - area)

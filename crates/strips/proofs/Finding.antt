@@ -1,18 +1,17 @@
--- What the searches go by: within a strip, from strip to strip, below a square; and what a square taken leaves. Assumes nothing.
-use mathlib.Core.Path.{_≡_, refl, sym, ap, ap₂, _∙_, subst}
+-- What the searches go by: from strip to strip, below a square; and what a square taken leaves. Assumes nothing.
+use mathlib.Core.Path.{_≡_, refl, sym, ap, ap₂, _∙_}
 use mathlib.Core.Bool.{Bool, true, false, _||_}
-use mathlib.Core.List.{List, [], _++_}
-use Prim.Native.Nat.{ℕ, zero, suc, _+_, _-_, _*_, _/_, _%_, _^_, _<_, _≤_}
+use mathlib.Core.List.{List, _++_}
+use Prim.Native.Nat.{ℕ, suc, _+_, _-_, _*_, _/_, _%_, _^_, _<_, _≤_}
 use native.Mathlib.Nat.{one-mul, zero-add, lt-irrefl, le-dest, mod-lt}
 use native.Mathlib.Omega.{arith}
 use mir.Syntax.{w64}
 use mir.Val.{Fits}
-use lib.Bits.{bitOr, or-lt}
-use lib.Count.{ones, ones-le, trailingZeros, trailing-le}
+use lib.Count.{ones, ones-le}
 use lib.Dec.{eqb}
-use lib.ListN.{length, getD, set, drop, length-append, length-drop, length-set, List·getD-append}
+use lib.ListN.{length, getD, set, length-append, length-set}
 use lib.Pow.{pow-pos, shl-exact}
-use lib.Seq.{getD-append-add, getD-drop, getD-set-same, getD-set-other}
+use lib.Seq.{getD-append-add, getD-set-same, getD-set-other}
 use borrow.Author.Tests.{ne-eqb}
 use Rattle.lists.specs.Lists.{member, without, place}
 use Rattle.lists.proofs.Tests.{compared, same, other, ordered, less, more}
@@ -21,73 +20,9 @@ use Rattle.lists.proofs.Members.{clash, fails, length-without}
 use Rattle.boards.specs.Free.{freeFrom}
 use Rattle.boards.proofs.Free.{free-ext, from-few, of-from, in-from, from-without, from-split, place-scan}
 use Rattle.boards.proofs.Squares.{cell-is}
-use Rattle.strips.specs.Marks.{bitOf, marked, unmarked, clearFrom, Among, Marked, Counted, Numbered, Free, Took}
-use Rattle.strips.proofs.Bits.{Shows, first-clear, clear-room, later-clear}
-use Rattle.strips.proofs.Strips.{clear-shows, part-open, strip-clear}
-use Rattle.strips.proofs.Counting.{open-more}
-
--- ---- within a strip: the lowest clear bit is set until the one asked for is the lowest
-
-pub record Passing (strip first i marks left : ℕ) : Type 0 where
-  pub word : Fits w64 marks
-  pub room : left < length (clearFrom first marks)
-  pub rest : getD (clearFrom first marks) left 0 ≡ getD (clearFrom first strip) i 0
-
-pub passing-none : (strip first i : ℕ) → Fits w64 strip → i < length (clearFrom first strip) → Passing strip first i strip i
-passing-none strip first i f h = record { word = f; room = h; rest = refl }
-
-module _ (strip first i marks left : ℕ) (v : Passing strip first i marks left) where
-  next-word : marks + 1 < 2 ^ 64
-  unfolding clearFrom
-  next-word = clear-room (λ c. bitOf marks (c - first)) 64 first marks (clear-shows first marks) (v .word .fits) (omega (arith, v .room))
-
-  pub passing-fits : Fits w64 (marks + 1)
-  passing-fits = record { fits = next-word }
-
-  module _ (l : 0 < left) where
-    later : clearFrom first (bitOr marks (marks + 1)) ≡ drop 1 (clearFrom first marks)
-    unfolding clearFrom
-    later =
-        later-clear (λ c. bitOf marks (c - first)) (λ c. bitOf (bitOr marks (marks + 1)) (c - first)) 64 first marks (clear-shows first marks)
-        (clear-shows first (bitOr marks (marks + 1)))
-
-    pub passing-next : Passing strip first i (bitOr marks (marks + 1)) (left - 1)
-    passing-next =
-        let e : 1 + (left - 1) ≡ left = omega arith in
-        record {
-          word = record { fits = or-lt 64 marks (marks + 1) (v .word .fits) next-word };
-          room = rw (later, length-drop 1 (clearFrom first marks)) (omega (arith, v .room));
-          rest = rw (later, getD-drop 1 (clearFrom first marks) (left - 1) 0, e) (v .rest);
-        }
-
-  pub passing-all : left ≤ 0 → first + trailingZeros 64 (marks + 1) ≡ getD (clearFrom first strip) i 0
-  unfolding clearFrom
-  passing-all l =
-      let e : left ≡ 0 = omega arith in
-      sym (first-clear (λ c. bitOf marks (c - first)) 64 first marks (clear-shows first marks) (omega (arith, v .room)))
-      ∙ sym (ap (λ (k : ℕ). getD (clearFrom first marks) k 0) e) ∙ v .rest
-
-pub trailing-fits : (x : ℕ) → Fits w64 (trailingZeros 64 x)
-trailing-fits x = omega (arith, trailing-le 64 x)
-
-pub square-fits : (first x : ℕ) → first < 1024 → Fits w64 (first + trailingZeros 64 x)
-square-fits first x h = omega (arith, trailing-le 64 x)
-
--- ---- runs of squares from one on
-
-module _ (used : ℕ → Bool) (a : ℕ) where
-  run-longer : (n d i : ℕ) → i < length (freeFrom used a n) → getD (freeFrom used a (n + d)) i 0 ≡ getD (freeFrom used a n) i 0
-  run-longer n d i h = ap (λ (l : List ℕ). getD l i 0) (from-split used n d a) ∙ List·getD-append (freeFrom used a n) (freeFrom used (a + n) d) 0 i h
-
-  -- in two runs that are both long enough, the i-th is the same
-  run-same : (n m i : ℕ) → i < length (freeFrom used a n) → i < length (freeFrom used a m) → getD (freeFrom used a n) i 0 ≡ getD (freeFrom used a m) i 0
-  run-same n m i h k = elim (ordered n m) [
-    | less l t ↦ let (d, e) = le-dest l in sym (ap (λ (j : ℕ). getD (freeFrom used a j) i 0) (let q : m ≡ n + suc d = omega arith in q) ∙ run-longer n (suc d) i h)
-    | more l t ↦ let (d, e) = le-dest l in ap (λ (j : ℕ). getD (freeFrom used a j) i 0) (sym e) ∙ run-longer m d i k
-  ]
-
-  run-more : (n d : ℕ) → length (freeFrom used a n) ≤ length (freeFrom used a (n + d))
-  run-more n d = omega (arith, ap length (from-split used n d a), length-append (freeFrom used a n) (freeFrom used (a + n) d))
+use Rattle.strips.specs.Marks.{marked, unmarked, clearFrom, Among, Marked, Counted, Numbered, Free, Took}
+use Rattle.strips.proofs.Strips.{part-open, strip-clear}
+use Rattle.strips.proofs.Counting.{run-same, run-more, open-more}
 
 -- ---- from strip to strip: l more are to be passed from strip s on
 

@@ -4,18 +4,27 @@ ghost use mathlib.Core.Path.{_≡_};
 ghost use lib.ListN.{length, getD};
 ghost use Rattle.strips.specs.Marks.{unmarked, clearFrom, Among, Numbered, Free, Took};
 
-// The i-th square without a mark of a strip that begins at square `first`: i times the lowest clear bit is set, then the next one is it.
+// The i-th square without a mark of a strip that begins at square `first`, run by run: squares that have a mark are passed, then those that have none.
 fn nth_in(strip: u64, first: usize, i: usize) -> usize
     requires { ⌜ Among strip first i ⌝ }
     ensures { λ r. ⌜ r ≡ getD (clearFrom first strip) i 0 ⌝ }
 {
-    let mut marks = strip;
+    let mut rest = strip;
+    let mut at = first;
     let mut left = i;
-    while 0 < left {
-        marks |= marks + 1;
-        left -= 1;
+    while at < first + 64 {
+        let marks = u64::trailing_zeros(rest + 1) as usize;
+        rest >>= marks;
+        at += marks;
+        let clear = u64::trailing_zeros(rest) as usize;
+        if left < clear {
+            return at + left;
+        }
+        left -= clear;
+        rest >>= clear;
+        at += clear;
     }
-    first + u64::trailing_zeros(marks + 1) as usize
+    0
 }
 
 // `nth_free_of`: the i-th square without a mark.

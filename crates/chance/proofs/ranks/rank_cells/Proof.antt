@@ -32,7 +32,6 @@ rank-cells-spec =
     (λ c. search ranked-times)
     (λ c κs. search ranked-free)
     (λ c. search ranked-room)
-    (λ c κs. search needs)
     (λ c. search needs) (λ c. search needs)
     (λ c. search ranked-next)
     (λ c. search ranked-all))
