@@ -93,9 +93,9 @@ module _ (strips : List ℕ) (area i l s : ℕ) (v : Scanning strips area i l s)
             near = omega arith;
             room = omega (arith, v .room, ap length parts, n, here);
             rest =
-            sym (getD-append-add (freeFrom (marked strips) (s * 64) 64) rest (l - getD tally s 0) 0)
-            ∙ sym (ap₂ (λ (k : List ℕ) (m : ℕ). getD k m 0) parts j)
-            ∙ v .rest;
+                sym (getD-append-add (freeFrom (marked strips) (s * 64) 64) rest (l - getD tally s 0) 0)
+                ∙ sym (ap₂ (λ (k : List ℕ) (m : ℕ). getD k m 0) parts j)
+                ∙ v .rest;
           }
 
 -- ---- below a square

@@ -215,9 +215,9 @@ module _ (strip first i rest at left : ℕ) (v : Passing strip first i rest at l
         word = shifted clear;
         room = omega (arith, v .room, ap length e, length-append (freeFrom used at clear) ys, l);
         goal =
-        sym (getD-append-add (freeFrom used at clear) ys (left - clear) 0)
-        ∙ sym (ap₂ (λ (k : List ℕ) (m : ℕ). getD k m 0) e j)
-        ∙ v .goal;
+            sym (getD-append-add (freeFrom used at clear) ys (left - clear) 0)
+            ∙ sym (ap₂ (λ (k : List ℕ) (m : ℕ). getD k m 0) e j)
+            ∙ v .goal;
       }
 
 -- ---- a turn of the loop: marks, then clear squares

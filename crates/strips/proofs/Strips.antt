@@ -96,8 +96,10 @@ module _ (strips : List ℕ) (x : ℕ) (size : length strips ≡ 16) (h : x < 10
         rw (e, getD-set-same strips (x / 64) (bitOr (getD strips (x / 64) 0) (2 ^ (x % 64))) 0 strip-in)
         (more-bit (getD strips (x / 64) 0) (x % 64) (c % 64) ∙ ap (λ (t : Bool). t || bitOf (getD strips (x / 64) 0) (c % 64)) (bit-same c e))
     | other d t ↦
-        rw (ne-eqb c x (λ q. d (ap (λ (k : ℕ). k / 64) q)),
-        getD-set-other strips (x / 64) (c / 64) (bitOr (getD strips (x / 64) 0) (2 ^ (x % 64))) 0 d)
+        rw (
+          ne-eqb c x (λ q. d (ap (λ (k : ℕ). k / 64) q)),
+          getD-set-other strips (x / 64) (c / 64) (bitOr (getD strips (x / 64) 0) (2 ^ (x % 64))) 0 d,
+        )
   ]
 
   bit-is : 1 * 2 ^ (x % 64) % 2 ^ 64 ≡ 2 ^ (x % 64)
@@ -117,9 +119,9 @@ module _ (cells old : List ℕ) where
     adds-next l = record {
       size = m .size;
       shows = λ c.
-      m .shows c
-      ∙ ap (λ (t : Bool). eqb c (getD cells i 0) || t) (a .shows c)
-      ∙ sym (ap (λ (t : Bool). t || marked old c) (member-left c cells i l) ∙ or-assoc (eqb c (getD cells i 0)) (member c (drop (i + 1) cells)) (marked old c));
+          m .shows c
+          ∙ ap (λ (t : Bool). eqb c (getD cells i 0) || t) (a .shows c)
+          ∙ sym (ap (λ (t : Bool). t || marked old c) (member-left c cells i l) ∙ or-assoc (eqb c (getD cells i 0)) (member c (drop (i + 1) cells)) (marked old c));
     }
 
   module _ (i : ℕ) (l : 0 < i) (h : i ≤ length cells) (mid new : List ℕ) (a : Adds (drop i cells) old mid) (m : Marked (getD cells (i - 1) 0) mid new) where
@@ -144,9 +146,9 @@ adds-both : (front back old mid new : List ℕ) → Adds back old mid → Adds f
 adds-both front back old mid new a b = record {
   size = b .size;
   shows = λ c.
-  b .shows c
-  ∙ ap (λ (t : Bool). member c front || t) (a .shows c)
-  ∙ sym (ap (λ (t : Bool). t || marked old c) (member-append c front back) ∙ or-assoc (member c front) (member c back) (marked old c));
+      b .shows c
+      ∙ ap (λ (t : Bool). member c front || t) (a .shows c)
+      ∙ sym (ap (λ (t : Bool). t || marked old c) (member-append c front back) ∙ or-assoc (member c front) (member c back) (marked old c));
 }
 
 module _ (cells old mid new : List ℕ) (i : ℕ) where
