@@ -1,4 +1,3 @@
 pub mod Free
 pub mod Boards
-pub mod Scans
 pub mod Squares

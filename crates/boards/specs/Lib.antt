@@ -1,3 +1,2 @@
 pub mod Free
 pub mod Boards
-pub mod Marks

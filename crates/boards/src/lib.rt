@@ -1,8 +1,4 @@
-// Boards of 1,024 squares: stamps tell whether a number stands twice in a list; marks tell which squares are taken, and how many others there are.
-mod marks;
+// A board of 1,024 squares, whose stamps tell whether a number stands twice in a list. The laws of free squares live here too.
 mod stamps;
 
-pub use marks::free_below;
-pub use marks::mark_taken;
-pub use marks::nth_free;
 pub use stamps::stamps_once;

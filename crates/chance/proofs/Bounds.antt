@@ -1,5 +1,5 @@
--- What bounds a draw: the squares of the board, the free cells, 64 bits; and what stays due after it. Assumes nothing.
-use mathlib.Core.Path.{_≡_, ap, _∙_}
+-- What bounds a draw: the squares of the grid, the free cells, 64 bits; and what stays due after it. Assumes nothing.
+use mathlib.Core.Path.{_≡_, sym, ap, _∙_}
 use mathlib.Core.Bool.{Bool, true, false, not, _&&_}
 use mathlib.Core.List.{List}
 use Prim.Native.Nat.{ℕ, _-_, _≤_, _<_, _^_}
@@ -10,28 +10,37 @@ use Rattle.lists.specs.Choice.{_if_else_}
 use Rattle.lists.specs.Products.{falling}
 use Rattle.rules.specs.Image.{stateOf}
 use Rattle.rules.specs.Chance.{outcomes, digits, pick, drawnFrom}
-use Rattle.boards.proofs.Scans.{unmarked-few}
-use Rattle.boards.specs.Marks.{unmarked, Open}
-use Rattle.outcomes.specs.Odds.{Stands}
+use Rattle.strips.proofs.Finding.{unmarked-few}
+use Rattle.strips.specs.Marks.{unmarked, Open, Counted}
+use Rattle.outcomes.specs.Odds.{Stands, Pickable}
 use Rattle.outcomes.specs.declared.odds.Odds.{Odds}
 use Rattle.outcomes.proofs.Marking.{count-in}
+use Rattle.outcomes.proofs.Radix.{digit-below}
+use Rattle.rules.proofs.Digits.{digits-length}
 
-module _ (n left : ℕ) (board : List ℕ) (o : Open n left board) where
+module _ (n left : ℕ) (strips : List ℕ) (o : Open n left strips) where
   pub left-most : left ≤ 1024
-  left-most = omega (arith, o .left-is, o .area-max, unmarked-few board n)
+  left-most = omega (arith, o .left-is, o .area-max, unmarked-few strips n)
 
-  -- the digits of an index, and the cells that they pick
-  pub list-drawn : (ds cells : List ℕ) (k i : ℕ) → ds ≡ digits left k i → cells ≡ pick (unmarked board n) ds → cells ≡ drawnFrom (unmarked board n) k i
+  -- the digits of an index are below what is free at their turns
+  pub list-pickable : (ds tally : List ℕ) (k i : ℕ) → ds ≡ digits left k i → k ≤ left → Counted n strips tally → Pickable ds n strips tally
+  list-pickable ds tally k i e h q = record {
+    counted = q;
+    below = λ j l. rw (sym (o .left-is), e) (digit-below left k i j h (rw (e, digits-length left k i) at l));
+  }
+
+  -- and the cells that they pick
+  pub list-drawn : (ds cells : List ℕ) (k i : ℕ) → ds ≡ digits left k i → cells ≡ pick (unmarked strips n) ds → cells ≡ drawnFrom (unmarked strips n) k i
   unfolding drawnFrom
-  list-drawn ds cells k i e q = q ∙ ap (pick (unmarked board n)) (e ∙ ap (λ (m : ℕ). digits m k i) (o .left-is))
+  list-drawn ds cells k i e q = q ∙ ap (pick (unmarked strips n)) (e ∙ ap (λ (m : ℕ). digits m k i) (o .left-is))
 
-module _ (w board : List ℕ) (r : Odds) (o : Stands w board r) where
+module _ (w strips : List ℕ) (r : Odds) (o : Stands w strips r) where
   pub size-le : r .size ≤ r .free
   size-le = let a = o .size-is in let b = o .free-is in omega arith
 
   pub count-fits : (r .count ≡ 0 → ⊥) → falling (r .free) (r .size) < 2 ^ 64
   unfolding outcomes
-  count-fits n = rw (o .free-is, o .size-is) (let l = ltb-false (2 ^ 64 - 1) (outcomes (stateOf w)) (count-in w board r o n) in omega arith)
+  count-fits n = rw (o .free-is, o .size-is) (let l = ltb-false (2 ^ 64 - 1) (outcomes (stateOf w)) (count-in w strips r o n) in omega arith)
 
 -- ---- what stays due after a draw
 

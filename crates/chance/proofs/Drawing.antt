@@ -17,7 +17,7 @@ use Rattle.rules.specs.Chance.{free, drawnFrom, drawn, afterDraw}
 use Rattle.rules.proofs.DrawFacts.{drawn-due}
 use Rattle.rules.proofs.Fairness.{listed}
 use Rattle.rules.proofs.FreeCells.{free-short}
-use Rattle.boards.specs.Marks.{unmarked, Open}
+use Rattle.strips.specs.Marks.{unmarked, Open}
 use Rattle.outcomes.specs.declared.odds.Odds.{Odds}
 use Rattle.chance.specs.Next.{nextWords, Growing}
 use Rattle.chance.specs.Answers.{drawOf, Ready, Answers}
@@ -25,9 +25,9 @@ use Rattle.rules.proofs.DrawFacts.{next-long}
 use Rattle.chance.proofs.NextImage.{next-is, drawn-fresh}
 use Rattle.chance.proofs.Bounds.{size-le}
 
-module _ (w : List ℕ) (i : ℕ) (o : Odds) (board : List ℕ) (room : ℕ) (list : List ℕ) (p : Ready w i o board room (length list)) where
-  pub board-open : Open (areaIn w) (o .free) board
-  board-open = record {
+module _ (w : List ℕ) (i : ℕ) (o : Odds) (strips : List ℕ) (room : ℕ) (list : List ℕ) (p : Ready w i o strips room (length list)) where
+  pub strips-open : Open (areaIn w) (o .free) strips
+  strips-open = record {
     area-max = p .sound .area-max;
     size = p .stands .size;
     left-is = p .stands .free-is ∙ ap length (sym (p .stands .shows));
@@ -43,10 +43,10 @@ module _ (w : List ℕ) (i : ℕ) (o : Odds) (board : List ℕ) (room : ℕ) (li
   part-long = rw none-off (length-take-le (o .size) list (p .cells))
 
   pub part-few : length (take (o .size - 0) (drop 0 list)) ≤ o .free
-  part-few = rw part-long (size-le w board o (p .stands))
+  part-few = rw part-long (size-le w strips o (p .stands))
 
   -- ys are the cells that the index draws, in the list's first words
-  module _ (ys : List ℕ) (e : ys ≡ drawnFrom (unmarked board (areaIn w)) (length (take (o .size - 0) (drop 0 list))) i) where
+  module _ (ys : List ℕ) (e : ys ≡ drawnFrom (unmarked strips (areaIn w)) (length (take (o .size - 0) (drop 0 list))) i) where
     list-drawn : ys ≡ drawn (stateOf w) i
     unfolding drawn
     list-drawn = e ∙ ap₂ (λ (c : List ℕ) (n : ℕ). drawnFrom c n i) (p .stands .shows) (part-long ∙ p .stands .size-is)
@@ -75,7 +75,7 @@ module _ (w : List ℕ) (i : ℕ) (o : Odds) (board : List ℕ) (room : ℕ) (li
           let a = free-short (stateOf w) in
           let f = p .stands .free-is in
           let m = p .sound .area-max in
-          let z = size-le w board o (p .stands) in
+          let z = size-le w strips o (p .stands) in
           let l : length part ≡ o .size = ap length part-is ∙ cells-long in
           record {
             sound = p .sound;

@@ -1,6 +1,6 @@
 -- The rank as a loop adds it up, cell by cell, and the test that each cell is there when its turn comes. Assumes nothing.
 use mathlib.Core.Path.{_≡_, refl, sym, ap, ap₂, _∙_}
-use mathlib.Core.Bool.{true, false, _&&_}
+use mathlib.Core.Bool.{Bool, true, false, _&&_}
 use mathlib.Core.List.{List, [], _∷_}
 use Prim.Native.Nat.{ℕ, suc, _+_, _-_, _*_, _≤_, _<_, _^_}
 use native.Mathlib.Nat.{le-trans, mul-assoc, add-mul, zero-mul, zero-add}
@@ -9,7 +9,7 @@ use native.Mathlib.Omega.{arith}
 use mir.Syntax.{w64}
 use mir.Val.{Fits}
 use lib.Arith.{digits-lt}
-use lib.ListN.{length, getD, set, drop, drop-of-length-le, length-drop, length-set}
+use lib.ListN.{length, getD, drop, drop-of-length-le, length-drop}
 use lib.Seq.{drop-cons}
 use Rattle.lists.specs.Lists.{member, without, place}
 use Rattle.lists.specs.Products.{falling}
@@ -25,9 +25,9 @@ use Rattle.rules.specs.Chance.{free, drawSize, rankIn, canRank}
 use Rattle.rules.proofs.FreeCells.{free-distinct}
 use Rattle.rules.proofs.Draws.{InTurn, in-turn, turn-among, turn-distinct}
 use Rattle.rules.proofs.Fairness.{ranked-listed, listed-ranked}
-use Rattle.boards.specs.Marks.{unmarked}
-use Rattle.boards.proofs.Scans.{mark-no, open-member, unmarked-set, square-place, off-board, taken-square}
-use Rattle.chance.specs.Ranking.{inTurn, rankLeft, Rankable, Ranked, RankedTo}
+use Rattle.strips.specs.Marks.{marked, unmarked, Marked, Counted, Free}
+use Rattle.strips.proofs.Finding.{unmarked-less, open-member, square-place, off-area, taken-square}
+use Rattle.chance.specs.Ranking.{inTurn, rankLeft, Placed, Rankable, Ranked, RankedTo}
 
 -- ---- the test
 
@@ -118,47 +118,48 @@ rank-done cells l j r h =
     rw (e, falling-none, rank-end cells l j h) (omega arith)
 
 -- one cell ranked and marked
-module _ (b l : List ℕ) (area free j r p : ℕ) where
+module _ (b new l : List ℕ) (area free j r p : ℕ) where
   abbrev x : ℕ
   x = getD l j 0
 
-  module _ (h : j < length l) (k : x < length b) (g : x < area) (u : getD b x 0 ≡ 0) (n : length (unmarked b area) + j ≡ free) (e : p ≡ length (unmarked b x)) where
+  module _ (h : j < length l) (g : x < area) (u : marked b x ≡ false) (m : Marked x b new) (n : length (unmarked b area) + j ≡ free) (e : p ≡ length (unmarked b x)) where
     here : member x (unmarked b area) ≡ true
-    here = open-member b x area g (mark-no b x u)
+    here = open-member b area x g u
 
-    left-one : length (unmarked (set b x 1) area) + (j + 1) ≡ free
-    left-one = rw (unmarked-set b x area k) (let z = length-without x (unmarked b area) here in omega arith)
+    left-one : length (unmarked new area) + (j + 1) ≡ free
+    left-one = rw (unmarked-less b new x m area) (let z = length-without x (unmarked b area) here in omega arith)
 
-    turn-one : inTurn (unmarked (set b x 1) area) (drop (j + 1) l) ≡ inTurn (unmarked b area) (drop j l)
-    turn-one = rw (unmarked-set b x area k) (sym (turn-next (unmarked b area) l j h here))
+    turn-one : inTurn (unmarked new area) (drop (j + 1) l) ≡ inTurn (unmarked b area) (drop j l)
+    turn-one = rw (unmarked-less b new x m area) (sym (turn-next (unmarked b area) l j h here))
 
     place-is : p ≡ place x (unmarked b area)
     place-is = e ∙ sym (square-place b area x g u)
 
-    place-small : p < free - j
-    place-small = rw place-is (let z = place-lt x (unmarked b area) here in omega arith)
-
-    rank-one : rankLeft (unmarked (set b x 1) area) l (j + 1) (r * (free - j) + p) ≡ rankLeft (unmarked b area) l j r
+    rank-one : rankLeft (unmarked new area) l (j + 1) (r * (free - j) + p) ≡ rankLeft (unmarked b area) l j r
     rank-one =
-        let m : free - j ≡ length (unmarked b area) = omega arith in
-        ap (λ (c : List ℕ). rankLeft c l (j + 1) (r * (free - j) + p)) (unmarked-set b x area k)
-        ∙ ap₂ (λ (m q : ℕ). rankLeft (without x (unmarked b area)) l (j + 1) (r * m + q)) m place-is
+        let m′ : free - j ≡ length (unmarked b area) = omega arith in
+        ap (λ (c : List ℕ). rankLeft c l (j + 1) (r * (free - j) + p)) (unmarked-less b new x m area)
+        ∙ ap₂ (λ (m q : ℕ). rankLeft (without x (unmarked b area)) l (j + 1) (r * m + q)) m′ place-is
         ∙ rank-next (unmarked b area) l j r h here
+
+-- the place of a free square is below what is free
+place-under : (b : List ℕ) (area c p : ℕ) → c < area → marked b c ≡ false → p ≡ length (unmarked b c) → p < length (unmarked b area)
+place-under b area c p g u e = rw (e ∙ sym (square-place b area c g u)) (place-lt c (unmarked b area) (open-member b area c g u))
 
 -- ---- the loop that ranks a list, from its first turn to its end
 
 module _ (l : List ℕ) (area free : ℕ) (start : List ℕ) where
-  pub ranked-none : Rankable l area free start → RankedTo l area free start start 0 0
-  ranked-none q = record {
+  pub ranked-none : (tally : List ℕ) → Rankable l area free start → Counted area start tally → RankedTo l area free start start tally 0 0
+  ranked-none tally q k = record {
     within = omega arith;
-    size = q .squares .size;
+    counted = k;
     left = omega (arith, q .squares .left-is);
     turn = refl;
     rest = rank-start (unmarked start area) l;
     below = rank-small free;
   }
 
-  module _ (b : List ℕ) (r j : ℕ) (v : RankedTo l area free start b r j) where
+  module _ (b tally : List ℕ) (r j : ℕ) (v : RankedTo l area free start b tally r j) where
     pub ranked-all : length l ≤ j → Ranked (unmarked start area) l (Value r)
     ranked-all h =
         let e = sym (v .turn) ∙ turn-end (unmarked b area) l j h in
@@ -168,35 +169,38 @@ module _ (l : List ℕ) (area free : ℕ) (start : List ℕ) where
       refused : member (getD l j 0) (unmarked b area) ≡ false → (x : Refusal) → x ≡ by 30 → Ranked (unmarked start area) l (Refused x)
       refused m x q = let e = sym (v .turn) ∙ turn-fails (unmarked b area) l j h m in record { answer = rw e (ap refuses q) }
 
+      fits : Rankable l area free start → (p : ℕ) → p < free - j → r * (free - j) + p < 2 ^ 64
+      fits q p k = rank-fits free j (length l) r p (v .below) k h (q .few) (q .fits)
+
+      pub ranked-times : Rankable l area free start → Fits w64 (r * (free - j))
+      ranked-times q = let f = fits q 0 (omega (arith, q .few)) in omega arith
+
       pub ranked-off : area ≤ getD l j 0 → (x : Refusal) → x ≡ by 30 → Ranked (unmarked start area) l (Refused x)
-      ranked-off g = refused (off-board b area (getD l j 0) g)
+      ranked-off g = refused (off-area b area (getD l j 0) g)
 
-      pub ranked-taken : (getD b (getD l j 0) 0 ≡ 0 → ⊥) → (x : Refusal) → x ≡ by 30 → Ranked (unmarked start area) l (Refused x)
-      ranked-taken u = refused (taken-square b area (getD l j 0) u)
+      module _ (t : Bool) (m : t ≡ marked b (getD l j 0)) where
+        pub ranked-taken : t ≡ true → (x : Refusal) → x ≡ by 30 → Ranked (unmarked start area) l (Refused x)
+        ranked-taken y = refused (taken-square b area (getD l j 0) (sym m ∙ y))
 
-      module _ (q : Rankable l area free start) where
-        fits : (p : ℕ) → p < free - j → r * (free - j) + p < 2 ^ 64
-        fits p k = rank-fits free j (length l) r p (v .below) k h (q .few) (q .fits)
+        module _ (y : t ≡ false) (g : getD l j 0 < area) where
+          pub ranked-free : Free area b tally (getD l j 0)
+          ranked-free = record { counted = v .counted; inside = g; clear = sym m ∙ y }
 
-        pub ranked-times : Fits w64 (r * (free - j))
-        ranked-times = let f = fits 0 (omega (arith, q .few)) in omega arith
+          module _ (q : Rankable l area free start) (p : ℕ) (new after : List ℕ) (k : Placed area (getD l j 0) b new after p) where
+            small : p < free - j
+            small = omega (arith, place-under b area (getD l j 0) p g (sym m ∙ y) (k .place), v .left)
 
-        module _ (g : getD l j 0 < area) (u : getD b (getD l j 0) 0 ≡ 0) (p : ℕ) (e : p ≡ length (unmarked b (getD l j 0))) where
-          inside : getD l j 0 < length b
-          inside = omega (arith, v .size, q .squares .area-max)
+            pub ranked-room : Fits w64 (r * (free - j) + p)
+            ranked-room = omega (arith, fits q p small)
 
-          small : p < free - j
-          small = place-small b l area free j r p h inside g u (v .left) e
-
-          pub ranked-room : Fits w64 (r * (free - j) + p)
-          ranked-room = omega (arith, fits p small)
-
-          pub ranked-next : RankedTo l area free start (set b (getD l j 0) 1) (r * (free - j) + p) (j + 1)
-          ranked-next = record {
-            within = omega arith;
-            size = simp length-set (v .size);
-            left = left-one b l area free j r p h inside g u (v .left) e;
-            turn = turn-one b l area free j r p h inside g u (v .left) e ∙ v .turn;
-            rest = rank-one b l area free j r p h inside g u (v .left) e ∙ v .rest;
-            below = rank-below free j 0 r p (v .below) small;
-          }
+            pub ranked-next : RankedTo l area free start new after (r * (free - j) + p) (j + 1)
+            ranked-next =
+                let o = k .took .marks in
+                record {
+                  within = omega arith;
+                  counted = k .took .counted;
+                  left = left-one b new l area free j r p h g (sym m ∙ y) o (v .left) (k .place);
+                  turn = turn-one b new l area free j r p h g (sym m ∙ y) o (v .left) (k .place) ∙ v .turn;
+                  rest = rank-one b new l area free j r p h g (sym m ∙ y) o (v .left) (k .place) ∙ v .rest;
+                  below = rank-below free j 0 r p (v .below) small;
+                }

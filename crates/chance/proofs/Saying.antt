@@ -25,7 +25,7 @@ use Rattle.rules.specs.declared.Number.the-variants.{Refused}
 use Rattle.rules.specs.declared.Refusal.{Refusal}
 use Rattle.rules.proofs.FreeCells.{free-short}
 use Rattle.rules.proofs.Fairness.{listed}
-use Rattle.boards.specs.Marks.{unmarked}
+use Rattle.strips.specs.Marks.{unmarked}
 use Rattle.outcomes.specs.Odds.{Stands}
 use Rattle.outcomes.specs.declared.odds.Odds.{Odds}
 use Rattle.outcomes.proofs.Marking.{count-eq}
@@ -37,9 +37,9 @@ use Rattle.chance.proofs.Horner.{wrong-length, can-rank}
 use Rattle.rules.proofs.DrawFacts.{next-long}
 
 -- the words of an image and of what a draw takes
-pub words-fit : (w board : List ℕ) (o : Odds) → Stands w board o → Sound w → Fits w64 (length w + o .size)
+pub words-fit : (w strips : List ℕ) (o : Odds) → Stands w strips o → Sound w → Fits w64 (length w + o .size)
 unfolding stateOf
-words-fit w board o p s = omega (arith, free-short (stateOf w), s .area-max, s .small, size-le w board o p, p .free-is)
+words-fit w strips o p s = omega (arith, free-short (stateOf w), s .area-max, s .small, size-le w strips o p, p .free-is)
 
 -- ---- draw
 
@@ -67,23 +67,23 @@ module _ (w : List ℕ) (i : ℕ) (old list : List ℕ) (d : Drawn) where
     unfolding drawSays
     draw-23 z = refusing (by 23) (none-due lastRows answer w s z)
 
-    module _ (n : dueIn w ≡ 0 → ⊥) (board : List ℕ) (o : Odds) (p : Stands w board o) where
+    module _ (n : dueIn w ≡ 0 → ⊥) (strips : List ℕ) (o : Odds) (p : Stands w strips o) where
       pub draw-28 : o .count ≡ 0 → (x : Refusal) → x ≡ by 28 → Refuses x d → Draws w i old old list list d
       unfolding drawSays
-      draw-28 e = refusing (by 28) (too-many lastRows answer w s n board o p e)
+      draw-28 e = refusing (by 28) (too-many lastRows answer w s n strips o p e)
 
       module _ (c : o .count ≡ 0 → ⊥) where
         further : drawSays w i (length old) (length list) ≡ byTable lastRows answer
         unfolding drawSays
-        further = none-holds lastRows answer w s n board o p c
+        further = none-holds lastRows answer w s n strips o p c
 
         pub draw-27 : o .count ≤ i → (x : Refusal) → x ≡ by 27 → Refuses x d → Draws w i old old list list d
         unfolding byTable
-        draw-27 h = refusing (by 27) (further ∙ rw (le-ltb i (outcomes (stateOf w)) (let e = count-eq w board o p c in omega arith)))
+        draw-27 h = refusing (by 27) (further ∙ rw (le-ltb i (outcomes (stateOf w)) (let e = count-eq w strips o p c in omega arith)))
 
         module _ (h : i < o .count) where
           below : i < outcomes (stateOf w)
-          below = let e = count-eq w board o p c in omega arith
+          below = let e = count-eq w strips o p c in omega arith
 
           long : length (imageOf (afterDraw (stateOf w) i)) ≡ length w + o .size
           long = next-long w s i below ∙ ap (λ (k : ℕ). length w + k) (sym (p .size-is))
@@ -116,13 +116,13 @@ module _ (w : List ℕ) (i : ℕ) (old list : List ℕ) (d : Drawn) where
                   a
 
 -- where no row holds
-pub draw-ready : (w : List ℕ) (i : ℕ) (o : Odds) (board : List ℕ) (room more : ℕ) → Stands w board o → Sound w → (dueIn w ≡ 0 → ⊥) → (o .count ≡ 0 → ⊥) → i < o .count
-    → length w + o .size ≤ room → o .size ≤ more → Ready w i o board room more
-draw-ready w i o board room more p s n c h k l = record {
+pub draw-ready : (w : List ℕ) (i : ℕ) (o : Odds) (strips : List ℕ) (room more : ℕ) → Stands w strips o → Sound w → (dueIn w ≡ 0 → ⊥) → (o .count ≡ 0 → ⊥) → i < o .count
+    → length w + o .size ≤ room → o .size ≤ more → Ready w i o strips room more
+draw-ready w i o strips room more p s n c h k l = record {
   sound = s;
   stands = p;
   due = pos-of-ne-zero n;
-  below = let e = count-eq w board o p c in omega arith;
+  below = let e = count-eq w strips o p c in omega arith;
   words = k;
   cells = l;
 }
@@ -142,30 +142,30 @@ module _ (w l : List ℕ) where
     unfolding rankSays
     rank-23 z x q = record { answer = ap refuses q ∙ sym (none-due (rankRows w l) index w s z) }
 
-    module _ (n : dueIn w ≡ 0 → ⊥) (board : List ℕ) (o : Odds) (p : Stands w board o) where
+    module _ (n : dueIn w ≡ 0 → ⊥) (strips : List ℕ) (o : Odds) (p : Stands w strips o) where
       pub rank-28 : o .count ≡ 0 → (x : Refusal) → x ≡ by 28 → Ranks w l (Refused x)
       unfolding rankSays
-      rank-28 e x q = record { answer = ap refuses q ∙ sym (too-many (rankRows w l) index w s n board o p e) }
+      rank-28 e x q = record { answer = ap refuses q ∙ sym (too-many (rankRows w l) index w s n strips o p e) }
 
       module _ (c : o .count ≡ 0 → ⊥) where
         ranked : rankSays w l ≡ (refuses (by 30) if not (canRank (stateOf w) l) else index)
         unfolding rankSays byTable
-        ranked = none-holds (rankRows w l) index w s n board o p c
+        ranked = none-holds (rankRows w l) index w s n strips o p c
 
         pub rank-30 : (length l ≡ o .size → ⊥) → (x : Refusal) → x ≡ by 30 → Ranks w l (Refused x)
         rank-30 h x q =
             record { answer = ap refuses q ∙ sym (ranked ∙ rw (wrong-length (stateOf w) l (λ e. h (e ∙ sym (p .size-is))))) }
 
         module _ (e : length l ≡ o .size) where
-          pub rankable : Rankable l (areaIn w) (o .free) board
+          pub rankable : Rankable l (areaIn w) (o .free) strips
           rankable =
-              let k = size-le w board o p in
+              let k = size-le w strips o p in
               record {
                 squares = record { area-max = s .area-max; size = p .size; left-is = p .free-is ∙ ap length (sym (p .shows)) };
                 few = omega arith;
-                fits = rw e (count-fits w board o p c);
+                fits = rw e (count-fits w strips o p c);
               }
 
-          pub rank-says : (r : Number) → Ranked (unmarked board (areaIn w)) l r → Ranks w l r
+          pub rank-says : (r : Number) → Ranked (unmarked strips (areaIn w)) l r → Ranks w l r
           unfolding rankOf
           rank-says r q = record { answer = rw (p .shows) at (q .answer) ∙ sym (ranked ∙ rw (can-rank (stateOf w) l (e ∙ p .size-is))) }

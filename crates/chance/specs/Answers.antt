@@ -16,10 +16,10 @@ use Rattle.outcomes.specs.declared.odds.Odds.{Odds}
 abbrev pub drawOf : List ℕ → ℕ → Draw
 drawOf w i = record { next = afterDraw (stateOf w) i; cells = drawn (stateOf w) i }
 
--- a checked image with food due, an index below the count, its free cells on the board, and room in both buffers
-pub record Ready (w : List ℕ) (i : ℕ) (o : Odds) (board : List ℕ) (room listRoom : ℕ) : Type 0 where
+-- a checked image with food due, an index below the count, its free cells by their marks, and room in both buffers
+pub record Ready (w : List ℕ) (i : ℕ) (o : Odds) (strips : List ℕ) (room listRoom : ℕ) : Type 0 where
   pub sound : Sound w
-  pub stands : Stands w board o
+  pub stands : Stands w strips o
   pub due : 0 < dueIn w
   pub below : i < outcomes (stateOf w)
   pub words : length w + o .size ≤ room

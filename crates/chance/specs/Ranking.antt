@@ -11,18 +11,23 @@ use Rattle.rules.specs.Tables.{by}
 use Rattle.rules.specs.Chance.{rankIn}
 use Rattle.rules.specs.Says.{refuses, gives, saysNumber}
 use Rattle.rules.specs.declared.Number.{Number}
-use Rattle.boards.specs.Marks.{unmarked, Open}
+use Rattle.strips.specs.Marks.{unmarked, Open, Counted, Took}
 
 -- each cell of the list is there when its turn comes
 unfoldable pub inTurn : List ℕ → List ℕ → Bool
 inTurn cells [] = true
 inTurn cells (c ∷ l) = member c cells && inTurn (without c cells) l
 
--- a list no longer than the free squares of the board, whose ranks fit 64 bits
-pub record Rankable (l : List ℕ) (area free : ℕ) (board : List ℕ) : Type 0 where
-  pub squares : Open area free board
+-- a list no longer than the free squares, whose ranks fit 64 bits
+pub record Rankable (l : List ℕ) (area free : ℕ) (strips : List ℕ) : Type 0 where
+  pub squares : Open area free strips
   pub few : length l ≤ free
   pub fits : falling free (length l) < 2 ^ 64
+
+-- the place of a free cell among the free ones, and its mark made
+pub record Placed (area c : ℕ) (old new tally : List ℕ) (r : ℕ) : Type 0 where
+  pub place : r ≡ length (unmarked old c)
+  pub took : Took area c old new tally
 
 -- the rank of a list among those cells, or 30
 pub record Ranked (cells l : List ℕ) (r : Number) : Type 0 where
@@ -33,10 +38,10 @@ abbrev pub rankLeft : List ℕ → List ℕ → ℕ → ℕ → ℕ
 rankLeft cells l j r = r * falling (length cells) (length l - j) + rankIn cells (drop j l)
 
 -- the first j cells are ranked and marked: r is their rank, and what is left to test and to add is what was at the start
-pub record RankedTo (l : List ℕ) (area free : ℕ) (start board : List ℕ) (r j : ℕ) : Type 0 where
+pub record RankedTo (l : List ℕ) (area free : ℕ) (start strips tally : List ℕ) (r j : ℕ) : Type 0 where
   pub within : j ≤ length l
-  pub size : length board ≡ 1024
-  pub left : length (unmarked board area) + j ≡ free
-  pub turn : inTurn (unmarked board area) (drop j l) ≡ inTurn (unmarked start area) l
-  pub rest : rankLeft (unmarked board area) l j r ≡ rankIn (unmarked start area) l
+  pub counted : Counted area strips tally
+  pub left : length (unmarked strips area) + j ≡ free
+  pub turn : inTurn (unmarked strips area) (drop j l) ≡ inTurn (unmarked start area) l
+  pub rest : rankLeft (unmarked strips area) l j r ≡ rankIn (unmarked start area) l
   pub below : r < falling free j

@@ -9,6 +9,7 @@ use outcomes::split;
 use rules::Answer;
 use rules::Drawn;
 use rules::Refusal;
+use strips::count_strips;
 ghost use mathlib.Core.Path.{_≡_};
 ghost use mathlib.Core.Bool.{not, _&&_, _||_};
 ghost use Prim.Native.Nat.{_-_, _≤_, _<_};
@@ -20,7 +21,7 @@ ghost use Rattle.rules.specs.Facts.{Sound};
 ghost use Rattle.rules.specs.Chance.{drawnFrom};
 ghost use Rattle.rules.specs.Says.{gives};
 ghost use Rattle.rules.specs.Promises.{Draws};
-ghost use Rattle.boards.specs.Marks.{unmarked, Open};
+ghost use Rattle.strips.specs.Marks.{unmarked, Open};
 ghost use Rattle.chance.specs.Next.{nextWords, Growing};
 ghost use Rattle.chance.specs.Answers.{drawOf, Ready, Answers, Refuses};
 
@@ -34,13 +35,15 @@ pub fn refused(why: Refusal) -> Drawn
 }
 
 // The cells that the index draws, over the whole list.
-fn draw_list(list: &mut [u16], index: u64, free: usize, area: usize, board: &mut [u8; 1024])
-    requires { ⌜ Open area free (now board) ⌝ }
+fn draw_list(list: &mut [u16], index: u64, free: usize, area: usize, strips: &mut [u64; 16])
+    requires { ⌜ Open area free (now strips) ⌝ }
     requires { ⌜ length (now list) ≤ free ⌝ }
-    ensures { λ _. ⌜ now (list .exit) ≡ drawnFrom (unmarked (now (board .entry)) area) (length (now (list .entry))) index ⌝ }
+    ensures { λ _. ⌜ now (list .exit) ≡ drawnFrom (unmarked (now (strips .entry)) area) (length (now (list .entry))) index ⌝ }
 {
     split(list, free, index);
-    pick_cells(list, area, board);
+    let mut tally = [0u8; 16];
+    count_strips(strips, area, &mut tally);
+    pick_cells(list, area, strips, &mut tally);
 }
 
 // A birth draw takes one apple from what is due, where a cell is free.
@@ -87,11 +90,11 @@ fn draw_into(
     image: &[u16],
     index: u64,
     found: Odds,
-    board: &mut [u8; 1024],
+    strips: &mut [u64; 16],
     out: &mut [u16],
     list: &mut [u16],
 ) -> Drawn
-    requires { ⌜ Ready (now image) index found (now board) (length (now out)) (length (now list)) ⌝ }
+    requires { ⌜ Ready (now image) index found (now strips) (length (now out)) (length (now list)) ⌝ }
     ensures { λ r. ⌜ Answers (gives (drawOf (now (image .entry)) index)) (now (out .entry)) (now (out .exit)) (now (list .entry)) (now (list .exit)) r ⌝ }
 {
     let size = found.size;
@@ -99,7 +102,7 @@ fn draw_into(
     let g = image[1] as usize;
     let due = image[2] as usize;
     let birth = image[3] == 1;
-    draw_list(&mut list[0..size], index, free, g * g, board);
+    draw_list(&mut list[0..size], index, free, g * g, strips);
     let left = due_after(due, birth, free);
     let stays = birth_after(due, birth, free);
     write_next(image, left, stays, &list[0..size], out);
@@ -117,8 +120,8 @@ pub fn draw_due(image: &[u16], index: u64, out: &mut [u16], list: &mut [u16]) ->
     if image[2] == 0 {
         return refused(refusals::by(23));
     }
-    let mut board = [0u8; 1024];
-    let found = odds_of(image, &mut board);
+    let mut strips = [0u64; 16];
+    let found = odds_of(image, &mut strips);
     if found.count == 0 {
         return refused(refusals::by(28));
     }
@@ -131,5 +134,5 @@ pub fn draw_due(image: &[u16], index: u64, out: &mut [u16], list: &mut [u16]) ->
     if list.len() < found.size {
         return refused(refusals::by(29));
     }
-    draw_into(image, index, found, &mut board, out, list)
+    draw_into(image, index, found, &mut strips, out, list)
 }

@@ -1,4 +1,4 @@
--- The board shows the free cells of an image's state, and the numbers that a draw starts from. Assumes nothing.
+-- The marks show the free cells of an image's state, and the numbers that a draw starts from. Assumes nothing.
 use mathlib.Core.Path.{_≡_, sym, ap, ap₂, _∙_}
 use mathlib.Core.Bool.{true, false}
 use mathlib.Core.List.{List}
@@ -20,7 +20,8 @@ use Rattle.rules.specs.Image.{front, snakesIn, dueIn, birthIn, areaIn, stateOf}
 use Rattle.rules.specs.Facts.{Sound}
 use Rattle.rules.specs.Chance.{free, drawSize, outcomes}
 use Rattle.rules.proofs.TakenWords.{free-words}
-use Rattle.boards.specs.Marks.{unmarked, Marks}
+use Rattle.strips.specs.Marks.{unmarked, Blank, Adds, Inside}
+use Rattle.strips.proofs.Strips.{shows-cells, inside}
 use Rattle.outcomes.specs.Odds.{Stands}
 use Rattle.outcomes.specs.declared.odds.Odds.{Odds}
 
@@ -43,33 +44,40 @@ module _ (w : List ℕ) (s : Sound w) (k : ℕ) (e : k ≡ 5 + 4 * snakesIn w) w
   past : take (length w - k) (drop k w) ≡ drop (front (snakesIn w)) w
   past = rest-is w k ∙ ap (λ (j : ℕ). drop j w) e
 
-  pub words-under : Under (areaIn w) (take (length w - k) (drop k w))
+  words-under : Under (areaIn w) (take (length w - k) (drop k w))
   words-under j = rw past (rest-under w (areaIn w) (front (snakesIn w)) (area-min w s) (s .cells) j)
 
-  module _ (board : List ℕ) (left size count : ℕ)
-      (m : Marks (take (length w - k) (drop k w)) (areaIn w) board left)
-      (d : size ≡ min (1 if eqb (birthIn w) 1 else dueIn w) left)
-      (p : count ≡ fitted (falling left size)) where
-    shown : unmarked board (areaIn w) ≡ free (stateOf w)
-    shown = rw past at (m .shows) ∙ free-words w s
+  pub words-in : Under 1024 (take (length w - k) (drop k w))
+  words-in j = omega (arith, words-under j, s .area-max)
 
-    free-all : left ≡ length (free (stateOf w))
-    free-all = m .left ∙ ap length shown
+  module _ (old strips : List ℕ) (b : Blank old) (a : Adds (take (length w - k) (drop k w)) old strips) where
+    pub words-inside : Inside (areaIn w) strips
+    words-inside = inside (take (length w - k) (drop k w)) old strips b a (areaIn w) words-under (s .area-max)
 
-    taken : size ≡ drawSize (stateOf w)
-    unfolding stateOf
-    taken = d ∙ ap (min (1 if eqb (birthIn w) 1 else dueIn w)) free-all
+    shown : unmarked strips (areaIn w) ≡ free (stateOf w)
+    shown = rw past at (shows-cells (take (length w - k) (drop k w)) old strips b a (areaIn w)) ∙ free-words w s
 
-    counted : count ≡ fitted (outcomes (stateOf w))
-    unfolding outcomes
-    counted = p ∙ ap₂ (λ (n j : ℕ). fitted (falling n j)) free-all taken
+    module _ (left size count : ℕ)
+        (f : left ≡ length (unmarked strips (areaIn w)))
+        (d : size ≡ min (1 if eqb (birthIn w) 1 else dueIn w) left)
+        (p : count ≡ fitted (falling left size)) where
+      free-all : left ≡ length (free (stateOf w))
+      free-all = f ∙ ap length shown
 
-    pub stands : Stands w board (record { free = left; size = size; count = count })
-    stands = record { size = m .size; shows = shown; free-is = free-all; size-is = taken; count-is = counted }
+      taken : size ≡ drawSize (stateOf w)
+      unfolding stateOf
+      taken = d ∙ ap (min (1 if eqb (birthIn w) 1 else dueIn w)) free-all
+
+      counted : count ≡ fitted (outcomes (stateOf w))
+      unfolding outcomes
+      counted = p ∙ ap₂ (λ (n j : ℕ). fitted (falling n j)) free-all taken
+
+      pub stands : Stands w strips (record { free = left; size = size; count = count })
+      stands = record { size = a .size; shows = shown; free-is = free-all; size-is = taken; count-is = counted }
 
 -- ---- a count that fits
 
-module _ (w board : List ℕ) (r : Odds) (o : Stands w board r) where
+module _ (w strips : List ℕ) (r : Odds) (o : Stands w strips r) where
   pub count-over : r .count ≡ 0 → ltb (2 ^ 64 - 1) (outcomes (stateOf w)) ≡ true
   count-over e = fitted-over (outcomes (stateOf w)) (outcomes-some (stateOf w)) (sym (o .count-is) ∙ e)
 

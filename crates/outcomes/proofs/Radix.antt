@@ -1,15 +1,17 @@
 -- What the digits' loop goes by. Assumes nothing.
 use mathlib.Core.Path.{_≡_, refl, sym, ap₂, _∙_}
-use mathlib.Core.List.{List, _∷_, _++_, append-nil}
-use Prim.Native.Nat.{ℕ, zero, suc, _-_, _/_, _%_, _≤_, _<_}
+use mathlib.Core.List.{List, [], _∷_, _++_, append-nil}
+use Prim.Native.Nat.{ℕ, zero, suc, _+_, _-_, _/_, _%_, _≤_, _<_}
 use native.Mathlib.Nat.{not-suc-le-zero, le-refl, mod-lt}
 use native.Mathlib.Omega.{arith}
 use mir.Syntax.{w16}
 use mir.Val.{Fits}
-use lib.ListN.{length, drop, set, drop-of-length-le, length-set}
-use lib.Seq.{drop-cons, lt-length-set, getD-set-same, drop-set-lt}
+use lib.Arith.{lt-of-le-ne}
+use lib.ListN.{length, getD, drop, set, drop-of-length-le, length-set, List·getD-append}
+use lib.Seq.{drop-cons, lt-length-set, getD-set-same, drop-set-lt, getD-at}
 use Rattle.rules.specs.Chance.{digits}
-use Rattle.rules.proofs.Digits.{digits-next}
+use Rattle.lists.proofs.Tests.{compared, same, other}
+use Rattle.rules.proofs.Digits.{digits-length, digits-next}
 
 -- a digit more, from the last to the first
 digits-turn : (n j r : ℕ) (out : List ℕ) → zero < j → j ≤ length out
@@ -58,3 +60,17 @@ module _ (old : List ℕ) (n index : ℕ) (list : List ℕ) (rest j : ℕ) (v : 
       long = simp length-set (v .long);
       done = v .done ∙ digits-turn n j rest list p (omega (arith, v .within, v .long));
     }
+
+-- ---- each digit is below its base
+
+pub digit-below : (n k i j : ℕ) → k ≤ n → j < k → getD (digits n k i) j 0 + j < n
+unfolding digits
+digit-below n zero i j h l = absurd (not-suc-le-zero l)
+digit-below n (suc k) i j h l =
+    let e = digits-length n k (i / (n - k)) in
+    elim (compared j k) [
+      | same q t ↦ rw (q, getD-at (digits n k (i / (n - k))) (i % (n - k)) [] 0 k e) (let d : i % (n - k) < n - k = mod-lt i (omega arith) in omega arith)
+      | other d t ↦
+          let b : j < k = lt-of-le-ne (omega arith) d in
+          rw (List·getD-append (digits n k (i / (n - k))) (i % (n - k) ∷ []) 0 j (omega arith)) (digit-below n k (i / (n - k)) j (omega arith) b)
+    ]

@@ -26,14 +26,14 @@ module _ {A : Type 0} (r : Says A) (w : List ℕ) where
   unfolding byTable
   zero-due z = rw (eq-eqb (dueIn w) 0 z)
 
-  module _ (n : dueIn w ≡ 0 → ⊥) (board : List ℕ) (o : Odds) (p : Stands w board o) where
+  module _ (n : dueIn w ≡ 0 → ⊥) (strips : List ℕ) (o : Odds) (p : Stands w strips o) where
     over-due : o .count ≡ 0 → byTable (dueRows w) r ≡ refuses (by 28)
     unfolding byTable
-    over-due e = rw (ne-eqb (dueIn w) 0 n, count-over w board o p e)
+    over-due e = rw (ne-eqb (dueIn w) 0 n, count-over w strips o p e)
 
     some-due : (o .count ≡ 0 → ⊥) → byTable (dueRows w) r ≡ r
     unfolding byTable
-    some-due e = rw (ne-eqb (dueIn w) 0 n, count-in w board o p e)
+    some-due e = rw (ne-eqb (dueIn w) 0 n, count-in w strips o p e)
 
 module _ {A : Type 0} (t : Table) (r : Says A) (w : List ℕ) where
   pub faulty-first : wellFormed w ≡ false → (x : Refusal) → Faulty w x → byTable (countOrder w ++ t) r ≡ refuses x
@@ -46,12 +46,12 @@ module _ {A : Type 0} (t : Table) (r : Says A) (w : List ℕ) where
     pub none-due : dueIn w ≡ 0 → byTable (countOrder w ++ t) r ≡ refuses (by 23)
     none-due z = past-image ∙ zero-due (byTable t r) w z
 
-    module _ (n : dueIn w ≡ 0 → ⊥) (board : List ℕ) (o : Odds) (p : Stands w board o) where
+    module _ (n : dueIn w ≡ 0 → ⊥) (strips : List ℕ) (o : Odds) (p : Stands w strips o) where
       pub too-many : o .count ≡ 0 → byTable (countOrder w ++ t) r ≡ refuses (by 28)
-      too-many e = past-image ∙ over-due (byTable t r) w n board o p e
+      too-many e = past-image ∙ over-due (byTable t r) w n strips o p e
 
       pub none-holds : (o .count ≡ 0 → ⊥) → byTable (countOrder w ++ t) r ≡ byTable t r
-      none-holds e = past-image ∙ some-due (byTable t r) w n board o p e
+      none-holds e = past-image ∙ some-due (byTable t r) w n strips o p e
 
 -- ---- count, which has no further row
 
@@ -71,9 +71,9 @@ module _ (w : List ℕ) where
     pub count-23 : dueIn w ≡ 0 → (x : Refusal) → x ≡ by 23 → Counts w (Refused x)
     count-23 z x q = record { answer = ap refuses q ∙ sym (past ∙ zero-due counts w z) }
 
-    module _ (n : dueIn w ≡ 0 → ⊥) (board : List ℕ) (o : Odds) (p : Stands w board o) where
+    module _ (n : dueIn w ≡ 0 → ⊥) (strips : List ℕ) (o : Odds) (p : Stands w strips o) where
       pub count-28 : o .count ≡ 0 → (x : Refusal) → x ≡ by 28 → Counts w (Refused x)
-      count-28 e x q = record { answer = ap refuses q ∙ sym (past ∙ over-due counts w n board o p e) }
+      count-28 e x q = record { answer = ap refuses q ∙ sym (past ∙ over-due counts w n strips o p e) }
 
       pub count-gives : (o .count ≡ 0 → ⊥) → Counts w (Value (o .count))
-      count-gives e = record { answer = ap gives (count-eq w board o p e) ∙ sym (past ∙ some-due counts w n board o p e) }
+      count-gives e = record { answer = ap gives (count-eq w strips o p e) ∙ sym (past ∙ some-due counts w n strips o p e) }

@@ -3,7 +3,8 @@ ghost use mathlib.Core.Path.{_≡_};
 ghost use Prim.Native.Nat.{_≤_};
 ghost use lib.ListN.{length};
 ghost use Rattle.rules.specs.Chance.{digits, pick};
-ghost use Rattle.boards.specs.Marks.{unmarked};
+ghost use Rattle.strips.specs.Marks.{unmarked};
+ghost use Rattle.outcomes.specs.Odds.{Pickable};
 
 // The digits of an index over the whole list, the last one lowest.
 pub fn split(list: &mut [u16], n: usize, index: u64)
@@ -21,14 +22,14 @@ pub fn split(list: &mut [u16], n: usize, index: u64)
 }
 
 // Each digit gives way to the cell that it picks among those still free.
-pub fn pick_cells(list: &mut [u16], area: usize, board: &mut [u8; 1024])
-    requires { ⌜ (area ≤ 1024) × (length (now board) ≡ 1024) ⌝ }
-    ensures { λ _. ⌜ now (list .exit) ≡ pick (unmarked (now (board .entry)) area) (now (list .entry)) ⌝ }
+pub fn pick_cells(list: &mut [u16], area: usize, strips: &mut [u64; 16], tally: &mut [u8; 16])
+    requires { ⌜ Pickable (now list) area (now strips) (now tally) ⌝ }
+    ensures { λ _. ⌜ now (list .exit) ≡ pick (unmarked (now (strips .entry)) area) (now (list .entry)) ⌝ }
 {
     let mut j = 0;
     while j < list.len() {
-        let cell = boards::nth_free(board, area, list[j] as usize);
-        board[cell] = 1;
+        let cell = strips::nth_free(strips, tally, area, list[j] as usize);
+        strips::take(strips, tally, area, cell);
         list[j] = cell as u16;
         j += 1;
     }

@@ -1,4 +1,4 @@
-// What a draw starts from: the free cells on a board, how many outcomes it has, and the digits of an index.
+// What a draw starts from: the free cells by their marks, how many outcomes it has, and the digits of an index.
 mod index;
 mod odds;
 

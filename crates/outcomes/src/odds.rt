@@ -1,14 +1,15 @@
 // What every call starts from: the free cells of a checked image, how many a draw takes, and the count (`chance_node`).
-use boards::mark_taken;
 use layout::front;
 use lists::product;
 use lists::smaller;
 use rules::Number;
+use strips::count_open;
+use strips::mark_all;
 ghost use mathlib.Core.Path.{_≡_};
 ghost use Prim.Native.Nat.{min};
 ghost use lib.Dec.{eqb};
 ghost use Rattle.lists.specs.Choice.{_if_else_};
-ghost use Rattle.boards.specs.Boards.{Board};
+ghost use Rattle.strips.specs.Marks.{Blank};
 ghost use Rattle.rules.specs.Facts.{Sound};
 ghost use Rattle.rules.specs.Promises.{Counts};
 ghost use Rattle.outcomes.specs.Odds.{Stands};
@@ -31,14 +32,15 @@ fn draw_size(due: usize, birth: u16, free: usize) -> usize
 }
 
 // Every word past the records is a taken cell, so one pass marks them all.
-pub fn odds_of(image: &[u16], board: &mut [u8; 1024]) -> Odds
+pub fn odds_of(image: &[u16], strips: &mut [u64; 16]) -> Odds
     requires { ⌜ Sound (now image) ⌝ }
-    requires { ⌜ Board 1 (now board) ⌝ }
-    ensures { λ r. ⌜ Stands (now (image .entry)) (now (board .exit)) r ⌝ }
+    requires { ⌜ Blank (now strips) ⌝ }
+    ensures { λ r. ⌜ Stands (now (image .entry)) (now (strips .exit)) r ⌝ }
 {
     let n = image[0] as usize;
     let g = image[1] as usize;
-    let free = mark_taken(&image[front(n)..], g * g, board);
+    mark_all(&image[front(n)..], strips);
+    let free = count_open(strips, g * g);
     let size = draw_size(image[2] as usize, image[3], free);
     Odds {
         free,
@@ -55,8 +57,8 @@ pub fn count_due(image: &[u16]) -> Number
     if image[2] == 0 {
         return Number::Refused(refusals::by(23));
     }
-    let mut board = [0u8; 1024];
-    let found = odds_of(image, &mut board);
+    let mut strips = [0u64; 16];
+    let found = odds_of(image, &mut strips);
     if found.count == 0 {
         return Number::Refused(refusals::by(28));
     }

@@ -1,7 +1,7 @@
 -- `outcomes::odds_of` meets its contract: the words past the records are the taken cells, so their marks show the free ones (`stands`).
 -- Assumes nothing.
 use borrow.Author.Needs.{needs}
-use Rattle.outcomes.proofs.Marking.{words-under, stands}
+use Rattle.outcomes.proofs.Marking.{words-in, words-inside, stands}
 use Rattle.outcomes.proofs.odds.odds_of.Statement.{statement}
 use Rattle.outcomes.proofs.odds.odds_of.Tie as tie
 
@@ -10,7 +10,9 @@ odds-of-spec =
     tie.close
     (tie.spec
     (λ c. search needs) (λ c. search needs) (λ c. search needs) (λ c. search needs) (λ c κs. search needs)
-    (λ c. search needs) (λ c. search needs) (λ c. search needs) (λ c. search needs) (λ c. search needs)
-    (λ c κs. search (needs, words-under))
+    (λ c. search needs) (λ c. search needs) (λ c. search needs) (λ c. search needs)
+    (λ c κs. search (needs, words-in))
+    (λ c. search needs)
+    (λ c κs. search words-inside)
     (λ c. search needs) (λ c. search needs) (λ c. search needs) (λ c κs. search needs) (λ c κs. search needs)
     (λ c. search stands))

@@ -1,0 +1,5 @@
+pub mod Bits
+pub mod Strips
+pub mod Counting
+pub mod Runs
+pub mod Finding
