@@ -9,9 +9,9 @@
  * elements as its length says; memory that is written overlaps no other argument.
  * Nothing is kept after a call returns, nothing is allocated, and calls share no state: any thread may call at any time.
  *
- * An answer begins with `refusal`: 0 for an answer, else the number of a refusal, and then every other field is 0 and all lent
- * memory is untouched. Words after those that an answer wrote keep their values. Lists of numbers below are the refusals in the
- * order in which they are tested.
+ * An answer begins with `refusal`: 0 for an answer, else the number of a refusal, and then every other field but `word` is 0 and all
+ * lent memory is untouched. `word` is the first word of the image, counted from its own start, that shows a fault, 50 to 56; 0 else.
+ * Words after those that an answer wrote keep their values. Lists of numbers below are the refusals in the order in which they are tested.
  */
 #ifndef LUNDASPRO_H
 #define LUNDASPRO_H
@@ -44,7 +44,6 @@ extern "C" {
 #define LUNDASPRO_CELL_OUTSIDE 10   /* first bad cell: outside */
 #define LUNDASPRO_CELL_TAKEN 11     /* first bad cell: already taken */
 #define LUNDASPRO_FOOD_FREE 12      /* food above the free cells */
-#define LUNDASPRO_MALFORMED 20      /* image not well-formed */
 #define LUNDASPRO_OTHER_SETTING 21  /* snakes or grid differ from the setting */
 #define LUNDASPRO_FOOD_DUE 22       /* food is due at a step */
 #define LUNDASPRO_NONE_DUE 23       /* none is due at a draw */
@@ -60,6 +59,13 @@ extern "C" {
 #define LUNDASPRO_CONTENTS 40       /* a book's contents: cut short, off their layout, a refused setting, starts out of line, words left in a book of no pages */
 #define LUNDASPRO_PAGE 41           /* no such page */
 #define LUNDASPRO_PAGES 42          /* above 65,535 pages */
+#define LUNDASPRO_CUT_SHORT 50      /* fewer words than the contents need */
+#define LUNDASPRO_OUT_OF_RANGE 51   /* a content word out of range, or a living snake's length 0 */
+#define LUNDASPRO_START 52          /* a start out of line */
+#define LUNDASPRO_TOTAL 53          /* total length wrong */
+#define LUNDASPRO_CELL_BEYOND 54    /* a cell beyond the grid */
+#define LUNDASPRO_CELL_TWICE 55     /* a cell twice in a body */
+#define LUNDASPRO_FOOD_ORDER 56     /* food not ascending */
 #define LUNDASPRO_UNIT_COUNT 80     /* unit number: count not 1 to 2^53 */
 #define LUNDASPRO_UNIT_NUMBER 81    /* unit number: not at least 0 and below 1 */
 
@@ -83,7 +89,7 @@ extern "C" {
 
 /* ---- the exported calls
  *
- * A call returns its refusal, 0 for none; the number below 256 is the table's, what is above is 0 so far. All else of an answer
+ * A call returns its refusal, 0 for none; its remainder by 256 is the table's number, and it divided by 256 is `word`. All else of an answer
  * goes to the arrays and buffers that are lent; a refusal leaves each of them untouched. A number is read as it is: a flag is set
  * where it is not 0.
  *
@@ -93,7 +99,7 @@ extern "C" {
  * match: moves, over, timeout, eight deaths, eight behind; all 0 before the first move.
  * weights: step, food, loss, draw, kill, win, survival. sizes: discrete, count, planes, rows, cols. bounds: low, high. */
 
-uint64_t lundaspro_flat_well_formed(const uint16_t *image, uint64_t image_len);
+uint64_t lundaspro_flat_check_image(const uint16_t *image, uint64_t image_len);
 uint64_t lundaspro_flat_body(const uint16_t *image, uint64_t image_len, uint64_t snake, uint64_t part[2]); /* start, length */
 uint64_t lundaspro_flat_validate(const uint64_t setting[9]);
 uint64_t lundaspro_flat_initial_state(const uint64_t setting[9], uint16_t *out, uint64_t out_len, uint64_t written[1]);
@@ -124,9 +130,14 @@ uint64_t lundaspro_flat_page(const uint16_t *book, uint64_t book_len, uint64_t p
 
 /* ---- the calls with records */
 
-/* The table's number of what a call returned. */
+/* The table's number of what a call returned: 0 for 0 alone; 255, which no call gives, where there is no number and yet no answer. */
 static inline uint8_t lundaspro_refusal(uint64_t returned) {
-    return (uint8_t)(returned % 256);
+    return returned != 0 && returned % 256 == 0 ? 255 : (uint8_t)(returned % 256);
+}
+
+/* The first word that shows a fault, of what a call returned. */
+static inline uint16_t lundaspro_word(uint64_t returned) {
+    return (uint16_t)(returned / 256);
 }
 
 /* A match's setting; win_food_lead and max_ticks count only where the flag before them is set. Only take_move and
@@ -158,48 +169,62 @@ typedef struct {
     uint16_t snake, position;
 } lundaspro_hit;
 
+/* 0 or a refusal, and of 50 to 56 the word. */
+typedef struct {
+    uint8_t refusal;
+    uint16_t word;
+} lundaspro_checked;
+
 /* How many words or numbers were written. */
 typedef struct {
     uint8_t refusal;
+    uint16_t word;
     size_t words;
 } lundaspro_written;
 
 typedef struct {
     uint8_t refusal;
+    uint16_t word;
     bool terminal;
     size_t words;
 } lundaspro_stepped;
 
 typedef struct {
     uint8_t refusal;
+    uint16_t word;
     size_t words; /* of the next image */
     size_t cells; /* of the list */
 } lundaspro_drawn;
 
 typedef struct {
     uint8_t refusal;
+    uint16_t word;
     uint64_t value;
 } lundaspro_number;
 
 /* A key, or none where `some` is false: a snake is dead. */
 typedef struct {
     uint8_t refusal;
+    uint16_t word;
     bool some;
     uint64_t key;
 } lundaspro_key;
 
 typedef struct {
     uint8_t refusal;
+    uint16_t word;
     bool chance; /* chance acts; else all snakes at once */
 } lundaspro_actor_answer;
 
 typedef struct {
     uint8_t refusal;
+    uint16_t word;
     uint8_t actions; /* 3: actions 0, 1 and 2 are legal; 0: none is */
 } lundaspro_legal;
 
 typedef struct {
     uint8_t refusal;
+    uint16_t word;
     lundaspro_event event;
 } lundaspro_marked;
 
@@ -229,6 +254,7 @@ typedef struct {
 /* A page of the caller's book: `len` words from word `start` on. */
 typedef struct {
     uint8_t refusal;
+    uint16_t word;
     size_t start;
     size_t len;
 } lundaspro_page_answer;
@@ -267,9 +293,16 @@ static inline lundaspro_numbers lundaspro_setting_numbers(lundaspro_setting s) {
     return n;
 }
 
+/* The check of an image. Refusals 50 to 56. */
+static inline lundaspro_checked lundaspro_check_image(const uint16_t *image, size_t image_len) {
+    uint64_t r = lundaspro_flat_check_image(image, image_len);
+    lundaspro_checked a = {lundaspro_refusal(r), lundaspro_word(r)};
+    return a;
+}
+
 /* Whether the words are a well-formed image. */
 static inline bool lundaspro_well_formed(const uint16_t *image, size_t image_len) {
-    return lundaspro_flat_well_formed(image, image_len) == 0;
+    return lundaspro_flat_check_image(image, image_len) == 0;
 }
 
 /* The part of the image that is a snake's body, head first; 0 and 0 for a malformed image or no such snake. */
@@ -291,50 +324,52 @@ static inline lundaspro_written lundaspro_initial_state(lundaspro_setting settin
     lundaspro_numbers s = lundaspro_setting_numbers(setting);
     uint64_t written[1] = {0};
     uint64_t r = lundaspro_flat_initial_state(s.numbers, out, out_len, written);
-    lundaspro_written a = {lundaspro_refusal(r), (size_t)written[0]};
+    lundaspro_written a = {lundaspro_refusal(r), lundaspro_word(r), (size_t)written[0]};
     return a;
 }
 
 /* One move of all snakes: the next image, whether the match is over, one event for each snake and blank ones from n on, eight in
- * all. Refusals 1 to 12, 20, 21, 22, 24, 25, 29. */
+ * all. Refusals 1 to 12, 50 to 56, 21, 22, 24, 25, 29. */
 static inline lundaspro_stepped lundaspro_step(lundaspro_setting setting, const uint16_t *image, size_t image_len, const uint64_t *actions, size_t actions_len,
     uint16_t *out, size_t out_len, lundaspro_event events[LUNDASPRO_EVENTS]) {
     lundaspro_numbers s = lundaspro_setting_numbers(setting);
     uint64_t end[2] = {0, 0};
     uint64_t r = lundaspro_flat_step(s.numbers, image, image_len, actions, actions_len, out, out_len, (uint8_t *)events, end);
-    lundaspro_stepped a = {lundaspro_refusal(r), end[1] != 0, (size_t)end[0]};
+    lundaspro_stepped a = {lundaspro_refusal(r), lundaspro_word(r), end[1] != 0, (size_t)end[0]};
     return a;
 }
 
 /* Who is hit where by that move: for each snake that dies by its own or another's body the one that is hit and the position, nobody
- * for any other and from n on, eight in all. 0, or refusals 1 to 12, 20, 21, 22, 24, 25. */
-static inline uint8_t lundaspro_struck(lundaspro_setting setting, const uint16_t *image, size_t image_len, const uint64_t *actions, size_t actions_len,
+ * for any other and from n on, eight in all. Refusals 1 to 12, 50 to 56, 21, 22, 24, 25. */
+static inline lundaspro_checked lundaspro_struck(lundaspro_setting setting, const uint16_t *image, size_t image_len, const uint64_t *actions, size_t actions_len,
     lundaspro_hit hits[LUNDASPRO_HITS]) {
     lundaspro_numbers s = lundaspro_setting_numbers(setting);
-    return lundaspro_refusal(lundaspro_flat_struck(s.numbers, image, image_len, actions, actions_len, (uint16_t *)hits));
+    uint64_t r = lundaspro_flat_struck(s.numbers, image, image_len, actions, actions_len, (uint16_t *)hits);
+    lundaspro_checked a = {lundaspro_refusal(r), lundaspro_word(r)};
+    return a;
 }
 
-/* How many outcomes the draw has. Refusals 20, 23, 28. */
+/* How many outcomes the draw has. Refusals 50 to 56, 23, 28. */
 static inline lundaspro_number lundaspro_count(const uint16_t *image, size_t image_len) {
     uint64_t value[1] = {0};
     uint64_t r = lundaspro_flat_count(image, image_len, value);
-    lundaspro_number a = {lundaspro_refusal(r), value[0]};
+    lundaspro_number a = {lundaspro_refusal(r), lundaspro_word(r), value[0]};
     return a;
 }
 
-/* The outcome of that index: the next image, and the cells in the order drawn. Refusals 20, 23, 28, 27, 29 (either buffer too short). */
+/* The outcome of that index: the next image, and the cells in the order drawn. Refusals 50 to 56, 23, 28, 27, 29 (either buffer too short). */
 static inline lundaspro_drawn lundaspro_draw(const uint16_t *image, size_t image_len, uint64_t index, uint16_t *out, size_t out_len, uint16_t *list, size_t list_len) {
     uint64_t drawn[2] = {0, 0};
     uint64_t r = lundaspro_flat_draw(image, image_len, index, out, out_len, list, list_len, drawn);
-    lundaspro_drawn a = {lundaspro_refusal(r), (size_t)drawn[0], (size_t)drawn[1]};
+    lundaspro_drawn a = {lundaspro_refusal(r), lundaspro_word(r), (size_t)drawn[0], (size_t)drawn[1]};
     return a;
 }
 
-/* The index whose draw gives that list. Refusals 20, 23, 28, 30. */
+/* The index whose draw gives that list. Refusals 50 to 56, 23, 28, 30. */
 static inline lundaspro_number lundaspro_rank(const uint16_t *image, size_t image_len, const uint16_t *list, size_t list_len) {
     uint64_t index[1] = {0};
     uint64_t r = lundaspro_flat_rank(image, image_len, list, list_len, index);
-    lundaspro_number a = {lundaspro_refusal(r), index[0]};
+    lundaspro_number a = {lundaspro_refusal(r), lundaspro_word(r), index[0]};
     return a;
 }
 
@@ -342,15 +377,15 @@ static inline lundaspro_number lundaspro_rank(const uint16_t *image, size_t imag
 static inline lundaspro_number lundaspro_outcome_of(uint64_t count, double u) {
     uint64_t index[1] = {0};
     uint64_t r = lundaspro_flat_outcome_of(count, u, index);
-    lundaspro_number a = {lundaspro_refusal(r), index[0]};
+    lundaspro_number a = {lundaspro_refusal(r), lundaspro_word(r), index[0]};
     return a;
 }
 
-/* What an agent sees: five planes of g*g numbers, 0.0 or 1.0. Refusals 20, 26, 29. */
+/* What an agent sees: five planes of g*g numbers, 0.0 or 1.0. Refusals 50 to 56, 26, 29. */
 static inline lundaspro_written lundaspro_observe(const uint16_t *image, size_t image_len, uint64_t agent, float *obs, size_t obs_len) {
     uint64_t written[1] = {0};
     uint64_t r = lundaspro_flat_observe(image, image_len, agent, obs, obs_len, written);
-    lundaspro_written a = {lundaspro_refusal(r), (size_t)written[0]};
+    lundaspro_written a = {lundaspro_refusal(r), lundaspro_word(r), (size_t)written[0]};
     return a;
 }
 
@@ -375,35 +410,36 @@ static inline lundaspro_space lundaspro_action_space(void) {
     return lundaspro_space_of(r, sizes, bounds);
 }
 
-/* The sorted lengths' buckets as one key. Refusal 20. */
+/* The sorted lengths' buckets as one key. Refusals 50 to 56. */
 static inline lundaspro_key lundaspro_length_cell(const uint16_t *image, size_t image_len) {
     uint64_t key[2] = {0, 0};
     uint64_t r = lundaspro_flat_length_cell(image, image_len, key);
-    lundaspro_key a = {lundaspro_refusal(r), key[0] != 0, key[1]};
+    lundaspro_key a = {lundaspro_refusal(r), lundaspro_word(r), key[0] != 0, key[1]};
     return a;
 }
 
-/* Who acts next. Refusal 20. */
+/* Who acts next. Refusals 50 to 56. */
 static inline lundaspro_actor_answer lundaspro_actor(const uint16_t *image, size_t image_len) {
     uint64_t chance[1] = {0};
     uint64_t r = lundaspro_flat_actor(image, image_len, chance);
-    lundaspro_actor_answer a = {lundaspro_refusal(r), chance[0] != 0};
+    lundaspro_actor_answer a = {lundaspro_refusal(r), lundaspro_word(r), chance[0] != 0};
     return a;
 }
 
-/* Which actions an agent has. Refusals 20, 26. */
+/* Which actions an agent has. Refusals 50 to 56, 26. */
 static inline lundaspro_legal lundaspro_legal_actions(const uint16_t *image, size_t image_len, uint64_t agent) {
     uint64_t actions[1] = {0};
     uint64_t r = lundaspro_flat_legal_actions(image, image_len, agent, actions);
-    lundaspro_legal a = {lundaspro_refusal(r), (uint8_t)actions[0]};
+    lundaspro_legal a = {lundaspro_refusal(r), lundaspro_word(r), (uint8_t)actions[0]};
     return a;
 }
 
-/* The event with survived_to_max_ticks set to whether the agent lives. Refusals 20, 26. */
+/* The event with survived_to_max_ticks set to whether the agent lives. Refusals 50 to 56, 26. */
 static inline lundaspro_marked lundaspro_truncation(const uint16_t *image, size_t image_len, uint64_t agent, lundaspro_event event) {
-    lundaspro_marked a = {0, {0, 0, 0, 0, 0, 0, 0, 0}};
+    lundaspro_marked a = {0, 0, {0, 0, 0, 0, 0, 0, 0, 0}};
     uint64_t r = lundaspro_flat_truncation(image, image_len, agent, (const uint8_t *)&event, (uint8_t *)&a.event);
     a.refusal = lundaspro_refusal(r);
+    a.word = lundaspro_word(r);
     return a;
 }
 
@@ -447,20 +483,20 @@ static inline void lundaspro_places(lundaspro_setting setting, const lundaspro_m
 }
 
 /* The match book of that many images, which stand in the row one after the other: its contents, then the images. Refusals 1 to 12, 42,
- * then 20 and 21 page by page (20 too for words after the last), 29. */
+ * then 50 to 56 and 21 page by page (53 too for words after the last), 29. */
 static inline lundaspro_written lundaspro_write_book(lundaspro_setting setting, uint64_t pages, const uint16_t *row, size_t row_len, uint16_t *out, size_t out_len) {
     lundaspro_numbers s = lundaspro_setting_numbers(setting);
     uint64_t written[1] = {0};
     uint64_t r = lundaspro_flat_write_book(s.numbers, pages, row, row_len, out, out_len, written);
-    lundaspro_written a = {lundaspro_refusal(r), (size_t)written[0]};
+    lundaspro_written a = {lundaspro_refusal(r), lundaspro_word(r), (size_t)written[0]};
     return a;
 }
 
-/* Where a page lies in a book, from page 0 on. Other pages are not looked at. Refusals 40, 41, 20, 21. */
+/* Where a page lies in a book, from page 0 on. Other pages are not looked at. Refusals 40, 41, 50 to 56, 21. */
 static inline lundaspro_page_answer lundaspro_page(const uint16_t *book, size_t book_len, uint64_t page) {
     uint64_t part[2] = {0, 0};
     uint64_t r = lundaspro_flat_page(book, book_len, page, part);
-    lundaspro_page_answer a = {lundaspro_refusal(r), (size_t)part[0], (size_t)part[1]};
+    lundaspro_page_answer a = {lundaspro_refusal(r), lundaspro_word(r), (size_t)part[0], (size_t)part[1]};
     return a;
 }
 

@@ -16,7 +16,6 @@ static inline const char *lundaspro_sentence(uint8_t refusal) {
     case LUNDASPRO_CELL_OUTSIDE: return "first bad cell: outside";
     case LUNDASPRO_CELL_TAKEN: return "first bad cell: already taken";
     case LUNDASPRO_FOOD_FREE: return "food above the free cells";
-    case LUNDASPRO_MALFORMED: return "image not well-formed";
     case LUNDASPRO_OTHER_SETTING: return "snakes or grid differ from the setting";
     case LUNDASPRO_FOOD_DUE: return "food is due at a step";
     case LUNDASPRO_NONE_DUE: return "none is due at a draw";
@@ -32,6 +31,13 @@ static inline const char *lundaspro_sentence(uint8_t refusal) {
     case LUNDASPRO_CONTENTS: return "a book's contents: cut short, off their layout, a refused setting, starts out of line, words left in a book of no pages";
     case LUNDASPRO_PAGE: return "no such page";
     case LUNDASPRO_PAGES: return "above 65,535 pages";
+    case LUNDASPRO_CUT_SHORT: return "fewer words than the contents need";
+    case LUNDASPRO_OUT_OF_RANGE: return "a content word out of range, or a living snake's length 0";
+    case LUNDASPRO_START: return "a start out of line";
+    case LUNDASPRO_TOTAL: return "total length wrong";
+    case LUNDASPRO_CELL_BEYOND: return "a cell beyond the grid";
+    case LUNDASPRO_CELL_TWICE: return "a cell twice in a body";
+    case LUNDASPRO_FOOD_ORDER: return "food not ascending";
     case LUNDASPRO_UNIT_COUNT: return "unit number: count not 1 to 2^53";
     case LUNDASPRO_UNIT_NUMBER: return "unit number: not at least 0 and below 1";
     default: return "no number that a call gives";

@@ -10,8 +10,8 @@
  * Nothing is kept after a call returns, nothing is allocated, and calls share no state: any thread may call at any time.
  *
  * An answer begins with `refusal`: 0 for an answer, else the number of a refusal, and then every other field but `word` is 0 and all
- * lent memory is untouched. `word` is the first word of the image, counted from its own start, that shows a fault, 50 to 56; 0 else. Words after those that an answer wrote keep their values. Lists of numbers below are the refusals in the
- * order in which they are tested.
+ * lent memory is untouched. `word` is the first word of the image, counted from its own start, that shows a fault, 50 to 56; 0 else.
+ * Words after those that an answer wrote keep their values. Lists of numbers below are the refusals in the order in which they are tested.
  */
 #ifndef LUNDASPRO_H
 #define LUNDASPRO_H
@@ -89,7 +89,7 @@ extern "C" {
 
 /* ---- the exported calls
  *
- * A call returns its refusal, 0 for none; the number below 256 is the table's, and a 256th of the rest is `word`. All else of an answer
+ * A call returns its refusal, 0 for none; its remainder by 256 is the table's number, and it divided by 256 is `word`. All else of an answer
  * goes to the arrays and buffers that are lent; a refusal leaves each of them untouched. A number is read as it is: a flag is set
  * where it is not 0.
  *

@@ -342,7 +342,7 @@ static void turn(void) {
     if (fine) begun(0, 0), put(lundaspro_relative_to_absolute(heading, action)), ended(true);
 }
 
-static void well_formed(void) {
+static void check_image(void) {
     size_t length = image_of(MOST_WORDS);
     if (!fine) return;
     lundaspro_checked a = lundaspro_check_image(words, length);
@@ -373,7 +373,7 @@ static const struct {
     char letter;
     void (*call)(void);
 } calls[] = {{'v', validate}, {'i', initial_state}, {'s', step}, {'H', struck}, {'c', count}, {'d', draw}, {'k', rank}, {'o', observe}, {'b', body}, {'t', actor}, {'l', legal_actions},
-    {'z', length_cell}, {'u', truncation}, {'w', reward}, {'n', outcome_of}, {'p', observation_space}, {'q', action_space}, {'h', turn}, {'x', well_formed}, {'B', write_book}, {'P', page}};
+    {'z', length_cell}, {'u', truncation}, {'w', reward}, {'n', outcome_of}, {'p', observation_space}, {'q', action_space}, {'h', turn}, {'x', check_image}, {'B', write_book}, {'P', page}};
 
 /* A line ends at its newline; it may hold any byte, of which 0 is no call's. */
 static void answer(char *line, size_t length) {

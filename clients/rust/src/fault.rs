@@ -199,11 +199,8 @@ impl Fault {
         })
     }
 
-    /// With what these words have there, where any are at hand.
+    /// With what these words have there.
     pub(crate) fn found_in(self, image: &[u16]) -> Fault {
-        if image.is_empty() && self.word > 0 {
-            return self;
-        }
         Fault {
             seen: Words(image).seen(self.kind, usize::from(self.word)),
             ..self

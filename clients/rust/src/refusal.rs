@@ -94,18 +94,21 @@ impl Refusal {
 
     /// `Ok` where a call returned 0; the table's number is what is below 256, a fault's word what is above.
     pub(crate) fn check(returned: u64) -> Result<(), Refusal> {
-        Refusal::check_in(returned, &[])
-    }
-
-    /// The same of a call on these words, so that a fault tells what stands there.
-    pub(crate) fn check_in(returned: u64, image: &[u16]) -> Result<(), Refusal> {
         if returned == 0 {
             return Ok(());
         }
         let number = (returned % 256) as u8;
         Err(match Fault::new(number, (returned / 256) as u16) {
-            Some(fault) => Refusal::Fault(fault.found_in(image)),
+            Some(fault) => Refusal::Fault(fault),
             None => Refusal::from_number(number).unwrap_or(Refusal::Unnamed(0)),
+        })
+    }
+
+    /// The same of a call on these words, so that a fault tells what stands there.
+    pub(crate) fn check_in(returned: u64, image: &[u16]) -> Result<(), Refusal> {
+        Refusal::check(returned).map_err(|refusal| match refusal {
+            Refusal::Fault(fault) => Refusal::Fault(fault.found_in(image)),
+            other => other,
         })
     }
 }

@@ -15,6 +15,7 @@ use Rattle.lists.specs.Below.{allBelow}
 use Rattle.lists.specs.Lists.{member, distinct}
 use Rattle.lists.specs.Search.{foundIn, isFound}
 use Rattle.lists.specs.declared.Found.{Found}
+use Rattle.lists.specs.declared.Found.the-variants.{At, Nothing}
 use Rattle.lists.proofs.Search.{found-member}
 use Rattle.lists.proofs.Lowest.{lowest-le, Passing, pass-none, pass-from, pass-here, pass-on, pass-all, out-here, out-none}
 use Rattle.lists.proofs.Lists.{part-is}
@@ -194,15 +195,15 @@ module _ (l : List ℕ) where
   once-none = pass-none _ (length l)
 
   module _ (k : ℕ) (q : Twice k) where
-    module _ (h : k < length l) (f : Found) (e : f ≡ foundIn (take (k - 0) (drop 0 l)) (getD l k 0)) (b : Bool) (i : b ≡ isFound f) where
-      told : b ≡ member (getD l k 0) (take k l)
-      told = i ∙ ap isFound e ∙ found-member (getD l k 0) (take (k - 0) (drop 0 l)) ∙ ap (λ (j : ℕ). member (getD l k 0) (take j l)) (sub-zero k)
+    module _ (h : k < length l) (f : Found) (e : f ≡ foundIn (take (k - 0) (drop 0 l)) (getD l k 0)) where
+      told : isFound f ≡ member (getD l k 0) (take k l)
+      told = ap isFound e ∙ found-member (getD l k 0) (take (k - 0) (drop 0 l)) ∙ ap (λ (j : ℕ). member (getD l k 0) (take j l)) (sub-zero k)
 
-      pub once-here : b ≡ true → k ≡ twiceIn l
-      once-here t = pass-here _ (length l) _ k q h (sym told ∙ t)
+      pub once-here : (p : ℕ) → f ≡ At p → k ≡ twiceIn l
+      once-here p t = pass-here _ (length l) _ k q h (sym told ∙ ap isFound t)
 
-      pub once-on : b ≡ false → Twice (k + 1)
-      once-on t = pass-on _ (length l) _ k q h (sym told ∙ t)
+      pub once-on : f ≡ Nothing → Twice (k + 1)
+      once-on t = pass-on _ (length l) _ k q h (sym told ∙ ap isFound t)
 
     pub once-all : length l ≤ k → k ≡ twiceIn l
     once-all h = pass-all _ (length l) _ k q h

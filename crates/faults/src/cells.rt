@@ -2,7 +2,7 @@
 use layout::front;
 use layout::length_at;
 use layout::start_at;
-use lists::is_found;
+use lists::Found;
 use wellformed::body_once;
 ghost use mathlib.Core.Path.{_≡_};
 ghost use Prim.Native.Nat.{_+_, _<_};
@@ -50,11 +50,10 @@ fn twice_in(body: &[u16]) -> usize
 {
     let mut k = 0;
     while k < body.len() {
-        let earlier = lists::find(&body[0..k], body[k]);
-        if is_found(earlier) {
-            return k;
+        match lists::find(&body[0..k], body[k]) {
+            Found::At(_) => return k,
+            Found::Nothing => k += 1,
         }
-        k += 1;
     }
     k
 }

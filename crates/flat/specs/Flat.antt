@@ -71,7 +71,7 @@ eventIn e = record {
 
 -- ---- what is told
 
--- a refusal as one number: the paper's, and 256 times the word. No refusal's word is above 65,535 (theorems/proofs/Words: `fault-word`)
+-- a refusal as one number: the paper's, and 256 times the word. No refusal's word is above 65,535 (proofs/Words: `fault-word`)
 abbrev pub refusalNumber : Refusal → ℕ
 refusalNumber k = k .number + 256 * (k .word % 65536)
 

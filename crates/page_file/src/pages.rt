@@ -1,6 +1,7 @@
 // A page of the book, found by its contents and read from the file.
 use crate::file::read_words;
 use contents::PageFound;
+use lists::smaller;
 use rules::Refusal;
 use rules::Verdict;
 ghost use mathlib.Core.Path.{_≡_};
@@ -43,15 +44,6 @@ fn why_not(contents: &[u16], image: &[u16]) -> Refusal {
     }
 }
 
-fn at_most(a: usize, b: usize) -> usize
-    ensures { λ r. ⌜ r ≤ b ⌝ }
-{
-    if a < b {
-        return a;
-    }
-    b
-}
-
 // The page's image, at the front of a lent buffer that holds any and a word more: what is wrong with a longer part shows in so many words.
 pub fn load(
     contents: &[u16],
@@ -66,7 +58,7 @@ pub fn load(
     let PageFound::Part { start, len } = found else {
         return refused(why_not_found(found));
     };
-    let held = at_most(len, image.len());
+    let held = smaller(len, image.len());
     if !read_words(start, &mut image[0..held], bytes) {
         return Loaded {
             read: false,

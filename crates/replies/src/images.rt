@@ -10,7 +10,7 @@ use lists::word_at;
 use rules::Verdict;
 
 // `x W`
-pub fn well_formed(words: &[u16]) -> Reply {
+pub fn check_image(words: &[u16]) -> Reply {
     match arena::check_image(words) {
         Verdict::Accepted => NOTHING,
         Verdict::Refused(r) => refused(r),

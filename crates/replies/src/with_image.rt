@@ -58,7 +58,7 @@ pub fn image_reply(letter: u8, s: &[u8], words: &mut [u16]) -> Reply {
         b'c' => chances::outcome(arena::count(image)),
         b't' => views::actor(image),
         b'z' => views::length_cell(image),
-        b'x' => images::well_formed(image),
+        b'x' => images::check_image(image),
         b'l' => views::legal(values[0], image),
         b'u' => views::truncation(values, image),
         _ => NO_CALL,

@@ -19,8 +19,8 @@ use Rattle.rules.specs.Reward.{allFinite}
 use Rattle.rules.specs.declared.Setting.{Setting}
 use Rattle.rules.specs.declared.Weights.{Weights}
 
--- 50 to 56 stand in Faults, 'where 20 stood' (02, wish 4): 'the whole group'; 21 'n or g differs from the setting', 22 / 23 'food is due at a step / none is due at a draw', 24 'action count is not n',
--- 25 'a living snake's action above 2', 26 'agent not below n', 27 'outcome not below the count', 28 'count above 2^64 - 1', 29 'an output buffer shorter
+-- Where document 01 says 20, `imageRows` stands, 50 to 56: 'where 20 stood in an order, the whole group stands' (02, wish 4).
+-- 21 'n or g differs from the setting', 22 / 23 'food is due at a step / none is due at a draw', 24 'action count is not n', 25 'a living snake's action above 2', 26 'agent not below n', 27 'outcome not below the count', 28 'count above 2^64 - 1', 29 'an output buffer shorter
 -- than its answer', 30 'list to rank: wrong length, a cell not free, or repeated', 31 'a reward weight not finite'; 1 to 12 stand in Setting
 
 -- 'Initial state: setting, 29'; room is the length of the lent buffer
@@ -48,7 +48,7 @@ askedRows s w acts =
 abbrev pub askedOrder : Setting → List ℕ → List ℕ → Table
 askedOrder s w acts = settingOrder s ++ (imageRows w ++ askedRows s w acts)
 
--- 'Step: setting, 50 to 56, 21, 22, 24, 25, 29'
+-- 'Step: setting, 20, 21, 22, 24, 25, 29'
 abbrev pub stepOrder : Setting → List ℕ → List ℕ → ℕ → Table
 stepOrder s w acts room = askedOrder s w acts ++ ((by 29, ltb room (length (imageOf (stepped s (stateOf w) acts .next)))) ∷ [])
 
@@ -56,7 +56,7 @@ stepOrder s w acts room = askedOrder s w acts ++ ((by 29, ltb room (length (imag
 abbrev pub struckOrder : Setting → List ℕ → List ℕ → Table
 struckOrder s w acts = askedOrder s w acts
 
--- 'Observation: 50 to 56, 26, 29'
+-- 'Observation: 20, 26, 29'
 abbrev pub observeOrder : List ℕ → ℕ → ℕ → Table
 observeOrder w a room = imageRows w ++ ((by 26, not (ltb a (snakesIn w))) ∷ (by 29, ltb room (5 * areaIn w)) ∷ [])
 
@@ -64,7 +64,7 @@ observeOrder w a room = imageRows w ++ ((by 26, not (ltb a (snakesIn w))) ∷ (b
 abbrev pub dueRows : List ℕ → Table
 dueRows w = (by 23, eqb (dueIn w) 0) ∷ (by 28, ltb (2 ^ 64 - 1) (outcomes (stateOf w))) ∷ []
 
--- 'Count: 50 to 56, 23, 28'
+-- 'Count: 20, 23, 28'
 abbrev pub countOrder : List ℕ → Table
 countOrder w = imageRows w ++ dueRows w
 
@@ -75,7 +75,7 @@ drawRows w i room listRoom =
     ∷ (by 29, ltb room (length (imageOf (afterDraw (stateOf w) i))) || ltb listRoom (length (drawn (stateOf w) i)))
     ∷ []
 
--- 'Draw: 50 to 56, 23, 28, 27, 29'
+-- 'Draw: 20, 23, 28, 27, 29'
 abbrev pub drawOrder : List ℕ → ℕ → ℕ → ℕ → Table
 drawOrder w i room listRoom = countOrder w ++ drawRows w i room listRoom
 
@@ -83,15 +83,15 @@ drawOrder w i room listRoom = countOrder w ++ drawRows w i room listRoom
 abbrev pub rankRows : List ℕ → List ℕ → Table
 rankRows w l = (by 30, not (canRank (stateOf w) l)) ∷ []
 
--- 'Rank: 50 to 56, 23, 28, 30'
+-- 'Rank: 20, 23, 28, 30'
 abbrev pub rankOrder : List ℕ → List ℕ → Table
 rankOrder w l = countOrder w ++ rankRows w l
 
--- 'Actor, .. length cell: 50 to 56'; the check of an image
+-- 'Actor, .. length cell: 20'; the check of an image
 abbrev pub imageOrder : List ℕ → Table
 imageOrder w = imageRows w
 
--- 'legal actions (then 26)'; 'Truncation: 50 to 56, 26'
+-- 'legal actions (then 26)'; 'Truncation: 20, 26'
 abbrev pub agentOrder : List ℕ → ℕ → Table
 agentOrder w a = imageRows w ++ ((by 26, not (ltb a (snakesIn w))) ∷ [])
 

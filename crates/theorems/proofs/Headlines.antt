@@ -9,7 +9,7 @@ pub use Rattle.rules.proofs.ChainLimit.{without-7, never-7}
 pub use Rattle.rules.proofs.Tables.{table-gives, table-refuses, table-first}
 -- Demand 1: so a call is refused by k if and only if k is the number of its table's first row that holds
 pub use Rattle.theorems.specs.Answers.{RefusedBy}
-pub use Rattle.theorems.proofs.Refusals.{check-refused, validate-refused, initial-refused, step-refused, struck-refused, observe-refused, count-refused, draw-refused, rank-refused, actor-refused, legal-refused, key-refused, truncation-refused, reward-refused, space-refused}
+pub use Rattle.theorems.proofs.Refusals.{examine-refused, validate-refused, initial-refused, step-refused, struck-refused, observe-refused, count-refused, draw-refused, rank-refused, actor-refused, legal-refused, key-refused, truncation-refused, reward-refused, space-refused}
 -- Demand 1: a refusal leaves every lent word, both buffers of a draw
 pub use Rattle.theorems.proofs.Refusals.{initial-untouched, step-untouched, observe-untouched, draw-untouched}
 -- Demand 1: an answer is a count of words, and the words after them keep their values

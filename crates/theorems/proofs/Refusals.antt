@@ -138,9 +138,9 @@ pub validate-refused : (s : Setting) (r : Verdict) → Validates s r → Refused
 unfolding settingSays
 validate-refused s r p = by-rows saysVerdict RefusedVerdict (λ k. refl) verdict-one (settingOrder s) tt r (p .answer)
 
-pub check-refused : (w : List ℕ) (r : Verdict) → Examines w r → RefusedBy RefusedVerdict (imageOrder w) r
+pub examine-refused : (w : List ℕ) (r : Verdict) → Examines w r → RefusedBy RefusedVerdict (imageOrder w) r
 unfolding imageSays
-check-refused w r p = by-rows saysVerdict RefusedVerdict (λ k. refl) verdict-one (imageOrder w) tt r (p .answer)
+examine-refused w r p = by-rows saysVerdict RefusedVerdict (λ k. refl) verdict-one (imageOrder w) tt r (p .answer)
 
 pub initial-refused : (s : Setting) (old new : List ℕ) (r : Answer) → Starts s old new r → RefusedBy RefusedAnswer (initialOrder s (length old)) r
 unfolding initialSays

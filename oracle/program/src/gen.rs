@@ -95,7 +95,7 @@ impl Generator {
             b'p' => format!("p {}", self.any_grid()),
             b'q' => "q".to_string(),
             b'h' => self.turn(),
-            b'x' => self.well_formed(),
+            b'x' => self.check_image(),
             b'H' => self.struck(),
             b'B' => self.write_book(),
             b'P' => self.read_page(),
@@ -226,7 +226,7 @@ impl Generator {
         format!("z{}", listed(&words))
     }
 
-    fn well_formed(&mut self) -> String {
+    fn check_image(&mut self) -> String {
         let state = self.state(true);
         let words = self.perhaps_damaged(&state, 2);
         format!("x{}", listed(&words))

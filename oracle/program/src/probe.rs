@@ -239,7 +239,7 @@ fn turn(f: &mut Fields) -> Option<Answer> {
     Some(Ok(texted(&[u64::from(calls::turn(heading as u16, action as usize))])))
 }
 
-fn well_formed(f: &mut Fields) -> Option<Answer> {
+fn check_image(f: &mut Fields) -> Option<Answer> {
     let image = words(f)?;
     Some(paper_faults::state(&image).map(|_| String::new()))
 }
@@ -310,7 +310,7 @@ fn call(line: &[u8]) -> Option<Answer> {
         b"p" => observation_space(&mut f),
         b"q" => action_space(&mut f),
         b"h" => turn(&mut f),
-        b"x" => well_formed(&mut f),
+        b"x" => check_image(&mut f),
         b"B" => write_book(&mut f),
         b"P" => read_page(&mut f),
         b"H" => struck(&mut f),

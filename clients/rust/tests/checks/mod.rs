@@ -673,6 +673,17 @@ fn lent_books() {
     assert_eq!(page, images[1].words());
     assert_eq!(number(lend::write_book(&set, 2, &row, &mut out)), 53);
     assert_eq!(number(lend::write_book(&set, 4, &row, &mut out)), 50);
+    // of a row no word is at hand, so the sentence tells no more than the fault
+    let says = |pages, row: &[u16]| {
+        let refusal = lend::write_book(&set, pages, row, &mut [0; 99]).unwrap_err();
+        refusal.to_string()
+    };
+    assert_eq!(says(0, &row), "refusal 53: word 0: total length wrong");
+    let nine: Vec<u16> = [9].iter().chain(&row[1..]).copied().collect();
+    assert_eq!(
+        says(3, &nine),
+        "refusal 51: word 0: a content word out of range, or a living snake's length 0"
+    );
     assert_eq!(number(lend::page(&[], 0)), 40);
 }
 
