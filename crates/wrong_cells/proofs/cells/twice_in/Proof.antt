@@ -1,11 +1,11 @@
--- `faults::twice_in` meets its contract. The invariant: no cell before k stood earlier in the body (`Twice`). The measure is how many are left.
+-- `wrong_cells::twice_in` meets its contract. The invariant: no cell before k stood earlier in the body (`Twice`). The measure is how many are left.
 -- Assumes nothing.
 use borrow.Author.Needs.{needs}
 use Prim.Native.Nat.{_-_}
 use lib.ListN.{length}
-use Rattle.faults.proofs.Finding.{Twice, once-none, once-here, once-on, once-all}
-use Rattle.faults.proofs.cells.twice_in.Statement.{statement}
-use Rattle.faults.proofs.cells.twice_in.Tie as tie
+use Rattle.wrong_cells.proofs.Finding.{Twice, once-none, once-here, once-on, once-all}
+use Rattle.wrong_cells.proofs.cells.twice_in.Statement.{statement}
+use Rattle.wrong_cells.proofs.cells.twice_in.Tie as tie
 
 abbrev Inv-loop : tie.InvT-loop
 Inv-loop body k₀ k = Twice body k

@@ -12,7 +12,7 @@ ghost use Rattle.rules.specs.Faults.{firstOut, cellWord, twiceIn, foodWord};
 ghost use Rattle.wellformed.specs.Checked.{Ranged, Laid, OnBoard};
 
 // 54: the first word past the records that is g² or more.
-pub(crate) fn first_beyond(image: &[u16]) -> usize
+pub fn first_beyond(image: &[u16]) -> usize
     requires { ⌜ Ranged (now image) ⌝ }
     ensures { λ r. ⌜ r ≡ cellWord (now (image .entry)) ⌝ }
 {
@@ -28,7 +28,7 @@ pub(crate) fn first_beyond(image: &[u16]) -> usize
 }
 
 // 55: the first snake with a cell twice in its body, or n. One board for all bodies, as in the check.
-pub(crate) fn first_twice(image: &[u16]) -> usize
+pub fn first_twice(image: &[u16]) -> usize
     requires { ⌜ OnBoard (now image) ⌝ }
     ensures { λ r. ⌜ r ≡ firstOut (snakesIn (now (image .entry))) (λ i. distinct (bodyAt (now (image .entry)) i)) ⌝ }
 {
@@ -58,7 +58,7 @@ fn twice_in(body: &[u16]) -> usize
     k
 }
 
-pub(crate) fn twice_at(image: &[u16], i: usize) -> usize
+pub fn twice_at(image: &[u16], i: usize) -> usize
     requires { ⌜ OnBoard (now image) × (i < snakesIn (now image)) ⌝ }
     ensures { λ r. ⌜ r ≡ startAt (now (image .entry)) i + twiceIn (bodyAt (now (image .entry)) i) ⌝ }
 {
@@ -68,7 +68,7 @@ pub(crate) fn twice_at(image: &[u16], i: usize) -> usize
 }
 
 // 56: the first word of the food that is not above the one before it.
-pub(crate) fn first_fall(image: &[u16], food: usize) -> usize
+pub fn first_fall(image: &[u16], food: usize) -> usize
     requires { ⌜ Laid (now image) × (food ≡ foodStart (now image)) ⌝ }
     ensures { λ r. ⌜ r ≡ foodWord (now (image .entry)) ⌝ }
 {

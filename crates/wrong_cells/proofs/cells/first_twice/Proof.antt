@@ -1,11 +1,11 @@
--- `faults::first_twice` meets its contract. The invariant: the bodies so far have no cell twice, and the next stamp is new to the board (`BodiesTo`).
+-- `wrong_cells::first_twice` meets its contract. The invariant: the bodies so far have no cell twice, and the next stamp is new to the board (`BodiesTo`).
 -- The measure is how many bodies are left. Assumes nothing.
 use borrow.Author.Needs.{needs}
 use Prim.Native.Nat.{_-_}
 use Rattle.wellformed.proofs.Loops.{BodiesTo, bodies-none, bodies-next}
-use Rattle.faults.proofs.Finding.{twice-here, twice-none}
-use Rattle.faults.proofs.cells.first_twice.Statement.{statement}
-use Rattle.faults.proofs.cells.first_twice.Tie as tie
+use Rattle.wrong_cells.proofs.Finding.{twice-here, twice-none}
+use Rattle.wrong_cells.proofs.cells.first_twice.Statement.{statement}
+use Rattle.wrong_cells.proofs.cells.first_twice.Tie as tie
 
 abbrev Inv-loop : tie.InvT-loop
 Inv-loop image n board₀ i₀ board i = BodiesTo image board i

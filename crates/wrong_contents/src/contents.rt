@@ -13,7 +13,7 @@ ghost use Rattle.rules.specs.Faults.{firstOut, cutShort, contentsOut, recordOut
 ghost use Rattle.wellformed.specs.Checked.{Ranged};
 
 // 50: by a number of snakes out of range no records are asked for.
-pub(crate) fn cut_short(image: &[u16]) -> bool
+pub fn cut_short(image: &[u16]) -> bool
     ensures { λ r. ⌜ r ≡ cutShort (now (image .entry)) ⌝ }
 {
     if image.len() < 5 {
@@ -24,7 +24,7 @@ pub(crate) fn cut_short(image: &[u16]) -> bool
 }
 
 // 51: of the first five words, where one is out of range.
-pub(crate) fn contents_out(image: &[u16]) -> usize
+pub fn contents_out(image: &[u16]) -> usize
     requires { ⌜ 5 ≤ length (now image) ⌝ }
     ensures { λ r. ⌜ r ≡ contentsOut (now (image .entry)) ⌝ }
 {
@@ -46,7 +46,7 @@ pub(crate) fn contents_out(image: &[u16]) -> usize
 }
 
 // 51: of a record that does not fit.
-pub(crate) fn record_out(image: &[u16], area: usize, i: usize) -> usize
+pub fn record_out(image: &[u16], area: usize, i: usize) -> usize
     requires { ⌜ (i < 65536) × (8 + 4 * i < length (now image)) × (area ≡ areaIn (now image)) ⌝ }
     ensures { λ r. ⌜ r ≡ recordOut (now (image .entry)) i ⌝ }
 {
@@ -61,7 +61,7 @@ pub(crate) fn record_out(image: &[u16], area: usize, i: usize) -> usize
 }
 
 // The first record that does not fit, or n.
-pub(crate) fn first_record(image: &[u16], area: usize, n: usize) -> usize
+pub fn first_record(image: &[u16], area: usize, n: usize) -> usize
     requires { ⌜ (n < 65536) × (front n ≤ length (now image)) × (area ≡ areaIn (now image)) ⌝ }
     ensures { λ r. ⌜ r ≡ firstOut n (recordFits (now (image .entry))) ⌝ }
 {
@@ -76,7 +76,7 @@ pub(crate) fn first_record(image: &[u16], area: usize, n: usize) -> usize
 }
 
 // 52: the first start that is not where the part before it ends.
-pub(crate) fn first_start(image: &[u16]) -> usize
+pub fn first_start(image: &[u16]) -> usize
     requires { ⌜ Ranged (now image) ⌝ }
     ensures { λ r. ⌜ r ≡ startWord (now (image .entry)) ⌝ }
 {

@@ -1,11 +1,11 @@
--- `faults::first_fall` meets its contract. The invariant: each word of the food up to k is above the one before it (`Falls`).
+-- `wrong_cells::first_fall` meets its contract. The invariant: each word of the food up to k is above the one before it (`Falls`).
 -- The measure is how many words are left. Assumes nothing.
 use borrow.Author.Needs.{needs}
 use Prim.Native.Nat.{_-_}
 use lib.ListN.{length}
-use Rattle.faults.proofs.Finding.{Falls, falls-from, food-fits, falls-here, falls-on, falls-none}
-use Rattle.faults.proofs.cells.first_fall.Statement.{statement}
-use Rattle.faults.proofs.cells.first_fall.Tie as tie
+use Rattle.wrong_cells.proofs.Finding.{Falls, falls-from, food-fits, falls-here, falls-on, falls-none}
+use Rattle.wrong_cells.proofs.cells.first_fall.Statement.{statement}
+use Rattle.wrong_cells.proofs.cells.first_fall.Tie as tie
 
 abbrev Inv-loop : tie.InvT-loop
 Inv-loop image food k₀ k = Falls image k

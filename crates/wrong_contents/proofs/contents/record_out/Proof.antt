@@ -1,9 +1,9 @@
--- `faults::record_out` meets its contract: the length's own tests, the heading's, and else the flag. Assumes nothing.
+-- `wrong_contents::record_out` meets its contract: the length's own tests, the heading's, and else the flag. Assumes nothing.
 use borrow.Author.Needs.{needs}
 use Rattle.lists.proofs.Fits.{word-fits}
-use Rattle.faults.proofs.Finding.{out-length, out-heading, out-alive}
-use Rattle.faults.proofs.contents.record_out.Statement.{statement}
-use Rattle.faults.proofs.contents.record_out.Tie as tie
+use Rattle.wrong_contents.proofs.Finding.{out-length, out-heading, out-alive}
+use Rattle.wrong_contents.proofs.contents.record_out.Statement.{statement}
+use Rattle.wrong_contents.proofs.contents.record_out.Tie as tie
 
 pub record-out-spec : {M : Type 1} → statement M
 record-out-spec =

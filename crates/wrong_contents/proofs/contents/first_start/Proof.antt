@@ -1,13 +1,13 @@
--- `faults::first_start` meets its contract. The invariant: `due` is where snake i is due, and the starts before it fit (`AddsTo`).
+-- `wrong_contents::first_start` meets its contract. The invariant: `due` is where snake i is due, and the starts before it fit (`AddsTo`).
 -- The measure is how many snakes are left. Assumes nothing.
 use borrow.Author.Needs.{needs}
 use Prim.Native.Nat.{_-_}
 use mathlib.Core.Bool.{true}
 use Rattle.lists.proofs.Fits.{word-fits, word-small}
 use Rattle.wellformed.proofs.Loops.{AddsTo, adds-none, adds-fits}
-use Rattle.faults.proofs.Finding.{start-here, start-on, start-small, start-none}
-use Rattle.faults.proofs.contents.first_start.Statement.{statement}
-use Rattle.faults.proofs.contents.first_start.Tie as tie
+use Rattle.wrong_contents.proofs.Finding.{start-here, start-on, start-small, start-none}
+use Rattle.wrong_contents.proofs.contents.first_start.Statement.{statement}
+use Rattle.wrong_contents.proofs.contents.first_start.Tie as tie
 
 abbrev Inv-loop : tie.InvT-loop
 Inv-loop image n due₀ i₀ due i = AddsTo image due true i

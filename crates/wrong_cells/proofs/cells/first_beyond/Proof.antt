@@ -1,11 +1,11 @@
--- `faults::first_beyond` meets its contract. The invariant: no word from the records' end up to k is g² or more (`Beyond`).
+-- `wrong_cells::first_beyond` meets its contract. The invariant: no word from the records' end up to k is g² or more (`Beyond`).
 -- The measure is how many words are left. Assumes nothing.
 use borrow.Author.Needs.{needs}
 use Prim.Native.Nat.{_-_}
 use lib.ListN.{length}
-use Rattle.faults.proofs.Finding.{Beyond, beyond-from, beyond-here, beyond-on, beyond-none}
-use Rattle.faults.proofs.cells.first_beyond.Statement.{statement}
-use Rattle.faults.proofs.cells.first_beyond.Tie as tie
+use Rattle.wrong_cells.proofs.Finding.{Beyond, beyond-from, beyond-here, beyond-on, beyond-none}
+use Rattle.wrong_cells.proofs.cells.first_beyond.Statement.{statement}
+use Rattle.wrong_cells.proofs.cells.first_beyond.Tie as tie
 
 abbrev Inv-loop : tie.InvT-loop
 Inv-loop image g k₀ k = Beyond image k

@@ -1,12 +1,12 @@
--- `faults::first_record` meets its contract. The invariant: the first i records fit (`RecordsTo`). The measure is how many are left.
+-- `wrong_contents::first_record` meets its contract. The invariant: the first i records fit (`RecordsTo`). The measure is how many are left.
 -- Assumes nothing.
 use borrow.Author.Needs.{needs}
 use Prim.Native.Nat.{_-_}
 use mathlib.Core.Bool.{true}
 use Rattle.wellformed.proofs.Loops.{RecordsTo, records-none}
-use Rattle.faults.proofs.Finding.{record-here, record-on, record-none}
-use Rattle.faults.proofs.contents.first_record.Statement.{statement}
-use Rattle.faults.proofs.contents.first_record.Tie as tie
+use Rattle.wrong_contents.proofs.Finding.{record-here, record-on, record-none}
+use Rattle.wrong_contents.proofs.contents.first_record.Statement.{statement}
+use Rattle.wrong_contents.proofs.contents.first_record.Tie as tie
 
 abbrev Inv-loop : tie.InvT-loop
 Inv-loop image area n i₀ i = RecordsTo image n true i
