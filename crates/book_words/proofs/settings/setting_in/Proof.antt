@@ -1,11 +1,11 @@
--- `contents::settings::setting_in` meets its contract: each field is read where the definition has it. Assumes nothing.
+-- `book_words::settings::setting_in` meets its contract: each field is read where the definition has it. Assumes nothing.
 use mathlib.Core.Path.{_≡_}
 use mir.Syntax.{w32}
 use mir.Val.{toZ, ofZ}
 use borrow.Author.Needs.{needs}
-use Rattle.contents.proofs.Told.{setting-read}
-use Rattle.contents.proofs.settings.setting_in.Statement.{statement}
-use Rattle.contents.proofs.settings.setting_in.Tie as tie
+use Rattle.book_words.proofs.Told.{setting-read}
+use Rattle.book_words.proofs.settings.setting_in.Statement.{statement}
+use Rattle.book_words.proofs.settings.setting_in.Tie as tie
 
 returns : tie.Need-returns
 returns c =

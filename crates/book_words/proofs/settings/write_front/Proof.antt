@@ -1,12 +1,12 @@
--- `contents::settings::write_front` meets its contract: the 17 words are those of the definition, one by one (`front-is`). Assumes nothing.
+-- `book_words::settings::write_front` meets its contract: the 17 words are those of the definition, one by one (`front-is`). Assumes nothing.
 use mathlib.Core.Path.{_≡_, ap, _∙_}
 use lib.IntN.{natAbs}
 use mir.Syntax.{w32}
 use mir.Val.{toZ, ofZ}
 use borrow.Author.Needs.{needs}
-use Rattle.contents.proofs.Laying.{front-is}
-use Rattle.contents.proofs.settings.write_front.Statement.{statement}
-use Rattle.contents.proofs.settings.write_front.Tie as tie
+use Rattle.book_words.proofs.Laying.{front-is}
+use Rattle.book_words.proofs.settings.write_front.Statement.{statement}
+use Rattle.book_words.proofs.settings.write_front.Tie as tie
 
 returns : tie.Need-returns
 returns c =

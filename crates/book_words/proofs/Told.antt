@@ -8,8 +8,8 @@ use lib.IntN.{ℤ, pos}
 use Rattle.rules.specs.Image.{word}
 use Rattle.rules.specs.declared.Limit.{Limit}
 use Rattle.rules.specs.declared.Limit.the-variants.{Is}
-use Rattle.contents.specs.Settings.{fourAt, limitOf, limitAt, settingIn}
-use Rattle.contents.specs.Read.{Word}
+use Rattle.book_words.specs.Settings.{fourAt, limitOf, limitAt, settingIn}
+use Rattle.book_words.specs.Read.{Word}
 
 -- ---- what the reading functions find
 

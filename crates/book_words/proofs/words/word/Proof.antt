@@ -1,9 +1,9 @@
--- `contents::words::word` meets its contract: a word of 16 bits fits 64. Assumes nothing.
+-- `book_words::words::word` meets its contract: a word of 16 bits fits 64. Assumes nothing.
 use native.Mathlib.Omega.{arith}
 use mathlib.Core.Path.{refl}
 use borrow.Author.Needs.{needs}
-use Rattle.contents.proofs.words.word.Statement.{statement}
-use Rattle.contents.proofs.words.word.Tie as tie
+use Rattle.book_words.proofs.words.word.Statement.{statement}
+use Rattle.book_words.proofs.words.word.Tie as tie
 
 cast-result : tie.Need-cast-result
 cast-result c = omega (arith, c .shared-slice-known .given (c .before .args .k))

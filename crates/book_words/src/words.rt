@@ -2,9 +2,9 @@
 ghost use mathlib.Core.Path.{_≡_};
 ghost use Prim.Native.Nat.{_+_, _<_, _≤_};
 ghost use lib.ListN.{length};
-ghost use Rattle.contents.specs.Settings.{fourAt};
-ghost use Rattle.contents.specs.Read.{Word, Pair};
-ghost use Rattle.contents.specs.Written.{PairWritten};
+ghost use Rattle.book_words.specs.Settings.{fourAt};
+ghost use Rattle.book_words.specs.Read.{Word, Pair};
+ghost use Rattle.book_words.specs.Written.{PairWritten};
 
 pub fn word(book: &[u16], k: usize) -> usize
     requires { ⌜ k < length (now book) ⌝ }
@@ -20,7 +20,7 @@ pub fn pair(book: &[u16], k: usize) -> usize
     word(book, k) + 65536 * word(book, 1 + k)
 }
 
-pub(crate) fn four(book: &[u16], k: usize) -> u64
+pub fn four(book: &[u16], k: usize) -> u64
     requires { ⌜ 3 + k < length (now book) ⌝ }
     ensures { λ r. ⌜ r ≡ fourAt (now (book .entry)) k ⌝ }
 {

@@ -7,8 +7,8 @@ ghost use mathlib.Core.Path.{_≡_};
 ghost use Prim.Native.Nat.{_+_, _<_, _≤_};
 ghost use lib.ListN.{length};
 ghost use Rattle.rules.specs.Setting.{isSet};
-ghost use Rattle.contents.specs.Settings.{amount, limitOf, limitAt, settingIn};
-ghost use Rattle.contents.specs.Written.{Five, Wordy, Fronted};
+ghost use Rattle.book_words.specs.Settings.{amount, limitOf, limitAt, settingIn};
+ghost use Rattle.book_words.specs.Written.{Five, Wordy, Fronted};
 
 fn limit_of(set: bool, number: u64) -> Limit
     ensures { λ r. ⌜ r ≡ limitOf set number ⌝ }
