@@ -14,7 +14,7 @@ use Rattle.rules.specs.Calls.{bodyAsked}
 use Rattle.rules.specs.Promises.{Checks}
 use Rattle.image.specs.Memory.{startAsked}
 use Rattle.image.proofs.Asked.{parts-malformed, parts-beyond, parts-body}
-use Rattle.bindings.specs.Exports.{FlatBody}
+use Rattle.telling.specs.Told.{FlatBody}
 
 module _ (w : List ℕ) (i : ℕ) where
   start-none : (wellFormed w && ltb i (snakesIn w)) ≡ false → 0 ≡ startAsked w i

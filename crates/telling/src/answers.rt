@@ -3,7 +3,7 @@ use flat::refusal_number;
 use rules::Answer;
 use rules::Number;
 ghost use Rattle.rules.specs.Says.{says, saysNumber};
-ghost use Rattle.bindings.specs.Exports.{one, Tells};
+ghost use Rattle.telling.specs.Told.{one, Tells};
 
 pub fn tell_number(a: Number, out: &mut [u64; 1]) -> u64
     ensures { λ r. ⌜ Tells one (saysNumber a) (now (out .entry)) (now (out .exit)) r ⌝ }
