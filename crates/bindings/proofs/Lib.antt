@@ -1,5 +1,4 @@
 pub mod Saying
-pub mod Lying
 pub mod Theorems
 pub mod BookLaws
 pub mod GameLaws

@@ -15,7 +15,7 @@ use Rattle.rules.specs.Image.{imageOf}
 use Rattle.rules.specs.Step.{Transition}
 use Rattle.rules.specs.Struck.{noHit}
 use Rattle.rules.specs.View.{lit}
-use Rattle.rules.specs.Says.{Says, refuses, gives, says, saysVerdict, saysNumber, saysKey, saysActor, saysLegal, saysMark, saysSum, saysSpace, seen, beside, lent, Shape}
+use Rattle.rules.specs.Says.{Says, refuses, gives, says, saysVerdict, saysKey, saysActor, saysLegal, saysMark, saysSum, saysSpace, seen, beside, lent, Shape}
 use Rattle.rules.specs.Calls.{settingSays, imageSays, initialSays, stepSays, struckSays, observeSays, Draw, drawSays, actorSays, legalSays, keySays, truncationSays, rewardSays, spaceSays, actionSays}
 use Rattle.rules.specs.Promises.{Turns, Examines, Validates, Starts, Steps, Strikes, Observes, Draws, ActsNext, Allows, Keys, Truncates, Rewards, ObservationSpace, ActionSpace}
 use Rattle.rules.specs.declared.Heading.{Heading}
@@ -32,8 +32,6 @@ use Rattle.rules.specs.declared.Answer.{Answer}
 use Rattle.rules.specs.declared.Answer.the-variants.{Done, Refused}
 use Rattle.rules.specs.declared.Stepped.{Stepped}
 use Rattle.rules.specs.declared.Drawn.{Drawn}
-use Rattle.rules.specs.declared.Number.{Number}
-use Rattle.rules.specs.declared.Number.the-variants.{Value, Refused as RefusedNumber}
 use Rattle.rules.specs.declared.LengthCell.{LengthCell}
 use Rattle.rules.specs.declared.LengthCell.the-variants.{Key, NoKey, Refused as RefusedKey}
 use Rattle.rules.specs.declared.Actor.{Actor}
@@ -53,28 +51,10 @@ use Rattle.book.specs.Calls.{writeSays, pageSays}
 use Rattle.book.specs.Promises.{Pages, Writes as Binds}
 use Rattle.flat.specs.Flat.{refusalNumber, eventBytes, eventsBytes, hitsWords}
 use Rattle.bindings.specs.Exports.{refusalOf, told, one, bitNumber, whole, keyNumbers, actionNumbers, shapeNumbers, shapeBounds, spanNumbers, Tells, Writes, FlatSpace, FlatSteps, FlatDraws}
+pub use Rattle.telling.proofs.Saying.{given, refused, tells-by}
 
 abbrev Apart : Type 0
 Apart = _≡_ {A = ℕ} 0 1
-
--- ---- one lent array
-
-module _ {A B : Type 0} (f : A → List B) (x : Says A) (old : List B) where
-  pub given : (a : A) → gives a ≡ x → Tells f x old (f a) 0
-  given a e = record { refusal = ap refusalOf e; answer = ap (told f old) e }
-
-  pub refused : (k : Refusal) → refuses k ≡ x → (r : ℕ) → r ≡ refusalNumber k → Tells f x old old r
-  refused k e r p = record { refusal = p ∙ ap refusalOf e; answer = ap (told f old) e }
-
-  -- the same of what is equal
-  pub tells-by : (y : Says A) (new : List B) (r : ℕ) → Tells f x old new r → x ≡ y → Tells f y old new r
-  tells-by y new r t e = record { refusal = t .refusal ∙ ap refusalOf e; answer = t .answer ∙ ap (told f old) e }
-
-pub value-told : (a : Number) (n : ℕ) → a ≡ Value n → (old : List ℕ) → Tells one (saysNumber a) old (n ∷ []) 0
-value-told a n e old = given one (saysNumber a) old n (ap saysNumber (sym e))
-
-pub number-refused : (a : Number) (k : Refusal) → a ≡ RefusedNumber k → (old : List ℕ) (r : ℕ) → r ≡ refusalNumber k → Tells one (saysNumber a) old old r
-number-refused a k e old = refused one (saysNumber a) old k (ap saysNumber (sym e))
 
 module _ (w : List ℕ) (a : LengthCell) (q : Keys w a) (old : List ℕ) where
   pub key-told : (n : ℕ) → a ≡ Key n → Tells keyNumbers (keySays w) old (1 ∷ n ∷ []) 0
@@ -187,12 +167,6 @@ module _ (a : Space) (old new : List ℕ) (bounds newBounds : List Float) (r : �
   action-space q = same-space actionSays (q .answer)
 
 -- ---- a buffer, and how many words were written
-
-pub words-told : (a : Answer) (n : ℕ) → a ≡ Done n → (old : List ℕ) → Tells one (says a) old (n ∷ []) 0
-words-told a n e old = given one (says a) old n (ap says (sym e))
-
-pub words-refused : (a : Answer) (k : Refusal) → a ≡ Refused k → (old : List ℕ) (r : ℕ) → r ≡ refusalNumber k → Tells one (says a) old old r
-words-refused a k e old = refused one (says a) old k (ap says (sym e))
 
 module _ {A B : Type 0} (f : A → List B) where
   same-refusal : (x : Says A) → refusalOf (seen (λ a. length (f a)) x) ≡ refusalOf x

@@ -1,41 +1,26 @@
 -- The promises of the exported calls: the refusal, every lent array and every word of the lent buffers, each an equation with the flat form of
 -- what the wrapped call says. old and new are lent memory before and after. Assumes nothing.
 use Prim.Native.Nat.{ℕ}
-use mathlib.Core.Bool.{Bool, true, false}
+use mathlib.Core.Bool.{Bool, false}
 use mathlib.Core.List.{List, [], _∷_}
 use mathlib.Core.Option.{Option, none, some}
 use mathlib.Core.Path.{_≡_}
 use lib.Ieee.{Float}
-use lib.ListN.{length, take, drop}
+use lib.ListN.{length}
 use Rattle.lists.specs.Choice.{bit}
 use Rattle.rules.specs.Events.{eight}
 use Rattle.rules.specs.Image.{imageOf}
 use Rattle.rules.specs.Step.{Transition}
 use Rattle.rules.specs.View.{lit}
-use Rattle.rules.specs.Says.{Says, refuses, gives, lent, Shape, box, discrete}
-use Rattle.rules.specs.Calls.{Draw, bodyAsked}
-use Rattle.image.specs.Memory.{startAsked}
+use Rattle.rules.specs.Says.{Says, lent, Shape, box, discrete}
+use Rattle.rules.specs.Calls.{Draw}
 use Rattle.contents.specs.Calls.{Span}
 use Rattle.standing.specs.Calls.{Move}
-use Rattle.flat.specs.Flat.{refusalNumber, eventsBytes}
+use Rattle.flat.specs.Flat.{eventsBytes}
 use Rattle.flat.specs.Games.{matchNumbers}
+pub use Rattle.telling.specs.Told.{refusalOf, told, one, Tells, FlatBody}
 
 -- ---- flat forms
-
-module _ {A : Type 0} where
-  -- 0 for an answer
-  abbrev pub refusalOf : Says A → ℕ
-  refusalOf (refuses k) = refusalNumber k
-  refusalOf (gives a) = 0
-
-module _ {A B : Type 0} where
-  -- a lent array afterwards: 'A refusal .. leaves all lent words untouched', an answer is the whole array
-  abbrev pub told : (A → List B) → List B → Says A → List B
-  told f old (refuses k) = old
-  told f old (gives a) = f a
-
-abbrev pub one : {A : Type 0} → A → List A
-one x = x ∷ []
 
 abbrev pub bitNumber : Bool → List ℕ
 bitNumber b = bit b ∷ []
@@ -75,11 +60,6 @@ drawNumbers d = length (imageOf (d .next)) ∷ length (d .cells) ∷ []
 
 -- ---- promises
 
--- an answer in one lent array
-pub record Tells {A B : Type 0} (f : A → List B) (x : Says A) (old new : List B) (r : ℕ) : Type 0 where
-  pub refusal : r ≡ refusalOf x
-  pub answer : new ≡ told f old x
-
 -- an answer in a lent buffer, and how many words it has in a lent array
 pub record Writes {A B : Type 0} (f : A → List B) (x : Says A) (old new : List B) (oldCount newCount : List ℕ) (r : ℕ) : Type 0 where
   pub refusal : r ≡ refusalOf x
@@ -108,9 +88,3 @@ pub record FlatMoves (x : Says Move) (old new : List (List ℕ)) (oldGame newGam
   pub refusal : r ≡ refusalOf x
   pub events : new ≡ told (λ t. eventsBytes (t .events)) old x
   pub game : newGame ≡ told (λ t. matchNumbers (t .game)) oldGame x
-
--- where the body query's part lies in the caller's image
-pub record FlatBody (w : List ℕ) (i : ℕ) (part : List ℕ) (r : ℕ) : Type 0 where
-  pub refusal : r ≡ 0
-  pub start-len : part ≡ startAsked w i ∷ length (bodyAsked w i) ∷ []
-  pub words : take (length (bodyAsked w i)) (drop (startAsked w i) w) ≡ bodyAsked w i

@@ -1,8 +1,8 @@
 // The calls on a match book: one is written, a page of it is found.
-use crate::tells::tell_words;
 use contents::PageFound;
 use flat::refusal_number;
 use flat::setting_in;
+use telling::tell_words;
 ghost use lib.ListN.{length};
 ghost use Rattle.book.specs.Calls.{writeSays, pageSays};
 ghost use Rattle.flat.specs.Flat.{settingIn};

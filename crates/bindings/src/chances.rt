@@ -1,7 +1,7 @@
 // The calls on chance: count, draw, rank, the index of a unit number.
-use crate::tells::tell_number;
 use flat::refusal_number;
 use rules::Answer;
+use telling::tell_number;
 ghost use lib.ListN.{length};
 ghost use Rattle.rules.specs.Calls.{countSays, drawSays, rankSays};
 ghost use Rattle.unit.specs.Calls.{outcomeSays};

@@ -5,7 +5,6 @@ mod books;
 mod chances;
 mod games;
 mod matches;
-mod tells;
 mod views;
 
 pub use books::lundaspro_flat_page;

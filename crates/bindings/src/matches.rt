@@ -1,17 +1,15 @@
 // The calls that start a match and move it on, and those on an image alone.
-use crate::tells::tell_words;
 use flat::bit;
 use flat::events_bytes;
 use flat::hits_words;
 use flat::refusal_number;
 use flat::setting_in;
-use layout::length_at;
-use layout::start_at;
 use rules::Answer;
 use rules::Verdict;
+use telling::tell_body;
+use telling::tell_words;
 ghost use mathlib.Core.Path.{_≡_};
 ghost use lib.ListN.{length};
-ghost use Rattle.rules.specs.Facts.{Sound};
 ghost use Rattle.rules.specs.Image.{imageOf};
 ghost use Rattle.rules.specs.Calls.{settingSays, imageSays, initialSays, stepSays, struckSays};
 ghost use Rattle.flat.specs.Flat.{settingIn, hitsWords};
@@ -39,22 +37,6 @@ pub extern "C" fn lundaspro_flat_body(image: &[u16], snake: u64, part: &mut [u64
         return 0;
     }
     tell_body(image, snake, part)
-}
-
-// The same in a checked image.
-fn tell_body(image: &[u16], snake: u64, part: &mut [u64; 2]) -> u64
-    requires { ⌜ Sound (now image) ⌝ }
-    ensures { λ r. ⌜ FlatBody (now (image .entry)) snake (now (part .exit)) r ⌝ }
-{
-    if image[0] as u64 <= snake {
-        *part = [0, 0];
-        return 0;
-    }
-    let i = snake as usize;
-    let start = image[start_at(i)] as u64;
-    let len = image[length_at(i)] as u64;
-    *part = [start, len];
-    0
 }
 
 // Refusals 1 to 12.

@@ -1,5 +1,4 @@
 // The calls on what an agent sees, may do and gets.
-use crate::tells::tell_words;
 use flat::event_bytes;
 use flat::event_in;
 use flat::grid_in;
@@ -12,6 +11,7 @@ use rules::LengthCell;
 use rules::Reward;
 use rules::Space;
 use rules::Truncated;
+use telling::tell_words;
 ghost use mathlib.Core.Path.{_≡_};
 ghost use lib.ListN.{length};
 ghost use Rattle.rules.specs.Headings.{numberOf, headingOf, actionOf, turned};

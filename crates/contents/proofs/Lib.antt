@@ -1,4 +1,3 @@
-pub mod Told
 pub mod Verdicts
 pub mod Fitting
 pub mod Finding

@@ -6,21 +6,11 @@ use mathlib.Core.Path.{_≡_}
 use lib.Dec.{eqb}
 use Rattle.lists.specs.Below.{allBelow}
 use Rattle.rules.specs.Tables.{noneHold}
-use Rattle.rules.specs.Image.{word}
 use Rattle.rules.specs.Setting.{settingCheck}
-use Rattle.contents.specs.Settings.{pairAt, limitOff, settingIn}
+use Rattle.contents.specs.Settings.{limitOff, settingIn}
 use Rattle.contents.specs.Contents.{startIn, endIn}
 use Rattle.contents.specs.Orders.{layoutRows, rises, startRows, contentsOrder}
-
--- ---- numbers, and how large they can be
-
-pub record Word (b : List ℕ) (k r : ℕ) : Type 0 where
-  pub value : r ≡ word b k
-  pub small : r < 65536
-
-pub record Pair (b : List ℕ) (k r : ℕ) : Type 0 where
-  pub value : r ≡ pairAt b k
-  pub small : r < 4294967296
+pub use Rattle.book_words.specs.Read.{Word, Pair}
 
 -- ---- tests
 

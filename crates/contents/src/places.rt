@@ -1,8 +1,8 @@
 // Where a page lies in its book, by the contents alone: 40, 41, or from its start to the next one. `contents` is the front of a book of `words` words.
 use crate::PageFound;
 use crate::tests::accepted;
-use crate::words::pair;
-use crate::words::word;
+use book_words::pair;
+use book_words::word;
 ghost use Prim.Native.Nat.{_<_};
 ghost use Rattle.contents.specs.Contents.{pagesIn};
 ghost use Rattle.contents.specs.Accepted.{Accepted};

@@ -1,8 +1,8 @@
 // Refusal 40: whether a book's contents are accepted, in one pass over them. `contents` is the front of a book of `words` words, and may be all of it.
-use crate::settings::setting_in;
-use crate::words::four;
-use crate::words::pair;
-use crate::words::word;
+use book_words::four;
+use book_words::pair;
+use book_words::setting_in;
+use book_words::word;
 use rules::Verdict;
 ghost use Prim.Native.Nat.{_+_, _*_, _<_, _≤_};
 ghost use lib.ListN.{length};

@@ -1,14 +1,14 @@
 // The faults of an image whose contents are in range, in their order: 52 and 53, then 54, then 55 and 56.
-use crate::cells::first_beyond;
-use crate::cells::first_fall;
-use crate::cells::first_twice;
-use crate::cells::twice_at;
-use crate::contents::first_start;
 use lists::smaller;
 use refusals::by_word;
 use rules::Refusal;
 use wellformed::cells_fit;
 use wellformed::laid_out;
+use wrong_cells::first_beyond;
+use wrong_cells::first_fall;
+use wrong_cells::first_twice;
+use wrong_cells::twice_at;
+use wrong_contents::first_start;
 ghost use mathlib.Core.Path.{_≡_};
 ghost use Rattle.rules.specs.Image.{foodStart};
 ghost use Rattle.rules.specs.Promises.{Faulty};

@@ -1,18 +1,16 @@
 // What is wrong with an image, and where: the first of the seven faults, 50 to 56, and the first word that shows it. It is looked for only where the
 // check has failed, so that a well-formed image costs the check alone.
-mod cells;
-mod contents;
 mod layout_faults;
 
-use contents::contents_out;
-use contents::cut_short;
-use contents::first_record;
-use contents::record_out;
 use layout_faults::layout_fault;
 use refusals::by_word;
 use rules::Refusal;
 use rules::Verdict;
 use wellformed::contents_fit;
+use wrong_contents::contents_out;
+use wrong_contents::cut_short;
+use wrong_contents::first_record;
+use wrong_contents::record_out;
 ghost use Rattle.rules.specs.Promises.{Examines, Faulty};
 ghost use Rattle.faults.specs.Past.{Counted};
 

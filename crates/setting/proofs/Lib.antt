@@ -1,4 +1,4 @@
-pub mod Judging
+pub mod Halves
 pub mod Written
 pub mod Starting
 pub mod Differing

@@ -34,7 +34,7 @@ use Rattle.rules.proofs.Facts.{square-le}
 use Rattle.rules.proofs.InitialFacts.{cells-long, start-image}
 use Rattle.rules.proofs.SettingFacts.{accepts}
 use Rattle.setting.specs.Starts.{Startable, Room}
-use Rattle.setting.specs.Tested.{Tested}
+use Rattle.placed.specs.Tested.{Tested}
 
 module _ (s : Setting) (old : List ℕ) where
   refused : (new : List ℕ) (r : Answer) (k : ℕ) → initialSays s (length old) ≡ refuses (by k) → new ≡ old → r ≡ Refused (by k) → Starts s old new r

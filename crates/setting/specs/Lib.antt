@@ -1,3 +1,2 @@
-pub mod Tested
-pub mod Crowds
 pub mod Starts
+pub mod Verdicts

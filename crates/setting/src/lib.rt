@@ -1,15 +1,13 @@
 // The check of a setting (refusals 1 to 12 without 7), whether an image is of another one (21), and the initial state.
 mod images;
-mod limits;
-mod place;
 mod start;
 
+use bounds::limits;
+use bounds::side_of;
 pub use images::differs;
 use layout::front;
-use limits::limits;
-use limits::side_of;
-use place::place_check;
-use place::place_number;
+use placed::place_check;
+use placed::place_number;
 use rules::Answer;
 use rules::Setting;
 use rules::Verdict;
@@ -20,7 +18,8 @@ ghost use Rattle.rules.specs.Setting.{settingCheck};
 ghost use Rattle.rules.specs.SettingParts.{startCells};
 ghost use Rattle.rules.specs.Promises.{Validates, Starts};
 ghost use Rattle.setting.specs.Starts.{Startable};
-ghost use Rattle.setting.specs.Tested.{Tested, Verdicts};
+ghost use Rattle.placed.specs.Tested.{Tested};
+ghost use Rattle.setting.specs.Verdicts.{Verdicts};
 
 // 0 where the setting is accepted, and then the cells of all bodies stand at the front of `cells`.
 fn check(setting: Setting, cells: &mut [u16]) -> u8

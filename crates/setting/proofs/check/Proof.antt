@@ -1,8 +1,8 @@
--- `setting::check` meets its contract: the first half's number where it is not 0, else the second half's, which asks that the first found nothing (`Judging`).
+-- `setting::check` meets its contract: the first half's number where it is not 0, else the second half's, which asks that the first found nothing (`Halves`).
 -- Assumes nothing.
 use borrow.Author.Needs.{needs}
 use Rattle.rules.proofs.SettingParts.{limited-by}
-use Rattle.setting.proofs.Judging.{judge-first, judge-second}
+use Rattle.setting.proofs.Halves.{judge-first, judge-second}
 use Rattle.setting.proofs.check.Statement.{statement}
 use Rattle.setting.proofs.check.Tie as tie
 

@@ -1,7 +1,7 @@
 -- `bindings::lundaspro_flat_body` meets its contract: a malformed image has no part, a sound one is asked (`Lying`). Assumes nothing.
 use borrow.Author.Needs.{needs}
 use Rattle.rules.proofs.Facts.{passed}
-use Rattle.bindings.proofs.Lying.{malformed}
+use Rattle.telling.proofs.Lying.{malformed}
 use Rattle.bindings.proofs.matches.lundaspro_flat_body.Statement.{statement}
 use Rattle.bindings.proofs.matches.lundaspro_flat_body.Tie as tie
 
