@@ -2,9 +2,7 @@
 // named. `replay.mjs` has the match's calls.
 import { readFileSync } from 'node:fs';
 import { load } from './lundaspro.mjs';
-import { replay } from './replay.mjs';
+import { linesOf, replay } from './replay.mjs';
 
 const match = process.argv[2] ?? new URL('../../examples/first-match.txt', import.meta.url);
-const lines = readFileSync(match, 'latin1').split('\n');
-if (lines.at(-1) === '') lines.pop(); // the last newline is optional
-for (const line of replay(await load(), lines)) console.log(line);
+for (const line of replay(await load(), linesOf(readFileSync(match, 'latin1')))) console.log(line);

@@ -574,8 +574,6 @@ export class Arena {
 
 // ---- loading
 
-const DIST = new URL('../../dist/lundaspro.wasm', import.meta.url);
-
 // Node's `fetch` reads no files: there a path or a file's URL is read from the file system.
 async function bytesOf(source) {
     const inNode = typeof process !== 'undefined' && process.versions?.node !== undefined;
@@ -587,7 +585,7 @@ async function bytesOf(source) {
 }
 
 // The instance of a WebAssembly file: its bytes (an ArrayBuffer or a typed array), a WebAssembly.Module, a URL or, in Node, a path.
-export async function instantiate(source = DIST) {
+export async function instantiate(source = new URL('../../dist/lundaspro.wasm', import.meta.url)) {
     if (source instanceof WebAssembly.Module) return WebAssembly.instantiate(source);
     const isBytes = source instanceof ArrayBuffer || ArrayBuffer.isView(source);
     return (await WebAssembly.instantiate(isBytes ? source : await bytesOf(source))).instance;

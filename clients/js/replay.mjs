@@ -1,5 +1,5 @@
-// A match replayed through the library, as a server plays it: the setting, the image and the match are all that is kept from line to line. Each line that
-// ./play prints is given in turn; a refusal is the last one.
+// A match replayed through the library, as a server plays it: the setting, the image and the match are all that is kept from line to line. `turns` gives each
+// state in turn and throws a refusal, `replay` each line that ./play prints; there a refusal is the last one.
 import { new_match, Refusal } from './lundaspro.mjs';
 
 // ---- the match's lines: at most 200 bytes, single spaces, decimals below 2^64 without leading zeros
@@ -45,7 +45,7 @@ function letters(e) {
 }
 
 // Words 0 to 4 of an image are snakes, side, food due, birth, food count; then four words for each snake, the last one whether it lives.
-function shown(arena, letter, terminal, image, events) {
+export function shown(arena, { letter, terminal, image, events }) {
     const snakes = Array.from({ length: image[0] }, (_, i) => {
         const body = arena.body(image, i);
         return `${image[8 + 4 * i]}:${body.length}:${body[0] ?? '-'}:${events ? letters(events[i]) : '-'}`;
@@ -55,30 +55,42 @@ function shown(arena, letter, terminal, image, events) {
 
 // ---- the match
 
-function* played(arena, lines) {
+// The lines of a text; the last newline is optional.
+export function linesOf(text) {
+    const lines = text.split('\n');
+    if (lines.at(-1) === '') lines.pop();
+    return lines;
+}
+
+// Each state with its line's letter and what the line said, the match after it and, of a move, its events.
+export function* turns(arena, lines) {
     const setting = settingOf(lines[0] ?? '');
     let image = arena.initial_state(setting);
     let match = new_match();
-    yield shown(arena, 'i', false, image);
+    yield { letter: 'i', terminal: false, image, events: null, setting, match };
     for (const line of lines.slice(1)) {
         if (match.over) throw new Refusal(33);
-        const { index, actions } = turnOf(line, setting.num_snakes);
-        if (index !== undefined) {
-            image = arena.draw(image, index).next;
-            yield shown(arena, 'd', false, image);
+        const turn = turnOf(line, setting.num_snakes);
+        if (turn.index !== undefined) {
+            image = arena.draw(image, turn.index).next;
+            yield { letter: 'd', terminal: false, image, events: null, setting, match, ...turn };
             continue;
         }
-        const step = arena.step(setting, image, actions);
+        const step = arena.step(setting, image, turn.actions);
         const taken = arena.take_move(setting, match, step);
         [image, match] = [step.next, taken.match];
-        yield shown(arena, 'm', step.terminal, image, taken.events);
+        yield { letter: 'm', terminal: step.terminal, image, events: taken.events, setting, match, ...turn };
     }
-    yield ['p', ...arena.places(setting, match)].join(' ');
 }
 
 export function* replay(arena, lines) {
     try {
-        yield* played(arena, lines);
+        let last;
+        for (const turn of turns(arena, lines)) {
+            yield shown(arena, turn);
+            last = turn;
+        }
+        yield ['p', ...arena.places(last.setting, last.match)].join(' ');
     } catch (error) {
         if (!(error instanceof Refusal)) throw error;
         yield `r ${error.number}`;
