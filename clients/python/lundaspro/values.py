@@ -1,0 +1,44 @@
+"""What a caller hands over, as the library's numbers: what is no value of its type never reaches the library."""
+
+from __future__ import annotations
+
+import operator
+from typing import Any
+
+
+def unsigned(value: Any, name: str) -> int:
+    """A whole number from 0 to 2^64 - 1.
+
+    >>> unsigned(-1, "index")
+    Traceback (most recent call last):
+    ValueError: index: -1 is not from 0 to 2^64 - 1
+    """
+    number = whole(value, name)
+    if not 0 <= number < 1 << 64:
+        raise ValueError(f"{name}: {number} is not from 0 to 2^64 - 1")
+    return number
+
+
+def whole(value: Any, name: str) -> int:
+    """A whole number, numpy's too.
+
+    >>> whole(0.5, "grid_size")
+    Traceback (most recent call last):
+    TypeError: grid_size: a whole number is wanted, not 0.5
+    """
+    try:
+        return operator.index(value)
+    except TypeError:
+        raise TypeError(f"{name}: a whole number is wanted, not {value!r}") from None
+
+
+def flag(value: Any, name: str) -> bool:
+    """True or False, and nothing else.
+
+    >>> flag(0, "died")
+    Traceback (most recent call last):
+    TypeError: died: True or False is wanted, not 0
+    """
+    if value is True or value is False:
+        return bool(value)
+    raise TypeError(f"{name}: True or False is wanted, not {value!r}")
