@@ -17,10 +17,13 @@ value of its type at all, as half a snake, as a TypeError or ValueError before t
 
 from . import lend
 from .book import Book
+from .checks import Verdict, check_collisions, check_draw, check_picture
+from .environment import Environment
 from .event import Cause, Event, Weights, reward
 from .heading import Action, Heading, relative_to_absolute
 from .lend import Hit
 from .match import Ending, Match
+from .matches import Matches, Moved
 from .refusal import SENTENCES, Refusal
 from .setting import Setting
 from .space import action_space, observation_space
@@ -34,19 +37,26 @@ __all__ = [
     "Cause",
     "Draw",
     "Ending",
+    "Environment",
     "Event",
     "Generator",
     "Heading",
     "Hit",
     "Match",
+    "Matches",
+    "Moved",
     "Refusal",
     "SENTENCES",
     "Setting",
     "Snake",
     "State",
     "Step",
+    "Verdict",
     "Weights",
     "action_space",
+    "check_collisions",
+    "check_draw",
+    "check_picture",
     "draw_by",
     "lend",
     "observation_space",

@@ -2,13 +2,13 @@
 
 from __future__ import annotations
 
-import ctypes
+import struct
 from dataclasses import dataclass, fields
 from enum import IntEnum
-from functools import lru_cache
+from functools import cached_property, lru_cache
 
-from .library import Double, EventBytes, check, flat
-from .values import flag
+from .library import Double, check, flat
+from .values import flag, real
 
 
 class Cause(IntEnum):
@@ -43,6 +43,14 @@ class Event:
     drew: bool = False
     survived_to_max_ticks: bool = False
 
+    def __post_init__(self) -> None:
+        self._bytes  # a value of the wrong type is told at once
+
+    # as the exported calls take it
+    @cached_property
+    def _bytes(self) -> bytes:
+        return bytes(_byte(field.name, getattr(self, field.name)) for field in fields(self))
+
     @staticmethod
     @lru_cache(maxsize=None)
     def from_bytes(told: bytes) -> Event:
@@ -55,7 +63,7 @@ class Event:
         return Event(ate != 0, died != 0, Cause(cause) if 1 <= cause <= 4 else None, killed != 0, won != 0, lost != 0, drew != 0, survived != 0)
 
     def __bytes__(self) -> bytes:
-        return bytes(_byte(field.name, getattr(self, field.name)) for field in fields(self))
+        return self._bytes
 
     def __str__(self) -> str:
         shown = [
@@ -92,8 +100,13 @@ class Weights:
     win: float = 0.0
     survival: float = 0.0
 
+    def __post_init__(self) -> None:
+        self._numbers  # a value of the wrong type is told at once
 
-_WeightNumbers = ctypes.c_double * 7
+    # as the exported calls take them
+    @cached_property
+    def _numbers(self) -> bytes:
+        return struct.pack("7d", *(real(getattr(self, field.name), field.name) for field in fields(self)))
 
 
 def reward(weights: Weights, event: Event) -> float:
@@ -102,7 +115,6 @@ def reward(weights: Weights, event: Event) -> float:
     >>> reward(Weights(step=-0.5, draw=0.25), Event(died=True, death_cause=Cause.Wall, drew=True))
     -0.25
     """
-    numbers = _WeightNumbers(*(getattr(weights, field.name) for field in fields(weights)))
     total = Double()
-    check(flat.reward(numbers, EventBytes(*bytes(event)), total))
+    check(flat.reward(weights._numbers, bytes(event), total))
     return total[0]

@@ -261,7 +261,7 @@ def truncation(image: Image, agent: int, event: Event) -> Event:
     'ay'
     """
     marked = EventBytes()
-    check(flat.truncation(*read(image), unsigned(agent, "agent"), EventBytes(*bytes(event)), marked))
+    check(flat.truncation(*read(image), unsigned(agent, "agent"), bytes(event), marked))
     return Event.from_bytes(bytes(marked))
 
 

@@ -80,7 +80,7 @@ class Match:
         lundaspro.refusal.Refusal: refusal 33: match over
         """
         told = b"".join(map(bytes, step.events)).ljust(EVENT_BYTES * SNAKES, b"\0")
-        events, numbers = Events(*told), self._numbers()
+        events, numbers = Events.from_buffer_copy(told), self._numbers()
         check(flat.take_move(setting._numbers, flag(step.terminal, "terminal"), *lend.read(bytes(step.next)), events, numbers))
         marked = bytes(events)
         shown = tuple(Event.from_bytes(marked[at : at + EVENT_BYTES]) for at in range(0, EVENT_BYTES * len(step.events), EVENT_BYTES))

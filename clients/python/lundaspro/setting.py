@@ -2,15 +2,14 @@
 
 from __future__ import annotations
 
-import ctypes
+import struct
 from dataclasses import dataclass
+from functools import cached_property
 
 from . import lend
 from .library import check, flat
 from .state import State
 from .values import flag, unsigned, whole
-
-_Numbers = ctypes.c_uint64 * 9
 
 
 @dataclass(frozen=True)
@@ -34,21 +33,21 @@ class Setting:
     max_ticks: int | None = None
 
     def __post_init__(self) -> None:
-        lead, ticks = (_limit(getattr(self, name), name) for name in ("win_food_lead", "max_ticks"))
-        numbers = _Numbers(
+        self._numbers  # a value of the wrong type is told at once
+
+    # as the exported calls take it
+    @cached_property
+    def _numbers(self) -> bytes:
+        return struct.pack(
+            "9Q",
             unsigned(self.num_snakes, "num_snakes"),
             grid_number(self.grid_size),
             unsigned(self.initial_length, "initial_length"),
             flag(self.play_to_last, "play_to_last"),
-            *lead,
+            *_limit(self.win_food_lead, "win_food_lead"),
             unsigned(self.initial_food_count, "initial_food_count"),
-            *ticks,
+            *_limit(self.max_ticks, "max_ticks"),
         )
-        # as the exported calls take it
-        object.__setattr__(self, "_numbers", numbers)
-
-    def __reduce__(self) -> tuple[object, ...]:
-        return Setting, tuple(getattr(self, name) for name in self.__dataclass_fields__)
 
     def validate(self) -> None:
         """Nothing, or refusals 1 to 12.

@@ -125,7 +125,8 @@ class State:
     def __setattr__(self, name: str, value: Any) -> None:
         raise AttributeError("a state never changes")
 
-    __delattr__ = __setattr__  # type: ignore[assignment]
+    def __delattr__(self, name: str) -> None:
+        raise AttributeError("a state never changes")
 
     def __reduce__(self) -> tuple[Any, ...]:
         return State.from_bytes, (self._data,)

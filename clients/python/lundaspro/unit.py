@@ -6,7 +6,7 @@ from typing import Protocol
 
 from .library import Long, check, flat
 from .state import Draw, State
-from .values import unsigned
+from .values import real, unsigned
 
 
 class Generator(Protocol):
@@ -27,7 +27,7 @@ def outcome_of(count: int, u: float) -> int:
     1
     """
     index = Long()
-    check(flat.outcome_of(unsigned(count, "count"), u, index))
+    check(flat.outcome_of(unsigned(count, "count"), real(u, "u"), index))
     return index[0]
 
 

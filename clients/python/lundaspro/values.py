@@ -2,6 +2,7 @@
 
 from __future__ import annotations
 
+import numbers
 import operator
 from typing import Any
 
@@ -42,3 +43,15 @@ def flag(value: Any, name: str) -> bool:
     if value is True or value is False:
         return bool(value)
     raise TypeError(f"{name}: True or False is wanted, not {value!r}")
+
+
+def real(value: Any, name: str) -> float:
+    """A number, numpy's too.
+
+    >>> real("0.5", "u")
+    Traceback (most recent call last):
+    TypeError: u: a number is wanted, not '0.5'
+    """
+    if isinstance(value, numbers.Real):
+        return float(value)
+    raise TypeError(f"{name}: a number is wanted, not {value!r}")
