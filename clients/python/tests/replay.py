@@ -1,4 +1,4 @@
-"""A match replayed through the library, as a server plays it: the setting, the state and the match are all that is kept from line to line."""
+"""replay.py MATCH: a match replayed through the library, as a server plays it: setting, state and match are all that is kept from line to line."""
 
 from __future__ import annotations
 
@@ -74,3 +74,12 @@ def replay(lines: list[str]) -> Iterator[str]:
         yield from _played(lines)
     except Refusal as refusal:
         yield f"r {refusal.number}"
+
+
+if __name__ == "__main__":
+    import sys
+
+    with open(sys.argv[1], encoding="latin-1", newline="\n") as match:
+        # the last newline is optional
+        for shown in replay(match.read().removesuffix("\n").split("\n")):
+            print(shown)
