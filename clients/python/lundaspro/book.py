@@ -118,7 +118,9 @@ class Book(Sequence[State]):
         return self._words.tobytes()
 
     def __eq__(self, other: object) -> bool:
-        return bool(np.array_equal(self._words, other._words)) if isinstance(other, Book) else NotImplemented
+        if not isinstance(other, Book):
+            return NotImplemented
+        return bool(np.array_equal(self._words, other._words))
 
     def __hash__(self) -> int:
         return hash(bytes(self))

@@ -73,17 +73,30 @@ class Environment:
 
     @property
     def num_agents(self) -> int:
-        """How many agents act."""
+        """How many agents act.
+
+        >>> Environment(Setting(2, 3, 1)).num_agents
+        0
+        """
         return len(self.agents)
 
     @property
     def max_num_agents(self) -> int:
-        """How many act at the start."""
+        """How many act at the start.
+
+        >>> Environment(Setting(2, 3, 1)).max_num_agents
+        2
+        """
         return len(self.possible_agents)
 
     @property
     def unwrapped(self) -> Environment:
-        """Itself."""
+        """Itself.
+
+        >>> env = Environment(Setting(2, 3, 1))
+        >>> env.unwrapped is env
+        True
+        """
         return self
 
     @property
@@ -181,4 +194,7 @@ class Environment:
         return str(self.state_now) if self.render_mode == "ansi" else None
 
     def close(self) -> None:
-        """Nothing is held open."""
+        """Nothing is held open.
+
+        >>> Environment(Setting(2, 3, 1)).close()
+        """

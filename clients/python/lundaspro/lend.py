@@ -74,7 +74,7 @@ def read(image: Image, name: str = "image") -> tuple[Any, int]:
     return array.ctypes.data, array.size
 
 
-_PLACES = {np.uint16: ctypes.c_uint16 * 0, np.float32: ctypes.c_float * 0}
+_PLACES: dict[type, Any] = {np.uint16: ctypes.c_uint16 * 0, np.float32: ctypes.c_float * 0}
 
 
 def written(array: Any, kind: type = np.uint16, name: str = "out") -> tuple[Any, int]:

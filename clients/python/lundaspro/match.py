@@ -62,7 +62,11 @@ class Match:
 
     @property
     def ending(self) -> Ending | None:
-        """What it is over by; None while it goes on."""
+        """What it is over by; None while it goes on.
+
+        >>> Match(over=True).ending.name, Match().ending
+        ('Deaths', None)
+        """
         if not self.over:
             return None
         if self.timeout:

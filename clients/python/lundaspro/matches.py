@@ -77,32 +77,61 @@ class Matches:
         return len(self._lengths)
 
     def __getitem__(self, match: int) -> State:
-        """The state of a match."""
+        """The state of a match.
+
+        >>> from lundaspro import Setting
+        >>> Matches(Setting(2, 3, 1), 4, np.random.default_rng(1))[-1].num_snakes
+        2
+        """
         number = range(len(self))[match]
         return State._of(self._words[self._side[number], number], self._lengths[number])
 
-    # a word of each match's image, or several
-    def _word(self, at: Any) -> Any:
-        return self._words[self._side, np.arange(len(self)), at]
+    # a word of each match's image
+    def _word(self, at: int) -> npt.NDArray[np.uint16]:
+        words: npt.NDArray[np.uint16] = self._words[self._side, np.arange(len(self)), at]
+        return words
 
     @property
     def alive(self) -> npt.NDArray[np.bool_]:
-        """For each match and snake, whether it lives."""
-        records = 8 + 4 * np.arange(self.setting.num_snakes)
-        return np.stack([self._word(at) for at in records], axis=1) != 0
+        """For each match and snake, whether it lives.
+
+        >>> from lundaspro import Setting
+        >>> Matches(Setting(2, 3, 1), 1, np.random.default_rng(1)).alive.tolist()
+        [[True, True]]
+        """
+        words = [self._word(8 + 4 * snake) for snake in range(self.setting.num_snakes)]
+        return np.stack(words, axis=1).astype(bool)
 
     @property
     def moves(self) -> npt.NDArray[np.uint64]:
-        """For each match, how many moves were made."""
+        """For each match, how many moves were made.
+
+        >>> from lundaspro import Setting
+        >>> Matches(Setting(2, 3, 1), 2, np.random.default_rng(1)).moves.tolist()
+        [0, 0]
+        """
         return self._matches[:, 0].copy()
 
     @property
     def over(self) -> npt.NDArray[np.bool_]:
-        """For each match, whether it is over."""
-        return self._matches[:, 1] != 0
+        """For each match, whether it is over.
+
+        >>> from lundaspro import Setting
+        >>> Matches(Setting(2, 3, 1), 2, np.random.default_rng(1)).over.tolist()
+        [False, False]
+        """
+        return self._matches[:, 1].astype(bool)
 
     def restart(self, which: npt.NDArray[np.bool_]) -> None:
-        """Begins these matches anew, one flag for each."""
+        """Begins these matches anew, one flag for each.
+
+        >>> from lundaspro import Setting
+        >>> matches = Matches(Setting(2, 3, 1), 2, np.random.default_rng(1))
+        >>> _ = matches.step([[0, 0], [0, 0]])
+        >>> matches.restart(np.array([True, False]))
+        >>> matches.moves.tolist()
+        [0, 1]
+        """
         chosen = np.flatnonzero(which)
         self._words[self._side[chosen], chosen, : len(self._start)] = self._start
         self._matches[chosen] = 0
@@ -111,7 +140,13 @@ class Matches:
         self._draw(chosen.tolist())
 
     def step(self, actions: npt.ArrayLike) -> Moved:
-        """One move of every match that is not over; of those nothing changes, and their rewards and events are 0. A refusal, 25, leaves all as they were."""
+        """One move of every match that is not over; of the others nothing changes, and their rewards and events are 0. A refusal, 25, leaves all as they were.
+
+        >>> from lundaspro import Setting
+        >>> matches = Matches(Setting(2, 3, 1, max_ticks=1), 2, np.random.default_rng(1))
+        >>> matches.step([[0, 0], [0, 0]]).timeout.tolist()
+        [True, True]
+        """
         moves = self._actions(actions)
         playing = np.flatnonzero(~self.over).tolist()
         here, there = self._here(playing), self._there(playing)
@@ -129,10 +164,15 @@ class Matches:
         shown = self._events.reshape(len(self), SNAKES, EVENT_BYTES)[:, :snakes].copy()
         rewards = self._rewards[shown @ _CODE]
         rewards[self._idle(playing)] = 0.0
-        return Moved(rewards, shown, self.over, self._matches[:, 2] != 0)
+        return Moved(rewards, shown, self.over, self._matches[:, 2].astype(bool))
 
     def observe(self, out: Planes | None = None) -> Planes:
-        """What every snake of every match sees, matches by snakes by five planes; with `out`, an array of that shape in one piece, written there."""
+        """What every snake of every match sees, matches by snakes by five planes; with `out`, an array of that shape in one piece, written there.
+
+        >>> from lundaspro import Setting
+        >>> Matches(Setting(2, 3, 1), 4, np.random.default_rng(1)).observe().shape
+        (4, 2, 5, 3, 3)
+        """
         snakes, side = self.setting.num_snakes, self.setting.grid_size
         shape = (len(self), snakes, 5, side, side)
         seen = np.empty(shape, np.float32) if out is None else out

@@ -10,9 +10,11 @@ from .library import Floats2, Longs5, check, flat
 from .setting import grid_number
 
 try:
-    from gymnasium.spaces import Box, Discrete  # type: ignore[import-not-found]
+    from gymnasium.spaces import Box, Discrete  # type: ignore
 except ImportError:
     from .small_spaces import Box, Discrete
+
+__all__ = ["Box", "Discrete", "action_space", "observation_space"]
 
 
 def _asked(call: Any, *arguments: int) -> tuple[list[int], list[float]]:

@@ -37,7 +37,11 @@ class Snake(NamedTuple):
 
     @property
     def head(self) -> int | None:
-        """Its first cell; a dead one may have none."""
+        """Its first cell; a dead one may have none.
+
+        >>> Snake(body=(), heading=Heading.Up, alive=False).head is None
+        True
+        """
         return self.body[0] if self.body else None
 
 
@@ -135,7 +139,9 @@ class State:
         return self._data
 
     def __eq__(self, other: object) -> bool:
-        return self._data == other._data if isinstance(other, State) else NotImplemented
+        if not isinstance(other, State):
+            return NotImplemented
+        return self._data == other._data
 
     def __hash__(self) -> int:
         return hash(self._data)
@@ -164,17 +170,32 @@ class State:
 
     @property
     def num_snakes(self) -> int:
-        """How many snakes play, dead ones included."""
+        """How many snakes play, dead ones included.
+
+        >>> from lundaspro import Setting
+        >>> Setting(num_snakes=2, grid_size=3, initial_length=1).initial_state().num_snakes
+        2
+        """
         return self._words[0]
 
     @property
     def grid_size(self) -> int:
-        """The side g of the grid; a cell is row * g + column."""
+        """The side g of the grid; a cell is row * g + column.
+
+        >>> from lundaspro import Setting
+        >>> Setting(num_snakes=2, grid_size=3, initial_length=1).initial_state().grid_size
+        3
+        """
         return self._words[1]
 
     @property
     def due(self) -> int:
-        """How many apples are to be drawn before the next step."""
+        """How many apples are to be drawn before the next step.
+
+        >>> from lundaspro import Setting
+        >>> Setting(num_snakes=2, grid_size=3, initial_length=1, initial_food_count=2).initial_state().due
+        2
+        """
         return self._words[2]
 
     @property

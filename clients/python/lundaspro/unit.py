@@ -17,7 +17,12 @@ class Generator(Protocol):
     """
 
     def random(self) -> float:
-        """The next one."""
+        """The next one.
+
+        >>> import random
+        >>> 0 <= random.Random(1).random() < 1
+        True
+        """
 
 
 def outcome_of(count: int, u: float) -> int:

@@ -1,6 +1,6 @@
 """probe.py <CALLS: the lines of docs/PROBE.md on the Python client, so that it is held against the Rust as the program `probe` is.
 
-`!` comes where a lent array has changed beyond the answer, or an array that is only read at all.
+`!` comes where a lent array has changed beyond the answer, or an array that is only read at all; both with eight elements before and behind.
 """
 
 from __future__ import annotations
@@ -93,14 +93,31 @@ class Fields:
         return struct.unpack("<d", struct.pack("<Q", self.number()))[0]
 
 
-# ---- what is lent: filled with the pattern and looked through from the answer's end on; what is read is looked through whole
+# ---- what is lent: filled with the pattern and looked through but for the answer's part; what is read is looked through whole
 
-lent: list[tuple[Any, Any, int]] = []
+GUARD = 8
+
+
+class Lent:
+    def __init__(self, array: Any) -> None:
+        guard = np.full(GUARD, PATTERN).astype(array.dtype)
+        self.whole = np.concatenate([guard, array, guard])
+        self.before = self.whole.copy()
+        self.array = self.whole[GUARD : GUARD + len(array)]
+        self.answered = 0
+
+    def is_kept(self) -> bool:
+        same = self.whole == self.before
+        same[GUARD : GUARD + self.answered] = True
+        return bool(same.all())
+
+
+lent: list[Lent] = []
 
 
 def kept(array: Any) -> Any:
-    lent.append((array, array.copy(), 0))
-    return array
+    lent.append(Lent(array))
+    return lent[-1].array
 
 
 def lend_words(length: int) -> lend.Words:
@@ -108,8 +125,7 @@ def lend_words(length: int) -> lend.Words:
 
 
 def counted(array: Any, length: int) -> list[int]:
-    place = next(i for i, (lent_array, _, _) in enumerate(lent) if lent_array is array)
-    lent[place] = (array, lent[place][1], length)
+    next(part for part in lent if part.array is array).answered = length
     return [length, *map(int, array[:length].tolist())]
 
 
@@ -271,8 +287,7 @@ def answer(line: str) -> str:
         text = " ".join(map(str, said(line)))
     except NoCall:
         return "e"
-    same = all(np.array_equal(array[start:], before[start:]) for array, before, start in lent)
-    return text if same else f"{text} !"
+    return text if all(part.is_kept() for part in lent) else f"{text} !"
 
 
 for raw in sys.stdin.buffer:

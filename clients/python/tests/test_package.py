@@ -27,8 +27,9 @@ class Package(unittest.TestCase):
                 self.assertIn(">>>", value.__doc__, name)
             if inspect.isclass(value) and value.__module__.startswith("lundaspro"):
                 for member, method in vars(value).items():
-                    if inspect.isfunction(method) and not member.startswith("_"):
-                        self.assertTrue(method.__doc__, f"{name}.{member}")
+                    if isinstance(method, (classmethod, property, staticmethod)) or inspect.isfunction(method):
+                        if not member.startswith("_"):
+                            self.assertIn(">>>", method.__doc__ or "", f"{name}.{member}")
 
     def test_typed(self):
         from importlib.resources import files

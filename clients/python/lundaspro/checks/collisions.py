@@ -16,7 +16,7 @@ from .verdict import Verdict
 Fate = Union[Event, Cause, str, None]
 Answer = Union[Step, Sequence[Fate]]
 Stepper = Callable[[State, Setting, tuple[int, ...]], Answer]
-_Up, _Right, _Down, _Left = Heading
+_Up, _Right, _Down, _Left = Heading.Up, Heading.Right, Heading.Down, Heading.Left
 _PLAIN = "plain"
 
 
