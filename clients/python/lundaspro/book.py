@@ -121,6 +121,3 @@ class Book(Sequence[State]):
         if not isinstance(other, Book):
             return NotImplemented
         return bool(np.array_equal(self._words, other._words))
-
-    def __hash__(self) -> int:
-        return hash(bytes(self))

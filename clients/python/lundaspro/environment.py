@@ -124,8 +124,8 @@ class Environment:
             self.generator = np.random.default_rng(seed)
         self.match = Match()
         self.pages = [self.setting.initial_state()]
-        self.agents = list(self.possible_agents)
         self._draw()
+        self.agents = list(self.possible_agents)
         return self._observations(), {agent: {} for agent in self.agents}
 
     def step(self, actions: Mapping[str, int]) -> tuple[dict[str, Planes], dict[str, float], dict[str, bool], dict[str, bool], Infos]:

@@ -54,7 +54,13 @@ def room() -> Words:
     return np.empty(IMAGE_WORDS, np.uint16)
 
 
-def _typed(array: Any, kind: type, name: str) -> Any:
+def typed(array: Any, kind: type, name: str) -> Any:
+    """That array, where it is one of that kind in one piece.
+
+    >>> typed([0], np.uint16, "out")
+    Traceback (most recent call last):
+    TypeError: out: a numpy array of uint16 in one piece is wanted
+    """
     if isinstance(array, np.ndarray) and array.dtype == kind and array.flags.c_contiguous and array.flags.aligned:
         return array
     raise TypeError(f"{name}: a numpy array of {kind.__name__} in one piece is wanted")
@@ -70,7 +76,7 @@ def read(image: Image, name: str = "image") -> tuple[Any, int]:
         if len(image) % 2:
             raise ValueError(f"{name}: {len(image)} bytes are no words of two bytes")
         return image, len(image) // 2
-    array = _typed(image, np.uint16, name)
+    array = typed(image, np.uint16, name)
     return array.ctypes.data, array.size
 
 
@@ -83,7 +89,7 @@ def written(array: Any, kind: type = np.uint16, name: str = "out") -> tuple[Any,
     >>> written(room())[1]
     9253
     """
-    _typed(array, kind, name)
+    typed(array, kind, name)
     if not array.flags.writeable:
         raise TypeError(f"{name}: an array that can be written is wanted")
     # no buffer begins an empty array

@@ -75,7 +75,7 @@ def library_path() -> Path:
     if machine is None or sys.platform != "linux" or sys.byteorder != "little":
         raise ImportError(f"lundaspro has libraries for x86-64 and aarch64 Linux, and none for {platform.machine()} {sys.platform}")
     here = Path(__file__).resolve().parent
-    places = [folder / "dist" / machine / "liblundaspro.so" for folder in (here, here.parents[2])]
+    places = [folder / "dist" / machine / "liblundaspro.so" for folder in (here, here / "../../..")]
     for place in places:
         if place.is_file():
             return place

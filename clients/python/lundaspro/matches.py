@@ -149,22 +149,9 @@ class Matches:
         """
         moves = self._actions(actions)
         playing = np.flatnonzero(~self.over).tolist()
-        here, there = self._here(playing), self._there(playing)
-        lengths = [self._lengths[match] for match in playing]
-        self._events[:] = 0
-        acts, events, ends = _addresses(moves), [self._event_places[match] for match in playing], [self._end_places[match] for match in playing]
-        snakes = moves.shape[1]
-        numbers = self.setting._numbers
-        _all(map(flat.step, repeat(numbers), here, lengths, [acts[match] for match in playing], repeat(snakes), there, repeat(self._room), events, ends))
-        told = self._ends[playing].tolist()
-        self._turn(playing, [words for words, _ in told])
-        after = [words for words, _ in told]
-        _all(map(flat.take_move, repeat(numbers), [end for _, end in told], there, after, events, [self._match_places[match] for match in playing]))
-        self._draw([match for match, over in zip(playing, self._matches[playing, 1].tolist()) if not over])
-        shown = self._events.reshape(len(self), SNAKES, EVENT_BYTES)[:, :snakes].copy()
-        rewards = self._rewards[shown @ _CODE]
-        rewards[self._idle(playing)] = 0.0
-        return Moved(rewards, shown, self.over, self._matches[:, 2].astype(bool))
+        self._move(playing, moves)
+        self._draw(np.flatnonzero(~self.over).tolist())
+        return self._told(playing)
 
     def observe(self, out: Planes | None = None) -> Planes:
         """What every snake of every match sees, matches by snakes by five planes; with `out`, an array of that shape in one piece, written there.
@@ -184,6 +171,25 @@ class Matches:
         _all(map(flat.observe, everyone, lengths, list(range(snakes)) * len(self), into, repeat(5 * side * side), repeat(Long())))
         return seen
 
+    # ---- a move
+
+    def _move(self, playing: list[int], moves: npt.NDArray[np.uint64]) -> None:
+        here, there, lengths = self._here(playing), self._there(playing), _of(self._lengths, playing)
+        acts, events, ends = _of(_addresses(moves), playing), _of(self._event_places, playing), _of(self._end_places, playing)
+        self._events[:] = 0
+        numbers = repeat(self.setting._numbers)
+        _all(map(flat.step, numbers, here, lengths, acts, repeat(moves.shape[1]), there, repeat(self._room), events, ends))
+        # none is refused: these matches stand there now
+        after, terminal = self._ends[playing].T.tolist()
+        self._turn(playing, after)
+        _all(map(flat.take_move, numbers, terminal, there, after, events, _of(self._match_places, playing)))
+
+    def _told(self, playing: list[int]) -> Moved:
+        events = self._events.reshape(len(self), SNAKES, EVENT_BYTES)[:, : self.setting.num_snakes].copy()
+        rewards = np.zeros(events.shape[:2])
+        rewards[playing] = self._rewards[events[playing] @ _CODE]
+        return Moved(rewards, events, self.over, self._matches[:, 2].astype(bool))
+
     # ---- where the matches stand
 
     def _here(self, matches: Iterable[int]) -> list[int]:
@@ -200,11 +206,6 @@ class Matches:
         for match, length in zip(matches, lengths):
             self._lengths[match] = length
 
-    def _idle(self, playing: list[int]) -> npt.NDArray[np.bool_]:
-        idle = np.ones(len(self), bool)
-        idle[playing] = False
-        return idle
-
     def _actions(self, actions: npt.ArrayLike) -> npt.NDArray[np.uint64]:
         values = np.asarray(actions)
         shape = (len(self), self.setting.num_snakes)
@@ -217,7 +218,7 @@ class Matches:
     # one draw of each match in which food is due, until none is
     def _draw(self, matches: list[int]) -> None:
         while matches := [match for match, due in zip(matches, self._word(2)[matches].tolist()) if due]:
-            here, there, lengths = self._here(matches), self._there(matches), [self._lengths[match] for match in matches]
+            here, there, lengths = self._here(matches), self._there(matches), _of(self._lengths, matches)
             indices, drawn = np.empty((len(matches), 1), np.uint64), np.empty((len(matches), 2), np.uint64)
             told = _addresses(indices)
             _all(map(flat.count, here, lengths, told))
@@ -225,6 +226,10 @@ class Matches:
             cells = np.empty(LIST_WORDS, np.uint16)
             _all(map(flat.draw, here, lengths, indices[:, 0].tolist(), there, repeat(self._room), repeat(cells.ctypes.data), repeat(LIST_WORDS), _addresses(drawn)))
             self._turn(matches, drawn[:, 0].tolist())
+
+
+def _of(values: list[int], chosen: list[int]) -> list[int]:
+    return [values[match] for match in chosen]
 
 
 def _addresses(rows: npt.NDArray[Any]) -> list[int]:

@@ -101,7 +101,7 @@ class State:
     def __init__(self, words: Words | Iterable[int]) -> None:
         """Refusals 50 to 56 for what is no well-formed image."""
         values = words if isinstance(words, np.ndarray) else np.array([_word(word) for word in words], np.uint16)
-        self._keep(lend._typed(values, np.uint16, "words").tobytes())
+        self._keep(lend.typed(values, np.uint16, "words").tobytes())
 
     def _keep(self, data: bytes) -> None:
         lend.check_image(data)

@@ -6,6 +6,8 @@ import numbers
 import operator
 from typing import Any
 
+import numpy as np
+
 
 def unsigned(value: Any, name: str) -> int:
     """A whole number from 0 to 2^64 - 1.
@@ -34,13 +36,13 @@ def whole(value: Any, name: str) -> int:
 
 
 def flag(value: Any, name: str) -> bool:
-    """True or False, and nothing else.
+    """True or False, numpy's too, and nothing else.
 
     >>> flag(0, "died")
     Traceback (most recent call last):
     TypeError: died: True or False is wanted, not 0
     """
-    if value is True or value is False:
+    if isinstance(value, (bool, np.bool_)):
         return bool(value)
     raise TypeError(f"{name}: True or False is wanted, not {value!r}")
 

@@ -107,6 +107,8 @@ class Values(Case):
             twin = pickle.loads(pickle.dumps(value))
             self.assertEqual(str(twin), str(value))
         self.assertEqual(len({SETTING, copy.copy(SETTING), FED}), 2)
+        self.assertEqual(Setting(np.int64(2), np.int8(3), np.uint16(1), np.bool_(False)), SETTING)
+        self.assertEqual(reward(Weights(food=np.float32(0.5)), Event(ate_food=np.bool_(True))), 0.5)
         for cause in (None, *Cause):
             event = Event(death_cause=cause, lost=True)
             self.assertEqual(Event.from_bytes(bytes(event)), event)

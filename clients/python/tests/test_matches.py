@@ -95,6 +95,13 @@ class Many(unittest.TestCase):
         self.assertTrue(np.array_equal(out[1, 1], many[1].observe(1)))
         self.assertEqual(len(Matches(SETTINGS[0], 0, np.random.default_rng(3))), 0)
 
+    def test_all_over(self):
+        many = Matches(Setting(2, 5, 1, max_ticks=1), 3, np.random.default_rng(3), WEIGHTS)
+        self.assertEqual(many.step(np.zeros((3, 2), int)).timeout.tolist(), [True] * 3)
+        states = [many[match] for match in range(3)]
+        moved = many.step(np.zeros((3, 2), int))
+        self.assertEqual((moved.rewards.any(), moved.events.any(), [many[match] for match in range(3)]), (False, False, states))
+
 
 if __name__ == "__main__":
     unittest.main()
