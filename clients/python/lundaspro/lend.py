@@ -90,9 +90,7 @@ def written(array: Any, kind: type = np.uint16, name: str = "out") -> tuple[Any,
     9253
     """
     typed(array, kind, name)
-    if not array.flags.writeable:
-        raise TypeError(f"{name}: an array that can be written is wanted")
-    # no buffer begins an empty array
+    # what cannot be written gives no buffer: a TypeError; an empty array has none
     return (_PLACES[kind].from_buffer(array) if array.size else array.ctypes.data), array.size
 
 

@@ -76,7 +76,7 @@ class Discrete:
     def sample(self) -> np.int64:
         """One of them.
 
-        >>> Discrete(1).sample()
+        >>> int(Discrete(1).sample())
         0
         """
         return np.int64(self._generator.integers(self.n))

@@ -90,6 +90,9 @@ class Values(Case):
         self.assertIsNone(state.length_cell())
         corpses = State([3, 2, 0, 0, 1, 17, 2, 0, 0, 19, 1, 0, 1, 20, 2, 0, 1, 0, 1, 1, 3, 2, 0])
         self.assertEqual(str(corpses), "0B\ncC")
+        # where bodies lie on one cell the lower number is shown, of corpses too
+        crossed = State([4, 2, 0, 0, 0, 21, 2, 0, 1, 23, 2, 0, 1, 25, 1, 0, 0, 26, 1, 0, 0, 0, 1, 2, 1, 3, 3])
+        self.assertEqual(str(crossed), "Aa\nB2")
 
     def test_no_image(self):
         words = FED.initial_state().words

@@ -120,6 +120,18 @@ class Parallel(unittest.TestCase):
         self.assertEqual([str(info["event"]) for info in infos.values()], ["Wl", "y", "y"])
         self.assertEqual([info["place"] for info in infos.values()], [3, 1, 1])
 
+    def test_what_is_over_draws_no_more(self):
+        class Ahead:
+            # cell 12, which lies before snake 0, is the twelfth of 23 free ones
+            def random(self):
+                return 11.5 / 23
+
+        env = Environment(Setting(2, 5, 1, initial_food_count=1, max_ticks=1), generator=Ahead())
+        env.reset()
+        self.assertEqual(env.state_now.food, (12,))
+        _, _, _, _, infos = env.step({"snake_0": 0, "snake_1": 1})
+        self.assertEqual((str(infos["snake_0"]["event"]), env.state_now.due, len(env.pages)), ("ay", 1, 3))
+
     def test_actions_of_the_living_alone(self):
         env = Environment(Setting(2, 5, 1))
         with self.assertRaises(ValueError):
