@@ -94,6 +94,19 @@ def written(array: Any, kind: type = np.uint16, name: str = "out") -> tuple[Any,
     return (_PLACES[kind].from_buffer(array) if array.size else array.ctypes.data), array.size
 
 
+def apart(out: Any, *others: Any) -> None:
+    """Nothing, or a ValueError where what is written lies over another array: the library's calls are proved for memory that is apart.
+
+    >>> words = room()
+    >>> apart(words[:20], words[20:], b"")
+    >>> apart(words[:20], words[10:])
+    Traceback (most recent call last):
+    ValueError: out: it lies over another array of the call
+    """
+    if any(isinstance(other, np.ndarray) and np.may_share_memory(out, other) for other in others):
+        raise ValueError("out: it lies over another array of the call")
+
+
 def numbers(actions: Iterable[int]) -> Any:
     """The actions of a move as the library takes them.
 
@@ -148,6 +161,7 @@ def step(setting: Setting, image: Image, actions: Iterable[int], out: Words) -> 
     (15, False, ['-', '-'])
     """
     acts = numbers(actions)
+    apart(out, image)
     events, end = Events(), Longs2()
     check(flat.step(setting._numbers, *read(image), acts, len(acts), *written(out), events, end))
     told = bytes(events)
@@ -189,6 +203,8 @@ def draw(image: Image, index: int, out: Words, cells: Words) -> tuple[int, int]:
     >>> draw(bytes(start), 2, room(), room())
     (16, 1)
     """
+    apart(out, image, cells)
+    apart(cells, image)
     drawn = Longs2()
     check(flat.draw(*read(image), unsigned(index, "index"), *written(out), *written(cells, name="cells"), drawn))
     return drawn[0], drawn[1]
@@ -216,6 +232,7 @@ def observe(image: Image, agent: int, out: Planes) -> int:
     >>> observe(bytes(Setting(num_snakes=2, grid_size=3, initial_length=1).initial_state()), 0, numpy.empty(45, numpy.float32))
     45
     """
+    apart(out, image)
     numbers_written = Long()
     check(flat.observe(*read(image), unsigned(agent, "agent"), *written(out, np.float32), numbers_written))
     return numbers_written[0]
@@ -277,6 +294,7 @@ def write_book(setting: Setting, pages: int, row: Image, out: Words) -> int:
     >>> write_book(setting, 1, bytes(setting.initial_state()), room())
     34
     """
+    apart(out, row)
     count = Long()
     check(flat.write_book(setting._numbers, unsigned(pages, "pages"), *read(row, "row"), *written(out), count))
     return count[0]

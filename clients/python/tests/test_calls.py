@@ -213,6 +213,25 @@ class Lent(Case):
         self.assertEqual((words[15:].tolist(), cells.tolist()), ([9] * 5, [8] + [9] * 19))
         self.assertEqual((lend.observe(IMAGE, 0, planes), planes[45:].tolist()), (45, [9.0] * 5))
 
+    def test_what_is_written_lies_apart(self):
+        own, planes = np.concatenate([IMAGE, IMAGE]), np.zeros(50, np.float32)
+        lying = planes.view(np.uint16)[: len(DUE)]
+        lying[:] = DUE
+        before = own.copy()
+        for call in (
+            lambda: lend.step(SETTING, own[:14], [0, 0], own),
+            lambda: lend.step(SETTING, own[:14], [0, 0], own[13:]),
+            lambda: lend.draw(lying, 0, own, lying),
+            lambda: lend.draw(DUE, 0, own, own[20:]),
+            lambda: lend.draw(lying, 0, lying, own),
+            lambda: lend.observe(lying, 0, planes),
+            lambda: lend.write_book(SETTING, 1, own[:14], own),
+        ):
+            with self.assertRaises(ValueError):
+                call()
+        self.assertTrue((own == before).all() and (lying == DUE).all())
+        self.assertEqual(lend.step(SETTING, own[:14], [0, 0], own[14:])[0], 14)
+
     def test_observed_without_a_copy(self):
         state = State(IMAGE)
         seen = state.observe(0)
