@@ -12,7 +12,7 @@ export class Browser {
     #waiting = new Map();
     #listeners = [];
     #count = 0;
-    #session;
+    #tab;
     #rest = '';
 
     static async open(command = 'chromium') {
@@ -27,7 +27,7 @@ export class Browser {
         this.#process.stdio[4].setEncoding('utf8').on('data', (text) => this.#read(text));
         const { targetInfos } = await this.#send('Target.getTargets');
         const { targetId } = targetInfos.find(({ type }) => type === 'page') ?? (await this.#send('Target.createTarget', { url: 'about:blank' }));
-        this.#session = (await this.#send('Target.attachToTarget', { targetId, flatten: true })).sessionId;
+        this.#tab = (await this.#send('Target.attachToTarget', { targetId, flatten: true })).sessionId;
         for (const domain of ['Page', 'Runtime', 'Network', 'DOM', 'Log', 'Accessibility']) await this.call(`${domain}.enable`);
     }
 
@@ -50,7 +50,7 @@ export class Browser {
     }
 
     call(method, params) {
-        return this.#send(method, params, this.#session);
+        return this.#send(method, params, this.#tab);
     }
 
     // Every message of that name from here on.
