@@ -18,7 +18,7 @@ DECLARED = re.compile(r"^(\s*)((?:pub |abbrev |unfoldable |opaque )*)(record |da
 IMPORT = re.compile(r"\b(?:ghost )?use ([^\s{]+)\.\{([^}]*)\}")
 OTHER_WORDS = {"let", "use", "in", "module", "where", "--", "//", "infixr", "infixl", "infix"}
 # names that would fall together with another of the same file
-GIVEN = {"one_number": "one_number_lem", "body-to": "body_to_lem", "own-at": "own_at_lem"}
+GIVEN = {"one_number": "one_number_lem", "one_number_lem": "one_number_lem", "body-to": "body_to_lem", "own-at": "own_at_lem"}
 
 
 # what records and lemmas bind
@@ -99,7 +99,7 @@ def main():
             line = text[text.rfind("\n", 0, m.start()) + 1 : m.start()]
             path = re.match(r"\.[\w{]", text[m.end() : m.end() + 2]) or before == "." and (made or "use " in line)
             remark = re.search(r"(^|\s)(--|//)(\s|$)", line)
-            if key in turn and key not in skip and t not in skip and not path and not (remark and re.fullmatch(r"\w+", key) and key.lower() == key):
+            if key in turn and key not in skip and t not in skip and not path and not (re.fullmatch(r"[a-z0-9_]+", key) and (remark or p.endswith(".rt"))):
                 to = turn[key] + rest
             # a part of a path is no name of its own
             if before != "." and not path and not remark:

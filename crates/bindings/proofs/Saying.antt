@@ -155,15 +155,15 @@ discrete_told a n e old bounds = record {
   bounds = ap (λ (a : Space). told shape_bounds bounds (says_space a)) (sym e);
 }
 
-module _ (a : Space) (old new : List ℕ) (bounds newBounds : List Float) (r : ℕ) (t : FlatSpace (says_space a) old new bounds newBounds r) where
-  same_space : (x : Says Shape) → says_space a ≡ x → FlatSpace x old new bounds newBounds r
+module _ (a : Space) (old new : List ℕ) (bounds new_bounds : List Float) (r : ℕ) (t : FlatSpace (says_space a) old new bounds new_bounds r) where
+  same_space : (x : Says Shape) → says_space a ≡ x → FlatSpace x old new bounds new_bounds r
   same_space x e = record { refusal = t.refusal ∙ ap refusal_of e; sizes = t.sizes ∙ ap (told shape_numbers old) e; bounds = t.bounds ∙ ap (told shape_bounds bounds) e }
 
   -- g is what the caller's number is read as
-  pub seen_space : (g g' : ℤ) → ObservationSpace g a → g ≡ g' → FlatSpace (space_says g') old new bounds newBounds r
+  pub seen_space : (g g' : ℤ) → ObservationSpace g a → g ≡ g' → FlatSpace (space_says g') old new bounds new_bounds r
   seen_space g g' q p = same_space (space_says g') (q.answer ∙ ap space_says p)
 
-  pub action_space : ActionSpace a → FlatSpace action_says old new bounds newBounds r
+  pub action_space : ActionSpace a → FlatSpace action_says old new bounds new_bounds r
   action_space q = same_space action_says q.answer
 
 -- ---- a buffer, and how many words were written

@@ -56,30 +56,30 @@ draw_numbers d = length (image_of d.next) ∷ length d.cells ∷ []
 -- ---- promises
 
 -- an answer in a lent buffer, and how many words it has in a lent array
-pub record Writes {A B : Type 0} (f : A → List B) (x : Says A) (old new : List B) (oldCount newCount : List ℕ) (r : ℕ) : Type 0 where
+pub record Writes {A B : Type 0} (f : A → List B) (x : Says A) (old new : List B) (old_count new_count : List ℕ) (r : ℕ) : Type 0 where
   pub refusal : r ≡ refusal_of x
-  pub count : newCount ≡ told (λ a. one (length (f a))) oldCount x
+  pub count : new_count ≡ told (λ a. one (length (f a))) old_count x
   pub words : new ≡ lent f old x
 
-pub record FlatSpace (x : Says Shape) (old new : List ℕ) (oldBounds newBounds : List Float) (r : ℕ) : Type 0 where
+pub record FlatSpace (x : Says Shape) (old new : List ℕ) (old_bounds new_bounds : List Float) (r : ℕ) : Type 0 where
   pub refusal : r ≡ refusal_of x
   pub sizes : new ≡ told shape_numbers old x
-  pub bounds : newBounds ≡ told shape_bounds oldBounds x
+  pub bounds : new_bounds ≡ told shape_bounds old_bounds x
 
-pub record FlatSteps (x : Says Transition) (old new : List ℕ) (oldEvents newEvents : List (List ℕ)) (oldEnd newEnd : List ℕ) (r : ℕ) : Type 0 where
+pub record FlatSteps (x : Says Transition) (old new : List ℕ) (old_events new_events : List (List ℕ)) (old_end new_end : List ℕ) (r : ℕ) : Type 0 where
   pub refusal : r ≡ refusal_of x
   pub words : new ≡ lent (λ o. image_of o.next) old x
-  pub events : newEvents ≡ told (λ o. events_bytes (eight o.events)) oldEvents x
-  pub end : newEnd ≡ told step_numbers oldEnd x
+  pub events : new_events ≡ told (λ o. events_bytes (eight o.events)) old_events x
+  pub end : new_end ≡ told step_numbers old_end x
 
-pub record FlatDraws (x : Says Draw) (old new oldList newList oldCounts newCounts : List ℕ) (r : ℕ) : Type 0 where
+pub record FlatDraws (x : Says Draw) (old new old_list new_list old_counts new_counts : List ℕ) (r : ℕ) : Type 0 where
   pub refusal : r ≡ refusal_of x
   pub words : new ≡ lent (λ d. image_of d.next) old x
-  pub list : newList ≡ lent (λ d. d.cells) oldList x
-  pub counts : newCounts ≡ told draw_numbers oldCounts x
+  pub list : new_list ≡ lent (λ d. d.cells) old_list x
+  pub counts : new_counts ≡ told draw_numbers old_counts x
 
 -- a move that a match takes: the events and the match, each in place
-pub record FlatMoves (x : Says Move) (old new : List (List ℕ)) (oldGame newGame : List ℕ) (r : ℕ) : Type 0 where
+pub record FlatMoves (x : Says Move) (old new : List (List ℕ)) (old_game new_game : List ℕ) (r : ℕ) : Type 0 where
   pub refusal : r ≡ refusal_of x
   pub events : new ≡ told (λ t. events_bytes t.events) old x
-  pub game : newGame ≡ told (λ t. match_numbers t.game) oldGame x
+  pub game : new_game ≡ told (λ t. match_numbers t.game) old_game x

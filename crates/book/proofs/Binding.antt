@@ -17,7 +17,7 @@ use Rattle.lists.proofs.Concat.{block_drop, behind}
 use Rattle.lists.proofs.Lists.{all_append}
 use Rattle.lists.proofs.Tests.{both}
 use Rattle.rules.specs.Facts.{Sound}
-use Rattle.rules.specs.Image.{word, front as imageFront, snakes_in, length_at, long_enough, well_formed}
+use Rattle.rules.specs.Image.{word, front as image_front, snakes_in, length_at, long_enough, well_formed}
 use Rattle.rules.specs.Says.{gives}
 use Rattle.rules.specs.declared.Setting.{Setting}
 use Rattle.rules.proofs.Facts.{sound}
@@ -118,7 +118,7 @@ module _ (w r : List ℕ) (e : well_formed w ≡ true) where
   longer : long_enough (w ++ r) ≡ true
   unfolding long_enough
   longer =
-      rw (le-leb 5 (length (w ++ r)) (omega (arith, length-append w r, image.five)), snakes_same, le-leb (imageFront (snakes_in w)) (length (w ++ r)) (omega (arith, length-append w r, image.records_in)))
+      rw (le-leb 5 (length (w ++ r)) (omega (arith, length-append w r, image.five)), snakes_same, le-leb (image_front (snakes_in w)) (length (w ++ r)) (omega (arith, length-append w r, image.records_in)))
 
   pub told_front : told_length (w ++ r) ≡ length w
   told_front =

@@ -15,7 +15,7 @@ pub use writer::write;
 
 // ---- the reader: it holds the lent book and the page it is at. Opening and turning need no check, since what is read says all.
 
-#[derive(Drop)]
+#[derive(Clone, Copy)]
 pub struct Reader<'a> {
     pub book: &'a [u16],
     pub page: u64,

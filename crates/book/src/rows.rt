@@ -9,7 +9,7 @@ use lists::smaller;
 use rules::{Setting, Verdict};
 
 // Whether a page is accepted, and how many words it has.
-#[derive(Drop)]
+#[derive(Clone, Copy)]
 pub(crate) struct NextPage {
     pub(crate) verdict: Verdict,
     pub(crate) len: usize,

@@ -51,8 +51,8 @@ module _ (w : List ℕ) (i : ℕ) (old list : List ℕ) (d : Drawn) where
   abbrev answer : Says Draw
   answer = gives (draw_of w i)
 
-  promised : (new newList : List ℕ) (said : Says Draw) → draw_says w i (length old) (length list) ≡ said → Answers said old new list newList d → Draws w i old new list newList d
-  promised new newList said e a = record { answer = rw e a.answer; cells = rw e a.cells; words = rw e a.words; list = rw e a.list }
+  promised : (new new_list : List ℕ) (said : Says Draw) → draw_says w i (length old) (length list) ≡ said → Answers said old new list new_list d → Draws w i old new list new_list d
+  promised new new_list said e a = record { answer = rw e a.answer; cells = rw e a.cells; words = rw e a.words; list = rw e a.list }
 
   -- a refusal leaves both buffers as they were
   refusing : (k : Refusal) → draw_says w i (length old) (length list) ≡ refuses k → (x : Refusal) → x ≡ k → Refuses x d → Draws w i old old list list d
@@ -108,10 +108,10 @@ module _ (w : List ℕ) (i : ℕ) (old list : List ℕ) (d : Drawn) where
                 (further ∙ rw (lt-ltb i (outcomes (state_of w)) below, fits, lt-ltb (length list) (length (drawn (state_of w) i)) (omega (arith, cells_long))))
 
             module _ (l : o.size ≤ length list) where
-              pub draw_gives : (new newList : List ℕ) → Answers answer old new list newList d → Draws w i old new list newList d
+              pub draw_gives : (new new_list : List ℕ) → Answers answer old new list new_list d → Draws w i old new list new_list d
               unfolding by_table
-              draw_gives new newList a =
-                  promised new newList answer
+              draw_gives new new_list a =
+                  promised new new_list answer
                   (further ∙ rw (lt-ltb i (outcomes (state_of w)) below, fits, le-ltb (length list) (length (drawn (state_of w) i)) (omega (arith, cells_long))))
                   a
 

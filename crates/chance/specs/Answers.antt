@@ -14,20 +14,20 @@ abbrev pub draw_of : List ℕ → ℕ → Draw
 draw_of w i = record { next = after_draw (state_of w) i; cells = drawn (state_of w) i }
 
 -- a checked image with food due, an index below the count, its free cells by their marks, and room in both buffers
-pub record Ready (w : List ℕ) (i : ℕ) (o : Odds) (strips : List ℕ) (room listRoom : ℕ) : Type 0 where
+pub record Ready (w : List ℕ) (i : ℕ) (o : Odds) (strips : List ℕ) (room list_room : ℕ) : Type 0 where
   pub sound : Sound w
   pub stands : Stands w strips o
   pub due : 0 < due_in w
   pub below : i < outcomes (state_of w)
   pub words : length w + o.size ≤ room
-  pub cells : o.size ≤ listRoom
+  pub cells : o.size ≤ list_room
 
 -- every word of both buffers, by what the draw says
-pub record Answers (said : Says Draw) (old new oldList newList : List ℕ) (r : Drawn) : Type 0 where
+pub record Answers (said : Says Draw) (old new old_list new_list : List ℕ) (r : Drawn) : Type 0 where
   pub answer : says r.answer ≡ seen (λ d. length (image_of d.next)) said
   pub cells : r.cells ≡ beside (λ d. length d.cells) 0 said
   pub words : new ≡ lent (λ d. image_of d.next) old said
-  pub list : newList ≡ lent (λ d. d.cells) oldList said
+  pub list : new_list ≡ lent (λ d. d.cells) old_list said
 
 -- that refusal, and no cells
 pub record Refuses (why : Refusal) (r : Drawn) : Type 0 where

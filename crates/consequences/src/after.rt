@@ -9,7 +9,7 @@ use lists::more_if;
 use rules::{Cause, Heading};
 
 // A snake after the step: its body is the cell of its moved head, if it lives, and then the first `keep` words of its body in the image.
-#[derive(Drop)]
+#[derive(Clone, Copy)]
 pub struct After {
     pub heading: Heading,
     pub lives: bool,
@@ -20,7 +20,7 @@ pub struct After {
 }
 
 // How many live, how many died, and how many cells all bodies have.
-#[derive(Drop)]
+#[derive(Clone, Copy)]
 pub struct Tally {
     pub alive: usize,
     pub deaths: usize,

@@ -7,7 +7,7 @@ pub use places::find;
 use rules::Refusal;
 
 // Where a page lies in its book, in words.
-#[derive(Drop)]
+#[derive(Clone, Copy)]
 pub enum PageFound {
     Part { start: usize, len: usize },
     Refused(Refusal),

@@ -7,7 +7,7 @@ ghost use Rattle.faults.specs.Past.{InRange, InPlace, OnGrid};
 use lists::smaller;
 use refusals::by_word;
 use rules::Refusal;
-use wellformed::{cells_fit_lem, laid_out};
+use wellformed::{cells_fit, laid_out};
 use wrong_cells::{first_beyond, first_fall, first_twice, twice_at};
 use wrong_contents::first_start;
 

@@ -13,7 +13,7 @@ pub use wellformed::well_formed;
 pub use words::{flag, heading_of, number_of, write_contents, write_record};
 
 // A snake's four words, read.
-#[derive(Drop)]
+#[derive(Clone, Copy)]
 pub struct SnakeRecord {
     pub start: u16,
     pub len: u16,

@@ -9,7 +9,7 @@ use rules::{Cause, Heading, Place};
 
 // A snake after the move: its head, whether that is inside the grid, and its cell there; the rest is the first `keep` words of its body in the image.
 // Sixteen bytes: eight of them are copied in a few instructions.
-#[derive(Drop)]
+#[derive(Clone, Copy)]
 pub struct Move {
     pub moves: bool,
     pub heading: Heading,
@@ -21,13 +21,13 @@ pub struct Move {
 }
 
 // What a move led to.
-#[derive(Drop)]
+#[derive(Clone, Copy)]
 pub struct Fate {
     pub cause: Cause,
 }
 
 // All moves, and what each led to.
-#[derive(Drop)]
+#[derive(Clone, Copy)]
 pub struct Judged {
     pub moves: [Move; 8],
     pub fates: [Fate; 8],

@@ -8,7 +8,7 @@ ghost use Rattle.lists.specs.Search.{found_in, is_found};
 pub use numbers::{more_if, product, smaller};
 
 // The first place of a number in a list, if it stands there.
-#[derive(Drop)]
+#[derive(Clone, Copy)]
 pub enum Found {
     At(usize),
     Nothing,

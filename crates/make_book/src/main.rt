@@ -15,7 +15,7 @@ use table::put_contents;
 use walk::go_over;
 
 // What is wrong.
-#[derive(Drop)]
+#[derive(Clone, Copy)]
 pub enum Fault {
     NoFault,
     NoFile,
@@ -28,7 +28,7 @@ pub enum Fault {
 }
 
 // What a pass has done: whether it writes the pages or counts their words, how many pages it has seen, whether it goes on, and what is wrong.
-#[derive(Drop)]
+#[derive(Clone, Copy)]
 pub struct Tally {
     pub writes: bool,
     pub pages: usize,

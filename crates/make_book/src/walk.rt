@@ -10,14 +10,14 @@ use rules::Setting;
 use stream::Progress;
 
 // How far the replay is, what the pass has done, and whether more may come.
-#[derive(Drop)]
+#[derive(Clone, Copy)]
 pub struct Pass {
     pub progress: Progress,
     pub tally: Tally,
     pub more: bool,
 }
 
-#[derive(Drop)]
+#[derive(Clone, Copy)]
 pub struct Passed {
     pub setting: Setting,
     pub tally: Tally,

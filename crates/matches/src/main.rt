@@ -7,7 +7,7 @@ use libc::{STDIN_FILENO, STDOUT_FILENO};
 use stream::Progress;
 
 // The match under way; how many bytes of the line's front came, up to two, and its mark; where to go on in what came; whether more may come.
-#[derive(Drop)]
+#[derive(Clone, Copy)]
 pub struct Frame {
     pub progress: Progress,
     pub column: u8,

@@ -12,7 +12,7 @@ use rules::Number;
 use strips::{count_open, mark_all};
 
 // The free cells, how many of them a draw takes, and the count of outcomes; 0 for one above 2^64 - 1.
-#[derive(Drop)]
+#[derive(Clone, Copy)]
 pub struct Odds {
     pub free: usize,
     pub size: usize,

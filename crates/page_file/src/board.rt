@@ -8,7 +8,7 @@ use libc::STDOUT_FILENO;
 use lists::word_at;
 
 // What is drawn of the snakes, one over the other.
-#[derive(Drop)]
+#[derive(Clone, Copy)]
 pub enum Layer {
     Corpses,
     Bodies,

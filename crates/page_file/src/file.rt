@@ -3,7 +3,7 @@ ghost use Rattle.std.specs.Prelude.{◌*◌, ◌≤◌, length};
 
 use libc::{SEEK_END, SEEK_SET, STDIN_FILENO};
 
-#[derive(Drop)]
+#[derive(Clone, Copy)]
 pub enum Size {
     NoFile,
     Bytes(u64),

@@ -7,7 +7,7 @@ use lists::smaller;
 use rules::{Refusal, Verdict};
 
 // Whether the file could be read; why the page is refused, or the number 0 and how many words its image has.
-#[derive(Drop)]
+#[derive(Clone, Copy)]
 pub struct Loaded {
     pub read: bool,
     pub why: Refusal,

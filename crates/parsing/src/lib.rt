@@ -10,37 +10,37 @@ pub use numbers::grid_in;
 use rules::{Limit, Setting};
 pub use split::{feed, line_end};
 
-#[derive(Drop)]
+#[derive(Clone, Copy)]
 pub enum Num {
     NoNumber,
     Reads(u64),
 }
 
-#[derive(Drop)]
+#[derive(Clone, Copy)]
 pub enum Grid {
     NoGrid,
     GridIs(i32),
 }
 
-#[derive(Drop)]
+#[derive(Clone, Copy)]
 pub enum Bound {
     NoBound,
     Bounds(Limit),
 }
 
-#[derive(Drop)]
+#[derive(Clone, Copy)]
 pub enum Flag {
     NoFlag,
     Flagged(bool),
 }
 
-#[derive(Drop)]
+#[derive(Clone, Copy)]
 pub enum First {
     NoFirst,
     Opens(Setting),
 }
 
-#[derive(Drop)]
+#[derive(Clone, Copy)]
 pub enum Line {
     NoLine,
     DrawLine(u64),
@@ -48,21 +48,21 @@ pub enum Line {
 }
 
 // A line after the first; a move's actions stand beside it.
-#[derive(Drop)]
+#[derive(Clone, Copy)]
 pub struct Entry {
     pub line: Line,
     pub acts: [u64; 8],
 }
 
 // A part of a line.
-#[derive(Drop)]
+#[derive(Clone, Copy)]
 pub struct Span {
     pub from: usize,
     pub to: usize,
 }
 
 // A number, and where the field after it starts.
-#[derive(Drop)]
+#[derive(Clone, Copy)]
 pub struct Got {
     pub num: Num,
     pub next: usize,

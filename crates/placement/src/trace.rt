@@ -9,7 +9,7 @@ ghost use Rattle.placement.specs.Traces.{Walked, Laid, Start, Traceable, Placed}
 use rules::{Heading, Place};
 
 // A trace on its way: its last place, and which of its four directions it follows.
-#[derive(Drop)]
+#[derive(Clone, Copy)]
 struct Walk {
     place: Place,
     turn: usize,

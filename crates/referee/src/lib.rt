@@ -6,7 +6,7 @@ pub use play::{close, new_desk, take_line};
 use standing::Match;
 
 // What a line did: whether the match goes on, the match, how many words the next image has, how many bytes were printed.
-#[derive(Drop)]
+#[derive(Clone, Copy)]
 pub struct Turned {
     pub more: bool,
     pub game: Match,
@@ -15,7 +15,7 @@ pub struct Turned {
 }
 
 // Where a replay stands: whether the first line was taken, the match, and how many words its image has.
-#[derive(Drop)]
+#[derive(Clone, Copy)]
 pub struct Desk {
     pub begun: bool,
     pub game: Match,

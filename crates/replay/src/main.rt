@@ -5,7 +5,7 @@ use libc::STDIN_FILENO;
 use stream::Progress;
 
 // How far the replay is, and whether more may come.
-#[derive(Drop)]
+#[derive(Clone, Copy)]
 pub struct Reading {
     pub progress: Progress,
     pub more: bool,

@@ -9,7 +9,7 @@ use rules::Event;
 pub const NOWHERE: usize = 18446744073709551615;
 
 // How many words, and where the field after them starts.
-#[derive(Drop)]
+#[derive(Clone, Copy)]
 pub struct Words {
     pub count: usize,
     pub next: usize,

@@ -2,7 +2,7 @@
 use crate::writing::{has_word, put, put_number};
 use rules::Refusal;
 
-#[derive(Drop)]
+#[derive(Clone, Copy)]
 pub struct Reply {
     pub letter: u8,
     pub count: usize,

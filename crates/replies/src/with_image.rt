@@ -4,7 +4,7 @@ use crate::reply::{NO_CALL, Reply};
 use crate::{chances, images, views};
 
 // The numbers before the words, and how many words there are.
-#[derive(Drop)]
+#[derive(Clone, Copy)]
 pub struct Head {
     pub values: [u64; 9],
     pub words: usize,

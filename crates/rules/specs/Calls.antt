@@ -48,7 +48,7 @@ pub record Draw : Type 0 where
   pub cells : List ℕ
 
 unfoldable pub draw_says : List ℕ → ℕ → ℕ → ℕ → Says Draw
-draw_says w i room listRoom = by_table (draw_order w i room listRoom) (gives (record { next = after_draw (state_of w) i; cells = drawn (state_of w) i }))
+draw_says w i room list_room = by_table (draw_order w i room list_room) (gives (record { next = after_draw (state_of w) i; cells = drawn (state_of w) i }))
 
 unfoldable pub rank_says : List ℕ → List ℕ → Says ℕ
 rank_says w l = by_table (rank_order w l) (gives (rank_of (state_of w) l))

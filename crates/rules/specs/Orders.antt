@@ -65,14 +65,14 @@ count_order w = image_rows w ++ due_rows w
 
 -- 27 and 29, asked of an index
 abbrev pub draw_rows : List ℕ → ℕ → ℕ → ℕ → Table
-draw_rows w i room listRoom =
+draw_rows w i room list_room =
     (by 27, not (ltb i (outcomes (state_of w))))
-    ∷ (by 29, ltb room (length (image_of (after_draw (state_of w) i))) || ltb listRoom (length (drawn (state_of w) i)))
+    ∷ (by 29, ltb room (length (image_of (after_draw (state_of w) i))) || ltb list_room (length (drawn (state_of w) i)))
     ∷ []
 
 -- 'Draw: 20, 23, 28, 27, 29'
 abbrev pub draw_order : List ℕ → ℕ → ℕ → ℕ → Table
-draw_order w i room listRoom = count_order w ++ draw_rows w i room listRoom
+draw_order w i room list_room = count_order w ++ draw_rows w i room list_room
 
 -- 30, asked of a list
 abbrev pub rank_rows : List ℕ → List ℕ → Table

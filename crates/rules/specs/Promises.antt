@@ -64,11 +64,11 @@ pub record Observes (w : List ℕ) (a : ℕ) (old new : List Float) (r : Answer)
 pub record Counts (w : List ℕ) (r : Number) : Type 0 where
   pub answer : says_number r ≡ count_says w
 
-pub record Draws (w : List ℕ) (i : ℕ) (old new oldList newList : List ℕ) (r : Drawn) : Type 0 where
-  pub answer : says r.answer ≡ seen (λ d. length (image_of d.next)) (draw_says w i (length old) (length oldList))
-  pub cells : r.cells ≡ beside (λ d. length d.cells) 0 (draw_says w i (length old) (length oldList))
-  pub words : new ≡ lent (λ d. image_of d.next) old (draw_says w i (length old) (length oldList))
-  pub list : newList ≡ lent (λ d. d.cells) oldList (draw_says w i (length old) (length oldList))
+pub record Draws (w : List ℕ) (i : ℕ) (old new old_list new_list : List ℕ) (r : Drawn) : Type 0 where
+  pub answer : says r.answer ≡ seen (λ d. length (image_of d.next)) (draw_says w i (length old) (length old_list))
+  pub cells : r.cells ≡ beside (λ d. length d.cells) 0 (draw_says w i (length old) (length old_list))
+  pub words : new ≡ lent (λ d. image_of d.next) old (draw_says w i (length old) (length old_list))
+  pub list : new_list ≡ lent (λ d. d.cells) old_list (draw_says w i (length old) (length old_list))
 
 pub record Ranks (w l : List ℕ) (r : Number) : Type 0 where
   pub answer : says_number r ≡ rank_says w l

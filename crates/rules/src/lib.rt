@@ -1,6 +1,6 @@
 // The types that the calls of the arena share. No function: the rules are definitions, in specs/.
 
-#[derive(Drop)]
+#[derive(Clone, Copy)]
 pub enum Heading {
     Up,
     Right,
@@ -9,7 +9,7 @@ pub enum Heading {
 }
 
 // A snake's action, relative to its heading: 0, 1, 2.
-#[derive(Drop)]
+#[derive(Clone, Copy)]
 pub enum RelativeAction {
     Forward,
     TurnLeft,
@@ -17,21 +17,21 @@ pub enum RelativeAction {
 }
 
 // A row and a column, perhaps off the grid.
-#[derive(Drop)]
+#[derive(Clone, Copy)]
 pub struct Place {
     pub row: i32,
     pub col: i32,
 }
 
 // A number that may be unset.
-#[derive(Drop)]
+#[derive(Clone, Copy)]
 pub enum Limit {
     Unset,
     Is(u64),
 }
 
 // Snake of the Rust.
-#[derive(Drop)]
+#[derive(Clone, Copy)]
 pub struct Setting {
     pub num_snakes: u64,
     pub grid_size: i32,
@@ -43,7 +43,7 @@ pub struct Setting {
 }
 
 // DeathCause of the Rust, with no cause first: the blank one.
-#[derive(Drop)]
+#[derive(Clone, Copy)]
 pub enum Cause {
     NoCause,
     Wall,
@@ -53,7 +53,7 @@ pub enum Cause {
 }
 
 // StepEvent of the Rust.
-#[derive(Drop)]
+#[derive(Clone, Copy)]
 pub struct Event {
     pub ate_food: bool,
     pub died: bool,
@@ -66,7 +66,7 @@ pub struct Event {
 }
 
 // SnakeReward of the Rust.
-#[derive(Drop)]
+#[derive(Clone, Copy)]
 pub struct Weights {
     pub step: f64,
     pub food: f64,
@@ -80,27 +80,27 @@ pub struct Weights {
 // ---- answers
 
 // Why a call refuses: the paper's number, and the first word of an image that shows the fault; 0 for every number but 50 to 56.
-#[derive(Drop)]
+#[derive(Clone, Copy)]
 pub struct Refusal {
     pub number: u8,
     pub word: usize,
 }
 
-#[derive(Drop)]
+#[derive(Clone, Copy)]
 pub enum Verdict {
     Accepted,
     Refused(Refusal),
 }
 
 // How many words or numbers were written.
-#[derive(Drop)]
+#[derive(Clone, Copy)]
 pub enum Answer {
     Done(usize),
     Refused(Refusal),
 }
 
 // A step's answer; on a refusal the match is not over and every event is blank.
-#[derive(Drop)]
+#[derive(Clone, Copy)]
 pub struct Stepped {
     pub answer: Answer,
     pub terminal: bool,
@@ -108,41 +108,41 @@ pub struct Stepped {
 }
 
 // Whom a snake hit, and at which position of its moved body, the head being 0; 8 and 0 where nobody was hit.
-#[derive(Drop)]
+#[derive(Clone, Copy)]
 pub struct Hit {
     pub snake: u8,
     pub position: u16,
 }
 
 // Whom each snake of a step hits; on a refusal nobody.
-#[derive(Drop)]
+#[derive(Clone, Copy)]
 pub struct Hits {
     pub verdict: Verdict,
     pub hits: [Hit; 8],
 }
 
 // A draw's answer, and how many cells its list has; 0 on a refusal.
-#[derive(Drop)]
+#[derive(Clone, Copy)]
 pub struct Drawn {
     pub answer: Answer,
     pub cells: usize,
 }
 
 // A count of outcomes, or an index.
-#[derive(Drop)]
+#[derive(Clone, Copy)]
 pub enum Number {
     Value(u64),
     Refused(Refusal),
 }
 
-#[derive(Drop)]
+#[derive(Clone, Copy)]
 pub enum LengthCell {
     Key(u64),
     NoKey,
     Refused(Refusal),
 }
 
-#[derive(Drop)]
+#[derive(Clone, Copy)]
 pub enum Actor {
     Chance,
     Simultaneous,
@@ -150,26 +150,26 @@ pub enum Actor {
 }
 
 // Actions 0, 1 and 2, or none.
-#[derive(Drop)]
+#[derive(Clone, Copy)]
 pub enum Legal {
     AnyAction,
     NoAction,
     Refused(Refusal),
 }
 
-#[derive(Drop)]
+#[derive(Clone, Copy)]
 pub enum Truncated {
     Marked(Event),
     Refused(Refusal),
 }
 
-#[derive(Drop)]
+#[derive(Clone, Copy)]
 pub enum Reward {
     Sum(f64),
     Refused(Refusal),
 }
 
-#[derive(Drop)]
+#[derive(Clone, Copy)]
 pub enum Space {
     Box {
         planes: usize,

@@ -9,7 +9,7 @@ use referee::Desk;
 use rules::{Answer, Setting};
 
 // Whether it is known what leads to the page, and whether the line could be written.
-#[derive(Drop)]
+#[derive(Clone, Copy)]
 pub struct Shown {
     pub known: bool,
     pub heard: bool,

@@ -9,7 +9,7 @@ use page_file::{Size, file_size, load, put_board, read_words};
 use parsing::Num;
 
 // What is wrong.
-#[derive(Drop)]
+#[derive(Clone, Copy)]
 pub enum Fault {
     NoFault,
     NoPage,

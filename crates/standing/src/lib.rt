@@ -13,7 +13,7 @@ pub use shown::{put_end, put_line};
 
 // The setting, the moves made, for each snake the move on which it died (0 while it lives) and whether it lost and lives, whether the
 // match is over, and whether max_ticks ended it.
-#[derive(Drop)]
+#[derive(Clone, Copy)]
 pub struct Match {
     pub setting: Setting,
     pub moves: u64,
@@ -24,7 +24,7 @@ pub struct Match {
 }
 
 // What a move makes of a match, and its events as the replay shows them; on a refusal both are as they were.
-#[derive(Drop)]
+#[derive(Clone, Copy)]
 pub struct Taken {
     pub verdict: Verdict,
     pub game: Match,

@@ -49,7 +49,7 @@ fn has_reached(limit: Limit, k: u64) -> bool
 }
 
 // Whether a move ends the match by max_ticks.
-fn ends_by_lem(m: Match, over: bool) -> bool
+fn ends_by(m: Match, over: bool) -> bool
     ensures { result ≡ ends_by m over }
 {
     let s = m.setting;
@@ -76,7 +76,7 @@ fn mark_all(image: &[u16], events: [Event; 8], n: usize) -> [Event; 8]
 pub fn events_shown(m: Match, over: bool, image: &[u16], events: [Event; 8]) -> [Event; 8]
     ensures { result ≡ events_shown m over image.now events }
 {
-    if ends_by_lem(m, over) {
+    if ends_by(m, over) {
         let n = at_most_eight(word_at(image, 0));
         return mark_all(image, events, n);
     }
@@ -132,7 +132,7 @@ pub fn after_move(m: Match, over: bool, events: [Event; 8]) -> Match
     let deaths = deaths_after(k, old, events);
     let behind = behind_after(events);
     let setting = m.setting;
-    let timeout = ends_by_lem(m, over);
+    let timeout = ends_by(m, over);
     Match {
         setting,
         moves: k,

@@ -5,7 +5,7 @@ ghost use Rattle.step.specs.Eaten.{EatenAre};
 use consequences::After;
 
 // The cells that were eaten: the first `count` of the array.
-#[derive(Drop)]
+#[derive(Clone, Copy)]
 pub struct Eaten {
     pub cells: [u16; 8],
     pub count: usize,

@@ -10,7 +10,7 @@ use referee::Desk;
 
 // What is kept from part to part: the desk, how many bytes of a line are held, where to go on in what came, how many bytes the text to print has,
 // whether the replay goes on, and whether all texts could be written.
-#[derive(Drop)]
+#[derive(Clone, Copy)]
 pub struct Progress {
     pub desk: Desk,
     pub fill: usize,

@@ -93,9 +93,9 @@ pub count_order_lem : (w : List ℕ) → numbers (count_order w) ≡ image_numbe
 unfolding image_rows
 count_order_lem w = refl
 
-pub draw_order_lem : (w : List ℕ) (i room listRoom : ℕ) → numbers (draw_order w i room listRoom) ≡ image_numbers ++ (23 ∷ 28 ∷ 27 ∷ 29 ∷ [])
+pub draw_order_lem : (w : List ℕ) (i room list_room : ℕ) → numbers (draw_order w i room list_room) ≡ image_numbers ++ (23 ∷ 28 ∷ 27 ∷ 29 ∷ [])
 unfolding image_rows
-draw_order_lem w i room listRoom = refl
+draw_order_lem w i room list_room = refl
 
 pub rank_order_lem : (w l : List ℕ) → numbers (rank_order w l) ≡ image_numbers ++ (23 ∷ 28 ∷ 30 ∷ [])
 unfolding image_rows

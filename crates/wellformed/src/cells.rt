@@ -76,7 +76,7 @@ fn lists_fit(image: &[u16], food: usize) -> bool
     rising(&image[food..])
 }
 
-pub fn cells_fit_lem(image: &[u16]) -> bool
+pub fn cells_fit(image: &[u16]) -> bool
     requires { Ranged image.now }
     ensures { result ≡ cells_fit image.now }
 {

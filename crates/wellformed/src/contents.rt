@@ -7,7 +7,7 @@ ghost use Rattle.wellformed.specs.Checked.{Long, Ranged, Adds};
 use layout::{alive_at, front, heading_at, length_at, start_at};
 
 // Whether every body starts where it is due, and where the food is due.
-#[derive(Drop)]
+#[derive(Clone, Copy)]
 pub struct Layout {
     pub fits: bool,
     pub food: usize,

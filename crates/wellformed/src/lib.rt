@@ -3,6 +3,6 @@ mod cells;
 mod check;
 mod contents;
 
-pub use cells::{body_once, cells_fit_lem};
+pub use cells::{body_once, cells_fit};
 pub use check::well_formed;
 pub use contents::{Layout, contents_fit, laid_out, record_fits};
