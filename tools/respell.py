@@ -97,7 +97,7 @@ def main():
             rest = "" if t in turn else tail.group(2)
             to = t
             line = text[text.rfind("\n", 0, m.start()) + 1 : m.start()]
-            path = re.match(r"\.[\w{]", text[m.end() : m.end() + 2]) or before == "." and (made or "use " in line)
+            path = "use " in line and (re.match(r"\.[\w{]", text[m.end() : m.end() + 2]) or before == ".") or before == "." and made
             remark = re.search(r"(^|\s)(--|//)(\s|$)", line)
             if key in turn and key not in skip and t not in skip and not path and not (re.fullmatch(r"[a-z0-9_]+", key) and (remark or p.endswith(".rt"))):
                 to = turn[key] + rest

@@ -1,4 +1,6 @@
 // What an agent may do: turns, legal actions, the spaces, and the mark of a truncation.
+#![tactic(auto)]
+
 mod spaces;
 mod turns;
 

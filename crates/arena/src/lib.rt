@@ -1,4 +1,6 @@
 // The face of the library: every public call and the types that the calls share. No call has a `requires`.
+#![tactic(auto)]
+
 pub use agent::{
     action_space, actor, legal_actions, observation_space, relative_to_absolute, truncation,
 };

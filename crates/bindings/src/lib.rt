@@ -1,6 +1,8 @@
 // The calls for other languages: every public call of `arena`, a book's writer and page, and a match's calls, as an exported function over numbers,
 // arrays of fixed size and slices. A call answers its refusal, 0 for none; all else of an answer goes to what is lent, which a refusal leaves untouched. No
 // call has a `requires`. `clients/c/lundaspro.h` declares the same functions.
+#![tactic(auto)]
+
 mod books;
 mod chances;
 mod games;

@@ -82,14 +82,14 @@ module _ (s : Setting) (p : ℕ) (row : List ℕ) where
 
     pub asked_accepted : setting_check s ≡ 0
     unfolding setting_check
-    asked_accepted = none_fault (setting_order s) none-parts.0
+    asked_accepted = none_fault (setting_order s) none_parts.0
 
     pub asked_few : p ≤ 65535
-    asked_few = ltb-false 65535 p (row_out later 0 none-parts.1)
+    asked_few = ltb-false 65535 p (row_out later 0 none_parts.1)
 
     pub asked_none : none_hold (row_order s p row) ≡ true
     unfolding all
-    asked_none = and_right (not (ltb 65535 p)) (none_hold (row_order s p row)) none-parts.1
+    asked_none = and_right (not (ltb 65535 p)) (none_hold (row_order s p row)) none_parts.1
 
     pub asked_fits : RowFits p row
     asked_fits = row_fits s p row asked_none asked_few

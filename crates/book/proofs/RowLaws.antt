@@ -103,10 +103,10 @@ module _ (s : Setting) (row : List ℕ) (at len : ℕ) (q : Told (take (length r
 
   -- its words stand in the row
   pub next_in_lem : at ≤ length row → at + len ≤ length row
-  next_in_lem h = omega (arith, told-rest.inside, length-drop at row)
+  next_in_lem h = omega (arith, told_rest.inside, length-drop at row)
 
   pub next_is : (v : Verdict) → PageChecks s (take (at + len - at) (drop at row)) v → Next s (drop at row) (record { verdict = v; len = len })
-  next_is v f = record { says = rw (part_is row at len, told-rest.length_told) at f.says; told = told_rest }
+  next_is v f = record { says = rw (part_is row at len, told_rest.length_told) at f.says; told = told_rest }
 
 -- ---- page by page
 
@@ -243,7 +243,7 @@ module _ (s : Setting) (p : ℕ) (row : List ℕ) (h : none_hold (row_order s p 
 
   module _ (i : ℕ) (l : i < p) where
     page_none : none_hold (parts i) ≡ true
-    page_none = blocks_each parts p i l both-parts.0
+    page_none = blocks_each parts p i l both_parts.0
 
     pub row_formed : well_formed (row_page row i) ≡ true
     row_formed = page_formed s row i page_none
@@ -265,7 +265,7 @@ module _ (s : Setting) (p : ℕ) (row : List ℕ) (h : none_hold (row_order s p 
   start_small (suc i) g = omega (arith, start_small i (omega arith), page_small i g)
 
   start_end : row_start row p ≡ length row
-  start_end = let l = ltb-false (row_start row p) (length row) (row_out left_row 0 both-parts.1) in omega (arith, start_in_lem p (omega arith))
+  start_end = let l = ltb-false (row_start row p) (length row) (row_out left_row 0 both_parts.1) in omega (arith, start_in_lem p (omega arith))
 
   pub row_fits : p ≤ 65535 → RowFits p row
   row_fits few = record { few = few; starts = start_in_lem; small = start_small; all = start_end; some = omega (arith, start_end, start_small p (omega arith)) }

@@ -1,4 +1,6 @@
 // A match book: a table of contents and the state images one after another, written from a row of images and paged through.
+#![tactic(auto)]
+
 mod pages;
 mod rows;
 mod turning;

@@ -1,4 +1,6 @@
 // A book's words: numbers of one, two and four words, and a setting's, both ways.
+#![tactic(auto)]
+
 mod settings;
 mod words;
 

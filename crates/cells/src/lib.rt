@@ -1,4 +1,6 @@
 // How the cells of an image are written: a body with or without a new head, food with cells put in or less those eaten. They know no move and no draw.
+#![tactic(auto)]
+
 mod added;
 mod bodies;
 mod eaten;

@@ -1,4 +1,6 @@
 // Chance (`chance_node`, `apply_chance_node` of the Rust): how many outcomes a draw has, what an index draws, and the index of a list.
+#![tactic(auto)]
+
 mod next;
 mod ranks;
 

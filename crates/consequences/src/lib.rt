@@ -1,4 +1,6 @@
 // What the judgement brings: the settled snakes, who killed, who leads, the end, the events.
+#![tactic(auto)]
+
 mod after;
 mod killers;
 mod leads;

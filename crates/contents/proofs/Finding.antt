@@ -176,7 +176,7 @@ module _ (c : List ℕ) (n i : ℕ) (r : PageFound) (f : Finds c n i r) (start s
 
   -- the contents are long enough for the setting's words
   pub part_long : 17 ≤ length c
-  part_long = part-opens.long
+  part_long = part_opens.long
 
   pub part_inside : start + size ≤ n
   part_inside = find_inside c n i _ part_given

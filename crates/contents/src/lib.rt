@@ -1,4 +1,6 @@
 // A book's table of contents: whether contents are accepted (40), and where they say that a page lies (41). It passes on a book's words.
+#![tactic(auto)]
+
 mod places;
 mod tests;
 

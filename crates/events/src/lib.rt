@@ -1,4 +1,6 @@
 // What an event says: its causes and their numbers, the blank one, the mark of a truncation.
+#![tactic(auto)]
+
 ghost use Rattle.std.specs.Prelude.{◌≡◌, ◌≤◌, replicate};
 ghost use Rattle.rules.specs.Events.{dies, blank};
 ghost use Rattle.rules.specs.Turns.{truncated};

@@ -1,5 +1,7 @@
 // What is wrong with an image, and where: the first of the seven faults, 50 to 56, and the first word that shows it. It is looked for only where the
 // check has failed, so that a well-formed image costs the check alone.
+#![tactic(auto)]
+
 mod layout_faults;
 
 ghost use Rattle.rules.specs.Promises.{Examines, Faulty};

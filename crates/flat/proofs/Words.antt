@@ -195,9 +195,9 @@ module _ (w : List ℕ) where
   -- what is said of an image that is refused is that
   pub fault_word : (k : Refusal) → image_says w ≡ refuses k → (50 ≤ k.number) × (k.number ≤ 56) × (k.word < 65536)
   fault_word k e =
-      let z : fault-known.why ≡ k = go (well_formed w) refl in
-      (rw z at fault-known.low, rw z at fault-known.high, rw z at fault-known.small)
+      let z : fault_known.why ≡ k = go (well_formed w) refl in
+      (rw z at fault_known.low, rw z at fault_known.high, rw z at fault_known.small)
     where
-      go : (b : Bool) → well_formed w ≡ b → fault-known.why ≡ k
+      go : (b : Bool) → well_formed w ≡ b → fault_known.why ≡ k
       go true f = let q = sym e ∙ accepted f in let z : ◌≡◌ {A = ℕ} 0 1 = cc in absurd (omega arith)
-      go false f = let q = fault-known.faulty.answer f ∙ e in cc
+      go false f = let q = fault_known.faulty.answer f ∙ e in cc

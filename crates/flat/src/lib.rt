@@ -1,5 +1,7 @@
 // What a caller's flat numbers mean, and an answer as flat numbers: what every exported call shares. A number is 64 bits wide, but for the
 // bytes of an event; no number is undefined, whatever it is.
+#![tactic(auto)]
+
 mod games;
 mod readings;
 mod tells;

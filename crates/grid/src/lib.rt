@@ -1,4 +1,6 @@
 // Headings, actions by number, and places: a row and a column, perhaps off the grid. Of the rules' code, rows and columns are signed here and where snakes are placed alone.
+#![tactic(auto)]
+
 ghost use Rattle.std.specs.Prelude.{◌≡◌, ◌<◌, ◌≤◌, pos, nat_abs};
 ghost use Rattle.std.proofs.Math.IntN.{suc_ℤ, pred_ℤ};
 ghost use Rattle.std.specs.Int.Signed.{mag};

@@ -1,4 +1,6 @@
 // The state image in 16-bit words: what its parts are, and how words are written. It passes on the check of `wellformed`, what `faults` finds and the writers of `cells`.
+#![tactic(auto)]
+
 mod parts;
 mod table;
 mod words;

@@ -1,4 +1,6 @@
 // All living snakes move, and all are judged on that one world.
+#![tactic(auto)]
+
 mod causes;
 mod hits;
 mod moves;

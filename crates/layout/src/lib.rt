@@ -1,4 +1,6 @@
 // Where the words of an image stand: five of contents, four a snake, then the bodies.
+#![tactic(auto)]
+
 ghost use Rattle.std.specs.Prelude.{◌≡◌, ◌+◌, ◌*◌, ◌<◌};
 
 // Snake i's start word.

@@ -1,4 +1,6 @@
 // What knows no snake: the definitions and laws of lists that all crates share, and the loops that are the same everywhere.
+#![tactic(auto)]
+
 mod numbers;
 
 ghost use Rattle.std.specs.Prelude.{◌≡◌, true, ◌+◌, ◌≤◌, length, get_or};

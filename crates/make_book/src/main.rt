@@ -1,5 +1,7 @@
 // The book of a match. Standard input, a file, is gone over twice: first its lines are taken as the replay takes them and each page's words are counted,
 // then the pages are written behind their contents. What is wrong is said on standard error, in one line.
+#![tactic(auto)]
+
 mod messages;
 mod pages;
 mod table;

@@ -1,5 +1,7 @@
 // Many stored matches in one input, each replayed as `replay` does it. A line `= NAME` begins a match and is printed, `> TEXT` is a line of the
 // match's input, `~ TEXT` its last one, whose newline is missing.
+#![tactic(auto)]
+
 ghost use Rattle.std.specs.Prelude.{◌≡◌, ◌+◌, ◌<◌, ◌≤◌, length};
 ghost use Rattle.stream.specs.Room.{Ready};
 

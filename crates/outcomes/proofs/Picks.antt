@@ -80,12 +80,12 @@ module _ (old : List ℕ) (area : ℕ) (start list strips tally : List ℕ) (j :
       picking_free = numbered_free strips area tally (get_or list j 0) x picking_asks e
 
       pub picking_fits : Fits w16 x
-      picking_fits = omega (arith, picking-free.inside, v.counted.area_max)
+      picking_fits = omega (arith, picking_free.inside, v.counted.area_max)
 
       pub picking_next : (new after : List ℕ) → Took area x strips new after → Picking old area start (set list j x) new after (j + 1)
       picking_next new after t =
           let q : x ≡ get_or (unmarked strips area) (get_or old j 0) 0 = e ∙ ap (λ (d : ℕ). get_or (unmarked strips area) d 0) (digit_at list old j v.rest) in
-          let here = open_member strips area x picking-free.inside picking-free.clear in
+          let here = open_member strips area x picking_free.inside picking_free.clear in
           record {
             within = simp length-set (omega arith);
             long = simp length-set v.long;

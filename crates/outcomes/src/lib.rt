@@ -1,4 +1,6 @@
 // What a draw starts from: the free cells by their marks, how many outcomes it has, and the digits of an index.
+#![tactic(auto)]
+
 mod index;
 mod odds;
 

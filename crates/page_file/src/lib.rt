@@ -1,4 +1,6 @@
 // A page of a book's file: standard input as words, the page that the contents find there, its board, and the line of the match that leads to it.
+#![tactic(auto)]
+
 mod board;
 mod entry;
 mod file;

@@ -1,4 +1,6 @@
 // The text of the programs, read: the input cut into lines, the lines into fields and numbers. The types that its modules share.
+#![tactic(auto)]
+
 mod fields;
 mod lines;
 mod numbers;

@@ -1,4 +1,6 @@
 // What the first bodies tell: traced, apart, with cells left for the food.
+#![tactic(auto)]
+
 mod place;
 
 pub use place::{place_check, place_number};

@@ -1,4 +1,6 @@
 // Where the snakes start: every body traced from its start, and the length below which all of them lie apart.
+#![tactic(auto)]
+
 mod trace;
 
 ghost use Rattle.std.specs.Prelude.{◌≡◌, ◌≤◌};

@@ -1,4 +1,6 @@
 // The text of the programs, written: bytes and numbers put into a lent buffer, and the parts of an output line.
+#![tactic(auto)]
+
 mod bytes;
 mod letters;
 

@@ -1,4 +1,6 @@
 // Reads one call a line and answers each with a line, as docs/PROBE.md says. The buffers are made once, and lent on.
+#![tactic(auto)]
+
 mod answer;
 mod books;
 mod steps;

@@ -1,4 +1,6 @@
 // The replay's library: the match played line by line, its placings. The types that its modules share.
+#![tactic(auto)]
+
 mod play;
 mod turns;
 

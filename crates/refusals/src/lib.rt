@@ -1,4 +1,6 @@
 // Why a call refuses: the one place where a refusal is made.
+#![tactic(auto)]
+
 ghost use Rattle.std.specs.Prelude.{◌≡◌};
 ghost use Rattle.rules.specs.Tables.{by, by_word};
 

@@ -1,4 +1,6 @@
 // The replay: lines from standard input, of any number, to standard output. `stream` takes what is read here.
+#![tactic(auto)]
+
 ghost use Rattle.stream.specs.Room.{Ready};
 
 use libc::STDIN_FILENO;

@@ -1,4 +1,6 @@
 // What the probe's calls share, and those that take no setting and no book: a call's fields read, the call made, its answer put as text.
+#![tactic(auto)]
+
 mod buffers;
 mod chances;
 mod fields;

@@ -48,7 +48,7 @@ turn_distinct cells (c ∷ l) u g =
 pick_length : (cells ds : List ℕ) → length (pick cells ds) ≡ length ds
 unfolding pick
 pick_length cells [] = refl
-pick_length cells (d ∷ ds) = ap suc (pick_length _ ds)
+pick_length cells (d ∷ ds) = ap suc (pick_length (without (get_or cells d 0) cells) ds)
 
 pub drawn_length : (cells : List ℕ) (k i : ℕ) → length (drawn_from cells k i) ≡ k
 unfolding drawn_from

@@ -205,14 +205,14 @@ module _ (w l : List ℕ) (i : ℕ) (c : Ranks w l (Value i)) where
   none_held = table_given (rank_order w l) (rank_of (state_of w) l) i (sym c.answer)
 
   ranked : Countable w
-  ranked = countable w (rank_rows w l) none-held.0
+  ranked = countable w (rank_rows w l) none_held.0
 
   can_rank_lem : can_rank (state_of w) l ≡ true
-  can_rank_lem = not-false (can_rank (state_of w) l) (later_row w (rank_rows w l) none-held.0 2)
+  can_rank_lem = not-false (can_rank (state_of w) l) (later_row w (rank_rows w l) none_held.0 2)
 
   -- what a draw of the index that a rank answered lists is what was ranked
   pub list_forth : (image list : List ℕ) → DrawWrote w i image list → list ≡ l
-  list_forth image list d = written_list w i image list d ∙ ap (drawn (state_of w)) (sym none-held.1) ∙ (fair_image w ranked.formed).forth l can_rank_lem
+  list_forth image list d = written_list w i image list d ∙ ap (drawn (state_of w)) (sym none_held.1) ∙ (fair_image w ranked.formed).forth l can_rank_lem
 
   -- and with room such a draw is answered, and writes that list
   pub rank_forth : (old new list cells : List ℕ) (r : Drawn) → Draws w i old new list cells r → length w + length l ≤ length old → length l ≤ length list
@@ -220,7 +220,7 @@ module _ (w l : List ℕ) (i : ℕ) (c : Ranks w l (Value i)) where
   rank_forth old new list cells r p room list_room =
       let f = fair_image w ranked.formed in
       let k : length l ≡ draw_size (state_of w) = sym (ap length (f.forth l can_rank_lem)) ∙ f.long (rank_of (state_of w) l) (f.ranks l can_rank_lem) in
-      let q : Drawable w i old list = record { countable = ranked; below = rw none-held.1 at (f.ranks l can_rank_lem); room = omega arith; list_room = omega arith } in
+      let q : Drawable w i old list = record { countable = ranked; below = rw none_held.1 at (f.ranks l can_rank_lem); room = omega arith; list_room = omega arith } in
       let d = draw_comes w i old new list cells r p q in
       rw k (d.0, d.1, list_forth _ _ (draw_wrote w i old new list cells r p q))
 

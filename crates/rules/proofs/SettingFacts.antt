@@ -99,7 +99,7 @@ module _ (s : Setting) (e : setting_check s ≡ 0) where
   limits_hold = limited s (limits_none s e)
 
   three : lt_z s.grid_size (pos 3) ≡ false
-  three = wide s.grid_size s.num_snakes s.initial_length s.initial_food_count limits-hold.snakes_min limits-hold.snakes_max limits-hold.size_min (places_none s e)
+  three = wide s.grid_size s.num_snakes s.initial_length s.initial_food_count limits_hold.snakes_min limits_hold.snakes_max limits_hold.size_min (places_none s e)
 
   is_side : s.grid_size ≡ pos (side_of s.grid_size)
   is_side = grid_side s.grid_size three
@@ -108,7 +108,7 @@ module _ (s : Setting) (e : setting_check s ≡ 0) where
   low = side_three s.grid_size three
 
   high : side_of s.grid_size ≤ 32
-  high = side_small s.grid_size limits-hold.grid_max
+  high = side_small s.grid_size limits_hold.grid_max
 
   checked : place_check (pos (side_of s.grid_size)) s.num_snakes s.initial_length s.initial_food_count ≡ 0
   checked = ap (λ (g : ℤ). place_check g s.num_snakes s.initial_length s.initial_food_count) (sym is_side) ∙ places_none s e
@@ -118,13 +118,13 @@ module _ (s : Setting) (e : setting_check s ≡ 0) where
       let g = side_of s.grid_size in
       let n = s.num_snakes in
       let k = s.initial_length in
-      let o = limits-hold.size_min in
+      let o = limits_hold.size_min in
       let h = held g n k s.initial_food_count low high o checked in
       let f : s.initial_food_count + n * k ≤ g * g = food_most g n k s.initial_food_count low high o checked in
-      let m : 1 * k ≤ n * k = mul-le-mul (le_trans (omega arith) limits-hold.snakes_min) (le_refl k) in
+      let m : 1 * k ≤ n * k = mul-le-mul (le_trans (omega arith) limits_hold.snakes_min) (le_refl k) in
       record {
-        snakes_min = limits-hold.snakes_min;
-        snakes_max = limits-hold.snakes_max;
+        snakes_min = limits_hold.snakes_min;
+        snakes_max = limits_hold.snakes_max;
         size_min = o;
         size_max = omega (arith, m, f);
         grid_is = is_side;

@@ -1,4 +1,5 @@
 // The types that the calls of the arena share. No function: the rules are definitions, in specs/.
+#![tactic(auto)]
 
 #[derive(Clone, Copy)]
 pub enum Heading {

@@ -1,4 +1,6 @@
 // What an agent gets: the reward of an event, and the cell that its match's lengths fall into.
+#![tactic(auto)]
+
 mod lengths;
 mod rewards;
 

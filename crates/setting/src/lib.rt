@@ -1,4 +1,6 @@
 // The check of a setting (refusals 1 to 12 without 7), whether an image is of another one (21), and the initial state.
+#![tactic(auto)]
+
 mod images;
 mod start;
 

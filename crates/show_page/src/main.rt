@@ -1,5 +1,7 @@
 // A page of a match book, as a person reads it. The first argument is the page's number, standard input the book, a file. What is wrong is said on
 // standard error, in one line.
+#![tactic(auto)]
+
 mod line;
 mod messages;
 

@@ -1,5 +1,7 @@
 // How a match stands: the moves made, who died when, its end and its placings; and the line that shows an image. A match is a value: a server
 // keeps it beside the image, `new_match`, `take_move` and `places` are its calls, and none of them has a `requires`.
+#![tactic(auto)]
+
 mod calls;
 mod moves;
 mod placings;

@@ -1,4 +1,6 @@
 // One step of the arena: the refusals in their order, then all are judged on one world, and the judgement is applied.
+#![tactic(auto)]
+
 mod bodies;
 mod conclusion;
 mod food;

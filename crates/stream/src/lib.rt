@@ -1,6 +1,8 @@
 // A replay as it is read and printed: what came is cut into lines, `referee` takes each, and its text goes to standard output. What is taken and which
 // bytes are to be printed is promised (specs/Steps.antt), and so is that all of them are the replay of the input (proofs/Printed.antt); that they
 // are printed, each once and in turn, is not: no contract says what is written.
+#![tactic(auto)]
+
 ghost use Rattle.std.specs.Prelude.{◌≡◌, [], ◌<◌, ◌≤◌, length};
 ghost use Rattle.stream.specs.Room.{Ready, Spare};
 ghost use Rattle.stream.specs.Steps.{Fresh, Takes, Step, TakesAll, Last, Ends, Finishes};

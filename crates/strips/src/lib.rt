@@ -1,5 +1,7 @@
 // Squares as bits: 16 strips of 64 squares, whatever the grid's side. Taken squares are marked once; the others are then counted strip by strip, and found by
 // these counts.
+#![tactic(auto)]
+
 mod counts;
 mod finds;
 mod marks;

@@ -1,4 +1,6 @@
 // Who was hit where: the refusals of a step but 29, then the moves judged on one world, and for each death by a body whom the head hit and at which position.
+#![tactic(auto)]
+
 ghost use Rattle.std.specs.Prelude.{◌≡◌, length};
 ghost use Rattle.rules.specs.Image.{snakes_in, side_in, state_of};
 ghost use Rattle.rules.specs.Facts.{Sound};

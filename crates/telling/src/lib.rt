@@ -1,4 +1,6 @@
 // What several exported calls tell: a number, how many words were written, where a body lies; a lent array is untouched on a refusal.
+#![tactic(auto)]
+
 mod answers;
 mod bodies;
 

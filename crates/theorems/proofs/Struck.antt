@@ -71,14 +71,14 @@ module _ (s : Setting) (w acts : List ℕ) (r : Hits) (p : Strikes s w acts r) (
 
   hit_is : (i : ℕ) → i < count t → get_or r.hits i no_hit ≡ hit_of t.side (count t) (moved_in t acts) i
   unfolding hits_in
-  hit_is i h = ap (λ (l : List Hit). get_or l i no_hit) struck-is.1 ∙ filled_at (hit_of t.side (count t) (moved_in t acts)) (count t) 8 no_hit no_hit i h
+  hit_is i h = ap (λ (l : List Hit). get_or l i no_hit) struck_is.1 ∙ filled_at (hit_of t.side (count t) (moved_in t acts)) (count t) 8 no_hit no_hit i h
 
   -- from n on nobody
   pub struck_past : (i : ℕ) → count t ≤ i → get_or r.hits i no_hit ≡ no_hit
   unfolding hits_in
   struck_past i h =
       let f = hit_of t.side (count t) (moved_in t acts) in
-      ap (λ (l : List Hit). get_or l i no_hit) struck-is.1 ∙ filled_is f (count t) 8 no_hit i ∙ each_past (count t) f no_hit i h
+      ap (λ (l : List Hit). get_or l i no_hit) struck_is.1 ∙ filled_is f (count t) 8 no_hit i ∙ each_past (count t) f no_hit i h
 
   -- beside the step's answer
   module _ (old new : List ℕ) (o : Stepped) (q : Steps s w acts old new o) (room : none_hold (step_order s w acts (length old)) ≡ true) (i : ℕ) (h : i < count t) where

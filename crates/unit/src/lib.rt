@@ -1,4 +1,6 @@
 // The outcome of a unit number, as the Rust's uniform draw has it.
+#![tactic(auto)]
+
 ghost use Rattle.std.specs.Prelude.{◌≡◌};
 ghost use Rattle.unit.specs.UnitNumber.{outside_count, is_unit, outcome_of};
 ghost use Rattle.unit.specs.Promises.{Chooses};

@@ -1,4 +1,6 @@
 // Which slices are well-formed images. The tests that the search for a fault asks too are handed on.
+#![tactic(auto)]
+
 mod cells;
 mod check;
 mod contents;

@@ -1,0 +1,10 @@
+-- `bindings::lundaspro_flat_draw` meets its contract: the arena's words and list, and how many; a refusal tells nothing (`Saying`). Assumes nothing.
+use borrow.Author.Rules.{rules}
+use Rattle.bindings.proofs.Saying.{draw_told, draw_refused}
+use Rattle.bindings.proofs.chances.lundaspro_flat_draw.Goals as goal
+
+pub returns-in-Done : goal.returns-in-Done
+returns-in-Done c = search draw_told
+
+pub returns-in-Refused : goal.returns-in-Refused
+returns-in-Refused c = search draw_refused

@@ -1,0 +1,10 @@
+-- `bindings::lundaspro_flat_truncation` meets its contract: the arena's event, in bytes; a refusal tells nothing (`Saying`). Assumes nothing.
+use borrow.Author.Rules.{rules}
+use Rattle.bindings.proofs.Saying.{mark_told, mark_refused}
+use Rattle.bindings.proofs.views.lundaspro_flat_truncation.Goals as goal
+
+pub returns-in-Marked : goal.returns-in-Marked
+returns-in-Marked c = search mark_told
+
+pub returns-in-Refused : goal.returns-in-Refused
+returns-in-Refused c = search mark_refused

@@ -1,0 +1,16 @@
+-- `book::rows::lengths` meets its contract. The invariant: the first i lengths are added up (`Summed`). The measure is how many are left.
+-- Assumes nothing.
+use Prim.Native.Nat.{◌-◌}
+use borrow.Author.Rules.{rules}
+use Rattle.book.specs.Writing.{Summed}
+use Rattle.book.proofs.RowLaws.{sum_start, sum_more, sum_all}
+use Rattle.book.proofs.rows.lengths.Goals as goal
+
+pub loop-i-init : goal.loop-i-init
+loop-i-init c = search sum_start
+
+pub loop-i-preserved : goal.loop-i-preserved
+loop-i-preserved c = search sum_more
+
+pub returns : goal.returns
+returns c = search sum_all

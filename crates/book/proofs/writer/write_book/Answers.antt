@@ -1,0 +1,13 @@
+-- `book::writer::write_book` meets its contract: 29, or the contents and then the row, which is the pages one after the other. Assumes nothing.
+use borrow.Author.Rules.{rules}
+use Rattle.book.proofs.Booked.{writes_29, writes_done}
+use Rattle.book.proofs.writer.write_book.Goals as goal
+
+pub returns-then-out-words : goal.returns-then-out-words
+returns-then-out-words c = search writes_29
+
+pub write_contents-requires : goal.write_contents-requires
+write_contents-requires c = (search rules, (search rules, search rules))
+
+pub returns : goal.returns
+returns c = search writes_done

@@ -1,0 +1,18 @@
+-- `consequences::find_killers` meets its contract: the invariant says that the deaths passed are credited and the places after them 0 (`Laws`).
+-- Assumes nothing.
+use Prim.Native.Nat.{◌-◌}
+use borrow.Author.Rules.{rules}
+use Rattle.judge.specs.Loops.{Filling}
+use Rattle.consequences.specs.After.{killer_in}
+use Rattle.judge.proofs.Loops.{fill_none, fill_all}
+use Rattle.consequences.proofs.Laws.{killers_next}
+use Rattle.consequences.proofs.killers.find_killers.Goals as goal
+
+pub loop-i-init : goal.loop-i-init
+loop-i-init c = search fill_none
+
+pub loop-i-preserved : goal.loop-i-preserved
+loop-i-preserved c = search killers_next
+
+pub returns : goal.returns
+returns c = search fill_all

@@ -1,0 +1,19 @@
+-- `consequences::find_living` meets its contract: the invariant says that none of the snakes passed lives (`Leading`).
+-- Assumes nothing.
+use Prim.Native.Nat.{◌-◌}
+use borrow.Author.Rules.{rules}
+use Rattle.consequences.specs.Leads.{NoneLiving}
+use Rattle.consequences.proofs.Leading.{living_none, living_next, living_here, living_end}
+use Rattle.consequences.proofs.leads.find_living.Goals as goal
+
+pub loop-i-init : goal.loop-i-init
+loop-i-init c = search living_none
+
+pub returns-then-a : goal.returns-then-a
+returns-then-a c = search living_here
+
+pub loop-i-preserved : goal.loop-i-preserved
+loop-i-preserved c = search living_next
+
+pub returns : goal.returns
+returns c = search living_end

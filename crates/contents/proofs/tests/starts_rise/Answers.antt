@@ -1,0 +1,16 @@
+-- `contents::tests::starts_rise` meets its contract. The invariant: the flag tells of the first i starts (`Rising`). The measure is how many are left.
+-- Assumes nothing.
+use Prim.Native.Nat.{◌-◌}
+use borrow.Author.Rules.{rules}
+use Rattle.contents.specs.Read.{Rising}
+use Rattle.contents.proofs.Fitting.{rise_none, rise_next, rise_all}
+use Rattle.contents.proofs.tests.starts_rise.Goals as goal
+
+pub loop-i-init : goal.loop-i-init
+loop-i-init c = search rise_none
+
+pub loop-i-preserved : goal.loop-i-preserved
+loop-i-preserved c = search rise_next
+
+pub returns : goal.returns
+returns c = search rise_all

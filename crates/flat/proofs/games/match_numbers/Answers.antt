@@ -1,0 +1,7 @@
+-- `flat::match_numbers` meets its contract: number by number (`Matches`). Assumes nothing.
+use borrow.Author.Rules.{rules}
+use Rattle.flat.proofs.Matches.{match_told}
+use Rattle.flat.proofs.games.match_numbers.Goals as goal
+
+pub returns : goal.returns
+returns c = search match_told

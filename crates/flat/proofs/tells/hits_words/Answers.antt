@@ -1,0 +1,7 @@
+-- `flat::hits_words` meets its contract: hit by hit (`Told`). Assumes nothing.
+use borrow.Author.Rules.{rules}
+use Rattle.flat.proofs.Told.{hits_told}
+use Rattle.flat.proofs.tells.hits_words.Goals as goal
+
+pub returns : goal.returns
+returns c = search hits_told

@@ -1,0 +1,32 @@
+-- `image::body` meets its contract: for a malformed image or no such snake the empty front part, else the body, by its words and its place (`Asked`).
+-- Assumes nothing.
+use Prim.Native.Nat.{◌≤◌}
+use native.Mathlib.Omega.{arith}
+use borrow.Author.Rules.{rules}
+use Rattle.lists.proofs.Fits.{word_fits}
+use Rattle.rules.specs.Image.{snakes_in}
+use Rattle.rules.proofs.Facts.{passed, failed, word_in}
+use Rattle.image.proofs.Asked.{parts_malformed, parts_beyond, parts_body, place_malformed, place_beyond, place_body}
+use Rattle.image.proofs.parts.body.Goals as goal
+
+-- the number is not below n
+beyond : tie.Need-returns-2
+beyond c =
+    let start : tie.Start = search in
+    let out : snakes_in start.args.image.now ≤ start.args.snake = omega arith in
+    search (parts_beyond, place_beyond)
+
+pub returns-then-not-well_formed : goal.returns-then-not-well_formed
+returns-then-not-well_formed c = search (parts_malformed, place_malformed, failed)
+
+pub bounds-image-0 : goal.bounds-image-0
+bounds-image-0 c = search (rules, word_in, passed)
+
+pub overflow_cast-image : goal.overflow_cast-image
+overflow_cast-image c = search word_fits
+
+pub body_of-requires : goal.body_of-requires
+body_of-requires c = search (rules, passed)
+
+pub returns : goal.returns
+returns c = search (parts_body, place_body, passed)

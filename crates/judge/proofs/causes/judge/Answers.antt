@@ -1,0 +1,21 @@
+-- `judge::judge` meets its contract: the invariant says that the snakes passed are judged on the world of all moves, and that those after them are unharmed (`Judging`).
+-- Assumes nothing.
+use Prim.Native.Nat.{◌-◌}
+use borrow.Author.Rules.{rules}
+use Rattle.judge.specs.Loops.{Filling}
+use Rattle.judge.specs.Judging.{fate_at}
+use Rattle.judge.specs.World.{unharmed}
+use Rattle.judge.proofs.Judging.{judging_at, fates_none, fates_next, judges}
+use Rattle.judge.proofs.causes.judge.Goals as goal
+
+pub loop-i-init : goal.loop-i-init
+loop-i-init c = search fates_none
+
+pub cause_of-requires : goal.cause_of-requires
+cause_of-requires c = search judging_at
+
+pub loop-i-preserved : goal.loop-i-preserved
+loop-i-preserved c = search fates_next
+
+pub returns : goal.returns
+returns c = search judges

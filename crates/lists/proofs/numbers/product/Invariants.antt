@@ -1,0 +1,14 @@
+use Rattle.lists.proofs.Fitted.{product_over, product_fits, product_done}
+use borrow.Author.Rules.{rules}
+use native.Mathlib.Omega.{arith}
+use Prim.Native.Nat.{◌-◌, ◌≤◌, ◌<◌, ◌^◌}
+use mathlib.Core.Path.{◌≡◌, sym}
+use Rattle.lists.specs.Products.{falling}
+use Rattle.lists.proofs.Products.{falling_none, falling_next}
+use Rattle.lists.proofs.numbers.product.Given as goal
+
+abbrev pub invariant-loop-j : goal.invariant-loop-j
+invariant-loop-j l = (l.j ≤ l.k) × (l.p ≡ falling l.n l.j) × (l.p < 2 ^ 64)
+
+abbrev pub decreases-loop-j : goal.decreases-loop-j
+decreases-loop-j l = l.k - l.j

@@ -1,0 +1,14 @@
+use Prim.Native.Nat.{◌-◌}
+use mathlib.Core.Path.{sym, ◌∙◌}
+use borrow.Author.Tests.{eq-eqb, ne_eqb}
+use Rattle.parsing.specs.Lines.{move_in}
+use borrow.Author.Rules.{rules}
+use Rattle.parsing.proofs.lines.move_in.Goals as goal
+
+pub returns-then-field_count-n : goal.returns-then-field_count-n
+unfolding move_in
+returns-then-field_count-n c = let e = sym c.field_count.ensures ∙ c.if-field_count-n.true in c.actions_in.ensures ∙ rw (eq-eqb _ _ e)
+
+pub returns : goal.returns
+unfolding move_in
+returns c = let e = c.field_count.ensures in c.no_entry.ensures ∙ rw (ne_eqb _ _ (λ p. c.if-field_count-n.false (e ∙ p)))

@@ -1,0 +1,14 @@
+use Prim.Native.Nat.{◌-◌}
+use mathlib.Core.Path.{◌∙◌}
+use borrow.Author.Tests.{le-ltb, lt-ltb}
+use Rattle.parsing.specs.Lines.{read_later}
+use borrow.Author.Rules.{rules}
+use Rattle.parsing.proofs.lines.read_later.Goals as goal
+
+pub returns-then-s-gt200 : goal.returns-then-s-gt200
+unfolding read_later
+returns-then-s-gt200 c = c.no_entry.ensures ∙ rw (lt-ltb _ _ c.if-s-gt200.true)
+
+pub returns : goal.returns
+unfolding read_later
+returns c = c.entry_in.ensures ∙ rw (le-ltb _ _ c.if-s-gt200.false)

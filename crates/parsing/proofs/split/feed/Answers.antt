@@ -1,0 +1,23 @@
+use lib.ListN.{length}
+use Rattle.lists.proofs.Writes.{length_write}
+use Rattle.parsing.proofs.Feeding.{fed_over, fed_past, fed_on}
+use native.Mathlib.Omega.{arith}
+use mathlib.Core.Path.{refl, ap, ◌∙◌}
+use borrow.Author.Rules.{rules}
+use Rattle.parsing.proofs.split.feed.Goals as goal
+
+pub returns-then-fill-gt200 : goal.returns-then-fill-gt200
+returns-then-fill-gt200 c = record { most = omega arith; long = refl; holds = λ s h. fed_over c.args.line.now s c.args.part.now c.args.fill h c.if-fill-gt200.true }
+
+pub returns-then-fill-part : goal.returns-then-fill-part
+returns-then-fill-part c = record { most = omega arith; long = refl; holds = λ s h. fed_past c.args.line.now s c.args.part.now c.args.fill h c.if-fill-gt200.false c.if-fill-part.true }
+
+pub returns : goal.returns
+returns c =
+    let a = c.args in
+    let e = c.write_at.ensures in
+    record {
+      most = omega arith;
+      long = ap length e ∙ length_write a.line.now a.fill a.part.now (omega arith);
+      holds = λ s h. rw e (fed_on a.line.now s a.part.now a.fill h c.if-fill-gt200.false c.if-fill-part.false (omega arith));
+    }

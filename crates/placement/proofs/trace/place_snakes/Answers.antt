@@ -1,0 +1,56 @@
+use Prim.Native.Nat.{◌-◌}
+use native.Mathlib.Omega.{arith}
+use mathlib.Core.Path.{ap, ◌∙◌}
+use lib.IntN.{pos}
+use Rattle.rules.specs.Grid.{inside}
+use Rattle.rules.specs.declared.Place.{Place}
+use Rattle.rules.proofs.Starts.{start_inside}
+use Rattle.placement.proofs.Laying.{Laying, laying_start, laying_room, laying_long, laying_count, laying_short, laying_on, laying_end}
+use Rattle.placement.proofs.trace.place_snakes.Goals as goal
+
+pub loop-i-init : goal.loop-i-init
+loop-i-init c =
+    let a = c.args in
+    laying_start a.g a.n a.size a.cells.now c.requires
+
+pub start_place-start-requires : goal.start_place-start-requires
+start_place-start-requires c =
+    let p = c.requires in
+    record { side_min = p.side-min; side_max = p.side-max; snakes_min = p.snakes-min; snakes_max = p.snakes-max; number = c.loop-i-test.true }
+
+pub trace_body-k-requires : goal.trace_body-k-requires
+trace_body-k-requires c =
+    let a = c.args in
+    let p = c.requires in
+    let i = start_inside a.g a.n c.loop-i.i p.side-min c.loop-i-test.true in
+    ((laying_room a.g a.n a.size a.cells.now p c.loop-i.cells c.loop-i.at c.loop-i.i c.loop-i.invariant c.loop-i-test.true, p.side-max, p.size-min), ap (λ (q : Place). inside (pos a.g) q) c.start_place-start.ensures ∙ i)
+
+pub shape_of-cells-then-k-size : goal.shape_of-cells-then-k-size
+shape_of-cells-then-k-size c =
+    let a = c.args in
+    laying_long a.g a.n a.size a.cells.now c.requires c.loop-i.cells c.loop-i.at c.loop-i.i c.loop-i.invariant _ _ _ c.loop-i-test.true c.start_place-start.ensures c.trace_body-k.ensures
+
+pub returns-then-k-size : goal.returns-then-k-size
+returns-then-k-size c =
+    let a = c.args in
+    laying_short a.g a.n a.size a.cells.now c.requires c.loop-i.cells c.loop-i.at c.loop-i.i c.loop-i.invariant _ _ _ c.loop-i-test.true c.start_place-start.ensures c.trace_body-k.ensures c.if-k-size.true
+
+pub overflow_add-at : goal.overflow_add-at
+overflow_add-at c =
+    let a = c.args in
+    let h = laying_count a.g a.n a.size a.cells.now c.requires c.loop-i.cells c.loop-i.at c.loop-i.i c.loop-i.invariant _ _ _ c.loop-i-test.true c.start_place-start.ensures c.trace_body-k.ensures in
+    omega (arith, h, c.loop-i.invariant.long, c.requires.room)
+
+pub loop-i-preserved : goal.loop-i-preserved
+loop-i-preserved c =
+    let a = c.args in
+    laying_on a.g a.n a.size a.cells.now c.requires c.loop-i.cells c.loop-i.at c.loop-i.i c.loop-i.invariant _ _ _ c.loop-i-test.true c.start_place-start.ensures c.trace_body-k.ensures c.if-k-size.false
+
+pub shape_of-cells : goal.shape_of-cells
+shape_of-cells c = c.loop-i.invariant.long
+
+pub returns : goal.returns
+returns c =
+    let l = c in
+    let a = l.before.before.args in
+    laying_end a.g a.n a.size a.cells.now l.before.before.requires l.loop.cells l.loop.at l.loop.i l.loop.invariant c.loop-i-test.false

@@ -1,0 +1,8 @@
+use Prim.Native.Nat.{◌-◌}
+use Rattle.printing.proofs.bytes.digit_of.Goals as goal
+
+pub returns-then-b : goal.returns-then-b
+returns-then-b c = rw c.if-b.true
+
+pub returns-else-b : goal.returns-else-b
+returns-else-b c = rw c.if-b.false

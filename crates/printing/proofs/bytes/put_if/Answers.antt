@@ -1,0 +1,10 @@
+use Prim.Native.Nat.{◌-◌}
+use Rattle.printing.proofs.Writing.{nothing}
+use borrow.Author.Rules.{rules}
+use Rattle.printing.proofs.bytes.put_if.Goals as goal
+
+pub returns-then-flag : goal.returns-then-flag
+returns-then-flag c = rw c.if-flag.true c.put.ensures
+
+pub returns : goal.returns
+returns c = rw c.if-flag.false (nothing c.args.out.now c.args.at 1)

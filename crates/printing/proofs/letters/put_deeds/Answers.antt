@@ -1,0 +1,12 @@
+use native.Mathlib.Omega.{arith}
+use Prim.Native.Nat.{◌-◌}
+use Rattle.printing.specs.Text.{deeds_text}
+use Rattle.printing.proofs.Writing.{both}
+use borrow.Author.Rules.{rules}
+use Rattle.printing.proofs.letters.put_deeds.Goals as goal
+
+pub returns : goal.returns
+unfolding deeds_text
+returns c =
+    let p = rw (c.letter_of.ensures, c.is_death.ensures) at c.put_if-j.ensures in
+    both (both c.put_if-i.ensures p (omega arith)) c.put_if.ensures (omega arith)

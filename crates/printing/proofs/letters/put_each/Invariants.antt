@@ -1,0 +1,15 @@
+use Prim.Native.Nat.{◌+◌, ◌-◌, ◌≤◌, ◌*◌}
+use mathlib.Core.Path.{◌≡◌}
+use Rattle.printing.proofs.Writing.{both, wider, nothing}
+use Rattle.lists.proofs.Below.{concat_none, concat_next}
+use Rattle.printing.specs.Text.{Wrote, placing_text}
+use Rattle.lists.specs.Below.{concat_below}
+use native.Mathlib.Omega.{arith}
+use borrow.Author.Rules.{rules}
+use Rattle.printing.proofs.letters.put_each.Given as goal
+
+abbrev pub invariant-loop-i : goal.invariant-loop-i
+invariant-loop-i l = (l.i ≤ l.n) × Wrote l.initial.out l.out l.from l.at (concat_below l.i (placing_text l.all)) (21 * l.i)
+
+abbrev pub decreases-loop-i : goal.decreases-loop-i
+decreases-loop-i l = l.n - l.i

@@ -1,0 +1,25 @@
+-- `referee::take_line` meets its contract: a line that stops leaves the desk's image, one that goes on writes the next over it (`Lines`).
+-- Assumes nothing.
+use borrow.Author.Rules.{rules}
+use mathlib.Core.Bool.{false, not}
+use mathlib.Core.Path.{◌≡◌}
+use Rattle.referee.proofs.Lines.{desk_stays, desk_words, desk_room, desk_moves}
+use Rattle.referee.proofs.play.take_line.Goals as goal
+
+-- the next image fits where the desk's image stands
+room-for-next : tie.Need-write-at-requires
+room-for-next c κs =
+    let asked : tie.After-ask = search in
+    let start : tie.Start = search in
+    desk_room _ _ _ _ _ _ _ _ _ _ asked.ask.ensures start.pre.1
+
+pub returns-then-not-t : goal.returns-then-not-t
+returns-then-not-t c = search desk_stays
+
+pub slice_bounds-write_at-end : goal.slice_bounds-write_at-end
+slice_bounds-write_at-end c = search (rules, desk_words)
+
+pub returns : goal.returns
+returns c =
+    let more : not c.ask-t.result.more ≡ false = search in
+    desk_moves _ _ _ _ _ _ _ _ _ _ c.ask-t.ensures c.requires.1 more _ c.write_at.ensures

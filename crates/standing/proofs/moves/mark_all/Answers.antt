@@ -1,0 +1,15 @@
+-- `standing::mark_all` meets its contract. The invariant: the first i events are marked (`Marked` in `Showing`). The measure is how
+-- many are left. Assumes nothing.
+use borrow.Author.Rules.{rules}
+use Prim.Native.Nat.{◌-◌}
+use Rattle.standing.proofs.Showing.{Marked, marked_none, marked_next, marked_all}
+use Rattle.standing.proofs.moves.mark_all.Goals as goal
+
+pub loop-i-init : goal.loop-i-init
+loop-i-init c = search marked_none
+
+pub loop-i-preserved : goal.loop-i-preserved
+loop-i-preserved c = search marked_next
+
+pub returns : goal.returns
+returns c = search marked_all

@@ -1,0 +1,10 @@
+-- `standing::end_placing` meets its contract: 2 for a living snake that lost, and else 01's placing (`Behind`). Assumes nothing.
+use borrow.Author.Rules.{rules}
+use Rattle.standing.proofs.Behind.{placed_behind, placed_else}
+use Rattle.standing.proofs.placings.end_placing.Goals as goal
+
+pub returns-then-behind-i : goal.returns-then-behind-i
+returns-then-behind-i c = search placed_behind
+
+pub returns : goal.returns
+returns c = search placed_else

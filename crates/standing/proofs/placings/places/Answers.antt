@@ -1,0 +1,7 @@
+-- `standing::places` meets its contract: the placings of as many snakes as the match has. Assumes nothing.
+use borrow.Author.Rules.{rules}
+use Rattle.standing.proofs.Behind.{placed_all}
+use Rattle.standing.proofs.placings.places.Goals as goal
+
+pub returns : goal.returns
+returns c = search placed_all

@@ -1,0 +1,16 @@
+use Prim.Native.Nat.{ℕ, ◌-◌, ◌≤◌}
+use mathlib.Core.Path.{◌≡◌, ap, ◌∙◌}
+use lib.ListN.{set}
+use mathlib.Core.List.{List}
+use Rattle.standing.specs.Placings.{end_placing, placings_of}
+use Rattle.lists.specs.Below.{filled}
+use Rattle.lists.proofs.Below.{filled_none, filled_more}
+use native.Mathlib.Omega.{arith}
+use borrow.Author.Rules.{rules}
+use Rattle.standing.proofs.placings.placings.Given as goal
+
+abbrev pub invariant-loop-i : goal.invariant-loop-i
+invariant-loop-i l = (l.i ≤ l.n) × (l.out ≡ filled (end_placing l.n l.deaths l.behind) l.i 8 0)
+
+abbrev pub decreases-loop-i : goal.decreases-loop-i
+decreases-loop-i l = l.n - l.i

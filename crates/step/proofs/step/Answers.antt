@@ -1,0 +1,14 @@
+-- `step::step` meets its contract: a refusal leaves the lent words; an accepted step is the applied judgement (`Refusals`).
+-- Assumes nothing.
+use borrow.Author.Rules.{rules}
+use Rattle.step.proofs.Refusals.{asked_sound, asked_count, steps_refused, steps_done}
+use Rattle.step.proofs.step.Goals as goal
+
+pub go_on-requires : goal.go_on-requires
+go_on-requires c = search (asked_sound, asked_count)
+
+pub returns-in_default : goal.returns-in_default
+returns-in_default c = search steps_done
+
+pub returns : goal.returns
+returns c = search steps_refused

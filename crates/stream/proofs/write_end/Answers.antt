@@ -1,0 +1,19 @@
+use mathlib.Core.Path.{refl, sym, ◌∙◌}
+use mathlib.Core.Bool.{true≢false}
+use borrow.Author.Tests.{not-true, not-false}
+use borrow.Author.Rules.{rules}
+use Rattle.stream.proofs.write_end.Goals as goal
+
+pub returns-then-not-r : goal.returns-then-not-r
+returns-then-not-r c =
+    let e = not-true c.args.r.on c.if-not-r.true in
+    record { closed = λ o. absurd (true≢false (sym o ∙ e)); stopped = λ o. refl }
+
+pub returns : goal.returns
+returns c =
+    let e = not-false c.args.r.on c.if-not-r.false in
+    let k = c.close in
+    record {
+      closed = λ o. record { out = c.args.out.now; exit = k.last.1.0; count = k.result; wrote = k.ensures; prints = refl };
+      stopped = λ o. absurd (true≢false (sym e ∙ o));
+    }

@@ -1,0 +1,7 @@
+-- `strips::is_marked` meets its contract, which says what it computes. Assumes nothing.
+use borrow.Author.Rules.{rules}
+use Rattle.strips.proofs.Strips.{marked_is}
+use Rattle.strips.proofs.marks.is_marked.Goals as goal
+
+pub returns : goal.returns
+returns c = search marked_is

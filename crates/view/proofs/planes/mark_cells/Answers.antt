@@ -1,0 +1,7 @@
+-- `view::mark_cells` meets its contract: the two marks are the body's (`cells_marked`). Assumes nothing.
+use borrow.Author.Rules.{rules}
+use Rattle.view.proofs.Marks.{cells_marked}
+use Rattle.view.proofs.planes.mark_cells.Goals as goal
+
+pub returns : goal.returns
+returns c = search cells_marked

@@ -1,0 +1,22 @@
+-- `wrong_cells::first_fall` meets its contract. The invariant: each word of the food up to k is above the one before it (`Falls`).
+-- The measure is how many words are left. Assumes nothing.
+use borrow.Author.Rules.{rules}
+use Prim.Native.Nat.{◌-◌}
+use lib.ListN.{length}
+use Rattle.wrong_cells.proofs.Finding.{Falls, falls_from, food_fits_lem, falls_here, falls_on, falls_none}
+use Rattle.wrong_cells.proofs.cells.first_fall.Goals as goal
+
+pub overflow_add-k : goal.overflow_add-k
+overflow_add-k c = search food_fits_lem
+
+pub loop-k-init : goal.loop-k-init
+loop-k-init c = search falls_from
+
+pub returns-then-image-k : goal.returns-then-image-k
+returns-then-image-k c = search falls_here
+
+pub loop-k-preserved : goal.loop-k-preserved
+loop-k-preserved c = search falls_on
+
+pub returns : goal.returns
+returns c = search falls_none

@@ -1,0 +1,19 @@
+-- `wrong_cells::twice_in` meets its contract. The invariant: no cell before k stood earlier in the body (`Twice`). The measure is how many are left.
+-- Assumes nothing.
+use borrow.Author.Rules.{rules}
+use Prim.Native.Nat.{◌-◌}
+use lib.ListN.{length}
+use Rattle.wrong_cells.proofs.Finding.{Twice, once_none, once_here, once_on, once_all}
+use Rattle.wrong_cells.proofs.cells.twice_in.Goals as goal
+
+pub loop-k-init : goal.loop-k-init
+loop-k-init c = search once_none
+
+pub returns-in-At : goal.returns-in-At
+returns-in-At c = search once_here
+
+pub loop-k-preserved : goal.loop-k-preserved
+loop-k-preserved c = search once_on
+
+pub returns : goal.returns
+returns c = search once_all
