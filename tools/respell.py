@@ -87,7 +87,7 @@ def main():
         ours, theirs = imported(text, crates)
         skip = {n for n in theirs if n not in ours}
         here = collections.defaultdict(set)
-        made = p.endswith(("/Proof.antt", "/Invariants.antt", "/Answers.antt"))
+        made = p.endswith(("/Proof.antt", "/Invariants.antt", "/Answers.antt")) and not os.path.dirname(p).endswith("/proofs")
 
         def one(m, code=True):
             t = m.group(0)

@@ -101,7 +101,7 @@ module _ (w : List ℕ) where
     starts_out t = sym (every_out _ (sym p.starts ∙ not-true _ t))
 
     pub total_fits_lem : Ranged w → ((k : ℕ) → Fits w16 (get_or w k 0)) → Fits w64 (r.food + get_or w 4 0)
-    total_fits_lem q h = omega (arith, p.food-is, q.food-early, h 4)
+    total_fits_lem q h = omega (arith, p.food_is, q.food_early, h 4)
 
     module _ (t : not r.fits ≡ false) where
       started : starts_fit w ≡ true
@@ -109,11 +109,11 @@ module _ (w : List ℕ) where
 
       pub total_out : (r.food + get_or w 4 0 ≡ length w → ⊥) → false ≡ laid_tests
       unfolding total_fits
-      total_out n = sym (every_on _ started ∙ every_out _ (ne_eqb (food_start w + food_count_in w) (length w) (λ q. n (rw p.food-is q))))
+      total_out n = sym (every_on _ started ∙ every_out _ (ne_eqb (food_start w + food_count_in w) (length w) (λ q. n (rw p.food_is q))))
 
       module _ (e : r.food + get_or w 4 0 ≡ length w) where
         whole : food_start w + food_count_in w ≡ length w
-        whole = rw p.food-is at e
+        whole = rw p.food_is at e
 
         pub laid : Ranged w → Laid w
         laid q = laid_of w q started whole

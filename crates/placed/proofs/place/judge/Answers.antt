@@ -39,7 +39,7 @@ returns-then-not-all_new c =
     judge_twice a.g a.n a.size a.food a.cells.now c.requires.traceable p.last.0 p.result p.ensures c.if-not-place_snakes.false-raw _ c.all_new.ensures c.if-not-all_new.true-raw
 
 pub overflow_mul-g : goal.overflow_mul-g
-overflow_mul-g c = record { fits = omega (arith, square_le c.args.g c.requires.traceable.side-max) }
+overflow_mul-g c = record { fits = omega (arith, square_le c.args.g c.requires.traceable.side_max) }
 
 pub full-requires : goal.full-requires
 full-requires c =

@@ -13,7 +13,7 @@ pub span-requires : goal.span-requires
 span-requires c =
     let s = c.args.setting in
     let e : to_z w32 (of_z w32 s.grid_size) ≡ s.grid_size = search rules in
-    (apart_side s c.requires _ (c.side_of-g.ensures ∙ ap side_of e), c.requires.snakes-max)
+    (apart_side s c.requires _ (c.side_of-g.ensures ∙ ap side_of e), c.requires.snakes_max)
 
 pub overflow_mul-g : goal.overflow_mul-g
 overflow_mul-g c =
@@ -33,7 +33,7 @@ full-requires c =
     let s = c.args.setting in
     let e : to_z w32 (of_z w32 s.grid_size) ≡ s.grid_size = search rules in (
       apart_total s c.requires _ (c.side_of-g.ensures ∙ ap side_of e) _ c.span.ensures (omega (arith, c.if-size-span.true)),
-      omega (arith, c.requires.food-max, square_le (side_of s.grid_size) (side_small s.grid_size c.requires.grid-max)),
+      omega (arith, c.requires.food_max, square_le (side_of s.grid_size) (side_small s.grid_size c.requires.grid_max)),
     )
 
 pub returns-then-size-span : goal.returns-then-size-span

@@ -16,14 +16,14 @@ loop-i-init c =
 pub start_place-start-requires : goal.start_place-start-requires
 start_place-start-requires c =
     let p = c.requires in
-    record { side_min = p.side-min; side_max = p.side-max; snakes_min = p.snakes-min; snakes_max = p.snakes-max; number = c.loop-i-test.true }
+    record { side_min = p.side_min; side_max = p.side_max; snakes_min = p.snakes_min; snakes_max = p.snakes_max; number = c.loop-i-test.true }
 
 pub trace_body-k-requires : goal.trace_body-k-requires
 trace_body-k-requires c =
     let a = c.args in
     let p = c.requires in
-    let i = start_inside a.g a.n c.loop-i.i p.side-min c.loop-i-test.true in
-    ((laying_room a.g a.n a.size a.cells.now p c.loop-i.cells c.loop-i.at c.loop-i.i c.loop-i.invariant c.loop-i-test.true, p.side-max, p.size-min), ap (λ (q : Place). inside (pos a.g) q) c.start_place-start.ensures ∙ i)
+    let i = start_inside a.g a.n c.loop-i.i p.side_min c.loop-i-test.true in
+    ((laying_room a.g a.n a.size a.cells.now p c.loop-i.cells c.loop-i.at c.loop-i.i c.loop-i.invariant c.loop-i-test.true, p.side_max, p.size_min), ap (λ (q : Place). inside (pos a.g) q) c.start_place-start.ensures ∙ i)
 
 pub shape_of-cells-then-k-size : goal.shape_of-cells-then-k-size
 shape_of-cells-then-k-size c =
