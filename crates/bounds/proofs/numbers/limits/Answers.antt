@@ -26,23 +26,6 @@ pub returns-then-is_zero : goal.returns-then-is_zero
 unfolding limits_check fault
 returns-then-is_zero c = simp (c.if-n.false, ne_eqb _ _ c.if-size-eq0.false, sym c.is_zero.ensures ∙ c.if-is_zero.true)
 
-pub returns-then-is_set-n : goal.returns-then-is_set-n
-unfolding limits_check fault
-returns-then-is_set-n c =
-    let b = c in
-    simp (b.before.if1.left, ne_eqb _ _ b.if2.left, sym c.is_zero.ensures ∙ c.if-is_zero.false, ← c.is_set.ensures, c.if-is_set-n.true)
-
-pub returns-then-grid-gt32 : goal.returns-then-grid-gt32
-unfolding limits_check fault
-returns-then-grid-gt32 c =
-    let f = c in
-    let z = f.before.before in
-    let b = z.before.before in
-    let g = b.before.before.before.args.setting.grid_size in
-    let e : to_z w32 (of_z w32 g) ≡ g = search rules in
-    let h : lt_z (pos 32) g ≡ true = rw e at c.if-grid-gt32.true in
-    simp (b.before.if1.false, ne_eqb _ _ b.if2.false, sym z.before.is_zero.ensures ∙ z.if3.false, ← f.before.is_set.ensures, f.if4.false, h)
-
 pub crowded-requires : goal.crowded-requires
 crowded-requires c =
     let g = c.args.setting.grid_size in
@@ -50,14 +33,25 @@ crowded-requires c =
     let h : lt_z (pos 32) g ≡ false = rw e at c.if-grid-gt32.false in
     rw (c.side_of.ensures ∙ ap side_of e) (side_small g h)
 
+pub returns-then-is_set-n : goal.returns-then-is_set-n
+unfolding limits_check fault
+returns-then-is_set-n c =
+    simp (c.if-n.false, ne_eqb _ _ c.if-size-eq0.false, sym c.is_zero.ensures ∙ c.if-is_zero.false, ← c.is_set.ensures, c.if-is_set-n.true)
+
+pub returns-then-grid-gt32 : goal.returns-then-grid-gt32
+unfolding limits_check fault
+returns-then-grid-gt32 c =
+    let g = c.args.setting.grid_size in
+    let e : to_z w32 (of_z w32 g) ≡ g = search rules in
+    let h : lt_z (pos 32) g ≡ true = rw e at c.if-grid-gt32.true in
+    simp (c.if-n.false, ne_eqb _ _ c.if-size-eq0.false, sym c.is_zero.ensures ∙ c.if-is_zero.false, ← c.is_set.ensures, c.if-is_set-n.false, h)
+
 pub returns : goal.returns
 unfolding limits_check fault
 returns c =
-    let z = c in
-    let b = z.before.before in
-    let a = b.before.before.before.args in
+    let a = c.args in
     let g = a.setting.grid_size in
     let e : to_z w32 (of_z w32 g) ≡ g = search rules in
     let h : lt_z (pos 32) g ≡ false = rw e at c.if-grid-gt32.false in
-    simp (b.before.if1.left, ne_eqb _ _ b.if2.left, sym z.before.is_zero.ensures ∙ z.if3.left, ← c.is_set.ensures, c.if-is_set-n.false, h)
+    simp (c.if-n.false, ne_eqb _ _ c.if-size-eq0.false, sym c.is_zero.ensures ∙ c.if-is_zero.false, ← c.is_set.ensures, c.if-is_set-n.false, h)
     (c.crowded.ensures ∙ ap (λ (k : ℕ). crowd_check a.setting.num_snakes k a.setting.initial_food_count) (c.side_of.ensures ∙ ap side_of e))

@@ -25,20 +25,6 @@ write_head-rest-requires c =
     let r : a.at + length h ≤ length d = omega arith in
     r
 
-pub write_at-requires : goal.write_at-requires
-write_at-requires c =
-    let a = c.args in
-    let w = a.image.now in
-    let d = a.out.now in
-    let h : List ℕ = new_head a.head a.lives in
-    let p = part_of w a.start a.len in
-    let all = ap length (body_is w a.start a.len a.head a.lives) in
-    let both = length-append h p in
-    let z = part_size w a.start a.len c.requires.1 in
-    let x = c.write_head-rest.ensures in
-    let l = written_long d a.at h c.write_head-rest.last.0 c.write_head-rest.result x (omega arith) in
-    omega (arith, ap length (part_is w a.start a.len), x.end)
-
 pub overflow_add-result : goal.overflow_add-result
 overflow_add-result c =
     let a = c.args in
@@ -62,7 +48,7 @@ returns c =
     let both = length-append h p in
     let z = part_size w a.start a.len c.requires.1 in
     let x = c.write_head-rest.ensures in
-    let o = c.write_head-rest.last.0 in
+    let o = c.write_head-rest.new.out in
     let r = c.write_head-rest.result in
     record {
       words = c.write_at.ensures

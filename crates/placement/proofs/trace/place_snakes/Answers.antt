@@ -18,13 +18,6 @@ start_place-start-requires c =
     let p = c.requires in
     record { side_min = p.side_min; side_max = p.side_max; snakes_min = p.snakes_min; snakes_max = p.snakes_max; number = c.loop-i-test.true }
 
-pub trace_body-k-requires : goal.trace_body-k-requires
-trace_body-k-requires c =
-    let a = c.args in
-    let p = c.requires in
-    let i = start_inside a.g a.n c.loop-i.i p.side_min c.loop-i-test.true in
-    ((laying_room a.g a.n a.size a.cells.now p c.loop-i.cells c.loop-i.at c.loop-i.i c.loop-i.invariant c.loop-i-test.true, p.side_max, p.size_min), ap (λ (q : Place). inside (pos a.g) q) c.start_place-start.ensures ∙ i)
-
 pub shape_of-cells-then-k-size : goal.shape_of-cells-then-k-size
 shape_of-cells-then-k-size c =
     let a = c.args in
@@ -49,8 +42,8 @@ loop-i-preserved c =
 pub shape_of-cells : goal.shape_of-cells
 shape_of-cells c = c.loop-i.invariant.long
 
-pub returns : goal.returns
-returns c =
-    let l = c in
-    let a = l.before.before.args in
-    laying_end a.g a.n a.size a.cells.now l.before.before.requires l.loop.cells l.loop.at l.loop.i l.loop.invariant c.loop-i-test.false
+pub trace_body-k-requires-clause-at_in_bounds : goal.trace_body-k-requires-clause-at_in_bounds
+trace_body-k-requires-clause-at_in_bounds c =
+    let a = c.args in
+    let p = c.requires in
+    (laying_room a.g a.n a.size a.cells.now p c.loop-i.cells c.loop-i.at c.loop-i.i c.loop-i.invariant c.loop-i-test.true, p.side_max, p.size_min)

@@ -56,11 +56,6 @@ returns-then-k-size c =
     let r : a.at + 125 ≤ length a.cells.now = search rules in
     going_full a.g a.even a.size a.start a.cells.now a.at s i r l.cells l.walk.place l.walk.turn l.k l.invariant c.cell_of.result c.cell_of.ensures c.if-k-size.true
 
-pub walk_on-walk-requires : goal.walk_on-walk-requires
-walk_on-walk-requires c =
-    let l = c.loop-k in
-    (inside_near _ l.walk.place (search rules) l.invariant.within, l.invariant.turns)
-
 pub shape_of-cells-then-turn-eq4 : goal.shape_of-cells-then-turn-eq4
 shape_of-cells-then-turn-eq4 c = simp length-set c.loop-k.invariant.long
 
