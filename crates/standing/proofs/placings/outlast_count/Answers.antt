@@ -9,19 +9,3 @@ use Rattle.standing.proofs.placings.outlast_count.Goals as goal
 
 pub loop-j-init : goal.loop-j-init
 loop-j-init c = (search rules, sym (count_none _))
-
-pub more_if-k-requires : goal.more_if-k-requires
-more_if-k-requires c = omega (arith, count_le (outlasts c.args.t1 c.args.i) c.loop-j.j)
-
-pub loop-j-preserved : goal.loop-j-preserved
-loop-j-preserved c =
-    let l = c.loop-j in
-    let a = c.args in
-    let f = outlasts a.t1 a.i in
-    (search rules, c.more_if-k.ensures ∙ rw (c.does_outlive.ensures, l.invariant.1) (sym (count_next f l.j)))
-
-pub returns : goal.returns
-returns c =
-    let a = c.args in
-    let e : c.loop-j.j ≡ a.n = omega arith in
-    c.loop-j.invariant.1 ∙ ap (λ (n : ℕ). count_below n (outlasts a.t1 a.i)) e

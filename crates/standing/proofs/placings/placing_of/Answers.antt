@@ -11,9 +11,6 @@ pub returns-then-deaths-i-eq0 : goal.returns-then-deaths-i-eq0
 unfolding placing_of
 returns-then-deaths-i-eq0 c = rw (eq-eqb _ _ c.if-deaths-i-eq0.true)
 
-pub overflow_add-result : goal.overflow_add-result
-overflow_add-result c = omega (arith, c.outlast_count-k.ensures, count_le (outlasts c.args.t1 c.args.i) c.args.n)
-
 pub returns : goal.returns
 unfolding placing_of
 returns c = ap (λ (k : ℕ). 1 + k) c.outlast_count-k.ensures ∙ rw (ne_eqb _ _ c.if-deaths-i-eq0.false)
