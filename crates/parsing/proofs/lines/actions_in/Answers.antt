@@ -23,29 +23,6 @@ loop-k-init c =
     let e : pieces_from 32 s c.next_start-at.result ≡ drop 1 (fields_of s) = c.next_start-at.ensures.1 ∙ rw (leb-zero (length s)) in
     (search rules, record { inside = c.next_start-at.ensures.0; stands = e }, all_none _, filled_none (action (fields_of s)) 8 0)
 
-pub returns-in_default : goal.returns-in_default
-unfolding actions_in
-returns-in_default c =
-    let s = c.args.s.now in
-    let fs = fields_of s in
-    let l = c.loop-k in
-    let e : decimal_of (field_at fs (l.k + 1)) ≡ NoNumber = ap decimal_of (sym (from_at 32 s l.at (l.k + 1) l.invariant.1.stands)) ∙ sym c.next_number-got.ensures.number ∙ c.enum_told-1.given.1 in
-    c.no_entry.ensures ∙ rw (all_fails (is_action fs) c.args.n l.k c.loop-k-test.true (no_number (field_at fs (l.k + 1)) e))
-
-pub loop-k-preserved : goal.loop-k-preserved
-loop-k-preserved c =
-    let s = c.args.s.now in
-    let fs = fields_of s in
-    let l = c.loop-k in
-    let g = c.next_number-got.ensures in
-    let v = c.num-1.given.0.0 in
-    let q = was_number (field_at fs (l.k + 1)) v (ap decimal_of (sym (from_at 32 s l.at (l.k + 1) l.invariant.1.stands)) ∙ sym g.number ∙ c.num-1.given.1) in (
-      search rules,
-      record { inside = g.inside; stands = g.onward ∙ ap (λ (x : List (List ℕ)). drop 1 x) l.invariant.1.stands ∙ drop-drop 1 (l.k + 1) fs },
-      all_more (is_action fs) l.k l.invariant.2 q.0,
-      ap (λ (x : List ℕ). set x l.k v) l.invariant.3 ∙ rw q.1 (filled_more (action fs) l.k 8 0 (omega arith)),
-    )
-
 pub returns : goal.returns
 unfolding actions_in
 returns c =

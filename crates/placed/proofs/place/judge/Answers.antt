@@ -33,3 +33,23 @@ full-requires c =
     let p = c.place_snakes in
     let m = total_most a.g a.n a.size a.food a.cells.now c.requires.traceable p.new.cells p.result p.ensures c.if-not-place_snakes.false-raw in
     (omega (arith, m), c.requires.food_bound)
+
+pub overflow_mul-total : goal.overflow_mul-total
+overflow_mul-total c =
+    let a = c.args in
+    let p = c.place_snakes in
+    record { fits = omega (arith, total_most a.g a.n a.size a.food a.cells.now c.requires.traceable p.new.cells p.result p.ensures c.if-not-place_snakes.false-raw) }
+
+pub slice_bounds-all_new-end : goal.slice_bounds-all_new-end
+slice_bounds-all_new-end c =
+    let a = c.args in
+    let p = c.place_snakes in
+    let h = total_most a.g a.n a.size a.food a.cells.now c.requires.traceable p.new.cells p.result p.ensures c.if-not-place_snakes.false-raw in
+    let r : length a.cells.now ≡ 1024 = c.requires.traceable.room in
+    search rules
+
+pub returns : goal.returns
+returns c =
+    let a = c.args in
+    let p = c.place_snakes in
+    judge_last a.g a.n a.size a.food a.cells.now c.requires.traceable p.new.cells p.result p.ensures c.if-not-place_snakes.false-raw _ c.all_new.ensures c.if-not-all_new.false-raw _ c.full.ensures

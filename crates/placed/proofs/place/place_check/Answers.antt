@@ -44,3 +44,21 @@ returns c =
     let k : lt_z s.grid_size (pos 3) ≡ false = rw e at c.if-grid-lt3.false in
     let m : c.plain.result ≡ side_of s.grid_size = c.plain.ensures ∙ ap nat_abs e ∙ side_abs s.grid_size k in
     judge_side s.grid_size _ s.num_snakes s.initial_length s.initial_food_count c.args.cells.now _ _ m (grid_side s.grid_size k) c.judge.ensures
+
+pub judge-requires : goal.judge-requires
+judge-requires c =
+    let s = c.args.setting in
+    let p = c.requires.limited in
+    let e : to_z w32 (of_z w32 s.grid_size) ≡ s.grid_size = search rules in
+    let k : lt_z s.grid_size (pos 3) ≡ false = rw e at c.if-grid-lt3.false in
+    let m : c.plain.result ≡ side_of s.grid_size = c.plain.ensures ∙ ap nat_abs e ∙ side_abs s.grid_size k in record {
+      traceable = record {
+        side_min = omega (arith, m, side_three s.grid_size k);
+        side_max = omega (arith, m, side_small s.grid_size p.grid_max);
+        snakes_min = p.snakes_min;
+        snakes_max = p.snakes_max;
+        size_min = p.size_min;
+        room = c.requires.cells_len;
+      };
+      food_bound = omega (arith, p.food_max, square_le (side_of s.grid_size) (side_small s.grid_size p.grid_max));
+    }

@@ -1,8 +1,0 @@
-use Prim.Native.Nat.{◌-◌}
-use mathlib.Core.Path.{ap, ◌∙◌}
-use Rattle.parsing.specs.Numbers.{is_byte}
-use borrow.Author.Rules.{rules}
-use Rattle.parsing.proofs.fields.word_is.Goals as goal
-
-pub returns : goal.returns
-returns c = c.is_byte_lem.ensures ∙ ap (is_byte c.args.b) c.field-f.ensures.says
