@@ -6,7 +6,7 @@ use Rattle.rules.specs.Image.{snakes_in, start_at, well_formed}
 
 -- word k of a lent slice: in the slice's own block, two bytes a word past its own offset
 abbrev pub word_place : Bor (List ℕ) → ℕ → ℕ × ℕ
-word_place s k = (s.ptr.0, k * 2 + s.ptr.1)
+word_place s k = (s.ref_ptr.0, k * 2 + s.ref_ptr.1)
 
 -- the body's start word; the front for a malformed image or no such snake
 unfoldable pub start_asked : List ℕ → ℕ → ℕ

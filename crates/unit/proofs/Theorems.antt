@@ -1,6 +1,6 @@
 -- 02's theorems of the outcome of a unit number, of every answer that meets its promise; and that a draw's index so made is never refused by 27.
 -- Assumes nothing.
-use Rattle.std.proofs.Common.{◌≡◌, ℕ, suc, ◌+◌, ◌-◌, ◌<◌, ◌≤◌, min, true, false, not, ltb, List, ◌++◌, length, drop, pos, negsuc, sym, refl, ap, ◌∙◌, subst, true≢false, arith, le-ltb, lt-ltb, ne_eqb}
+use Rattle.std.proofs.Common.{◌≡◌, ℕ, suc, ◌+◌, ◌-◌, ◌<◌, ◌≤◌, min, false, not, ltb, List, ◌++◌, length, drop, pos, negsuc, sym, refl, ap, ◌∙◌, subst, true≢false, arith, le-ltb, lt-ltb, ne_eqb}
 use lib.Ieee.{Float, fin, binary64, mul, of_int, to_unsigned}
 use Rattle.lists.specs.Lists.{any}
 use Rattle.rules.specs.Tables.{by}

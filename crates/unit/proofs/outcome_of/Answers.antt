@@ -1,5 +1,4 @@
 -- `unit::outcome_of` meets its contract: 80, then 81, then the index; one law of `Choosing` each. Assumes nothing.
-use Rattle.std.proofs.Common.{rules}
 use Rattle.unit.proofs.Choosing.{outcome_80, outcome_81, choosable, outcome_comes}
 use Rattle.unit.proofs.outcome_of.Goals as goal
 

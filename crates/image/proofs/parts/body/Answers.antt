@@ -9,13 +9,6 @@ use Rattle.rules.proofs.Facts.{passed, failed, word_in}
 use Rattle.image.proofs.Asked.{parts_malformed, parts_beyond, parts_body, place_malformed, place_beyond, place_body}
 use Rattle.image.proofs.parts.body.Goals as goal
 
--- the number is not below n
-beyond : tie.Need-returns-2
-beyond c =
-    let start : tie.Start = search in
-    let out : snakes_in start.args.image.now ≤ start.args.snake = omega arith in
-    search (parts_beyond, place_beyond)
-
 pub returns-then-not-well_formed : goal.returns-then-not-well_formed
 returns-then-not-well_formed c = search (parts_malformed, place_malformed, failed)
 
@@ -30,3 +23,9 @@ body_of-requires c = search (rules, passed)
 
 pub returns : goal.returns
 returns c = search (parts_body, place_body, passed)
+
+-- the number is not below n
+pub returns-then-image-snake : goal.returns-then-image-snake
+returns-then-image-snake c =
+    let out : snakes_in c.args.image.now ≤ c.args.snake = omega arith in
+    search (parts_beyond, place_beyond)

@@ -1,7 +1,5 @@
-use Prim.Native.Nat.{◌-◌}
 use mathlib.Core.Path.{ap, ◌∙◌}
 use Rattle.parsing.specs.Numbers.{bound_of}
-use borrow.Author.Rules.{rules}
 use Rattle.parsing.proofs.fields.bound_at.Goals as goal
 
 pub returns : goal.returns

@@ -1,11 +1,10 @@
 use lib.Dec.{eqb}
 use Rattle.lists.specs.Choice.{bit}
 use Rattle.lists.proofs.Tests.{bit_le}
-use lib.ListN.{drop, get_or, length}
-use Rattle.parsing.specs.Fields.{past_each}
+use lib.ListN.{get_or}
 use Rattle.parsing.proofs.Cutting.{pieces_end, pieces_next}
 use mathlib.Core.Path.{◌≡◌}
-use Prim.Native.Nat.{◌+◌, ◌-◌, ◌≤◌}
+use Prim.Native.Nat.{◌+◌}
 use native.Mathlib.Omega.{arith}
 use borrow.Author.Rules.{rules}
 use Rattle.parsing.proofs.fields.field_count.Goals as goal

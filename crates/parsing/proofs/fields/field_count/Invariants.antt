@@ -1,13 +1,7 @@
-use lib.Dec.{eqb}
-use Rattle.lists.specs.Choice.{bit}
-use Rattle.lists.proofs.Tests.{bit_le}
-use lib.ListN.{drop, get_or, length}
+use lib.ListN.{drop, length}
 use Rattle.parsing.specs.Fields.{past_each}
-use Rattle.parsing.proofs.Cutting.{pieces_end, pieces_next}
 use mathlib.Core.Path.{◌≡◌}
 use Prim.Native.Nat.{◌+◌, ◌-◌, ◌≤◌}
-use native.Mathlib.Omega.{arith}
-use borrow.Author.Rules.{rules}
 use Rattle.parsing.proofs.fields.field_count.Given as goal
 
 abbrev pub invariant-loop-i : goal.invariant-loop-i

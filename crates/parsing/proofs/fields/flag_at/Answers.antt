@@ -1,7 +1,5 @@
-use Prim.Native.Nat.{◌-◌}
 use mathlib.Core.Path.{ap, ◌∙◌}
 use Rattle.parsing.specs.Numbers.{flag_of, flag_by}
-use borrow.Author.Rules.{rules}
 use Rattle.parsing.proofs.fields.flag_at.Goals as goal
 
 pub returns : goal.returns

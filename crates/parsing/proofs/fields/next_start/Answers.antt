@@ -1,5 +1,5 @@
 use native.Mathlib.Omega.{arith}
-use Prim.Native.Nat.{ℕ, ◌+◌, ◌-◌}
+use Prim.Native.Nat.{ℕ, ◌+◌}
 use mathlib.Core.Path.{ap, ◌∙◌}
 use lib.ListN.{drop, length-drop}
 use Rattle.parsing.specs.Fields.{pieces_from}

@@ -1,9 +1,8 @@
-use mathlib.Core.Path.{ap, ◌≡◌}
+use mathlib.Core.Path.{ap}
 use mathlib.Core.List.{List}
-use lib.ListN.{drop, length}
-use Rattle.parsing.specs.Fields.{up_to}
+use lib.ListN.{length}
 use Rattle.parsing.proofs.Cutting.{piece_end, piece_here, piece_next}
-use Prim.Native.Nat.{ℕ, ◌+◌, ◌-◌, ◌≤◌}
+use Prim.Native.Nat.{ℕ}
 use native.Mathlib.Omega.{arith}
 use borrow.Author.Rules.{rules}
 use Rattle.parsing.proofs.fields.piece_end.Goals as goal

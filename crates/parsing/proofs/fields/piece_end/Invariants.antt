@@ -1,11 +1,7 @@
-use mathlib.Core.Path.{ap, ◌≡◌}
-use mathlib.Core.List.{List}
+use mathlib.Core.Path.{◌≡◌}
 use lib.ListN.{drop, length}
 use Rattle.parsing.specs.Fields.{up_to}
-use Rattle.parsing.proofs.Cutting.{piece_end, piece_here, piece_next}
-use Prim.Native.Nat.{ℕ, ◌+◌, ◌-◌, ◌≤◌}
-use native.Mathlib.Omega.{arith}
-use borrow.Author.Rules.{rules}
+use Prim.Native.Nat.{◌+◌, ◌-◌, ◌≤◌}
 use Rattle.parsing.proofs.fields.piece_end.Given as goal
 
 abbrev pub invariant-loop-i : goal.invariant-loop-i

@@ -1,10 +1,10 @@
-use Prim.Native.Nat.{ℕ, ◌+◌, ◌-◌, ◌≤◌}
+use Prim.Native.Nat.{ℕ}
 use mathlib.Core.Path.{◌≡◌, ap, ◌∙◌}
 use mathlib.Core.List.{List}
 use lib.Seq.{drop-drop}
 use lib.Dec.{leb-zero}
 use lib.ListN.{drop, length}
-use Rattle.parsing.specs.Fields.{pieces_from, fields_of}
+use Rattle.parsing.specs.Fields.{fields_of}
 use native.Mathlib.Omega.{arith}
 use borrow.Author.Rules.{rules}
 use Rattle.parsing.proofs.fields.start_of.Goals as goal

@@ -1,12 +1,7 @@
-use Prim.Native.Nat.{ℕ, ◌+◌, ◌-◌, ◌≤◌}
-use mathlib.Core.Path.{◌≡◌, ap, ◌∙◌}
-use mathlib.Core.List.{List}
-use lib.Seq.{drop-drop}
-use lib.Dec.{leb-zero}
+use Prim.Native.Nat.{◌+◌, ◌-◌, ◌≤◌}
+use mathlib.Core.Path.{◌≡◌}
 use lib.ListN.{drop, length}
 use Rattle.parsing.specs.Fields.{pieces_from, fields_of}
-use native.Mathlib.Omega.{arith}
-use borrow.Author.Rules.{rules}
 use Rattle.parsing.proofs.fields.start_of.Given as goal
 
 abbrev pub invariant-loop-j : goal.invariant-loop-j

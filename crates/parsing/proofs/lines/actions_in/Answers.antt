@@ -1,4 +1,4 @@
-use Prim.Native.Nat.{ℕ, ◌+◌, ◌-◌, ◌≤◌}
+use Prim.Native.Nat.{ℕ, ◌+◌}
 use mathlib.Core.Path.{◌≡◌, sym, ap, ◌∙◌}
 use mathlib.Core.List.{List}
 use mathlib.Core.Bool.{true}
@@ -14,7 +14,7 @@ use Rattle.parsing.proofs.Cutting.{from_at}
 use Rattle.parsing.specs.declared.Num.TheVariants.{NoNumber}
 use Rattle.parsing.specs.Fields.{field_at, fields_of, pieces_from}
 use Rattle.parsing.specs.Numbers.{decimal_of}
-use Rattle.parsing.specs.Lines.{is_action, action, actions_in, Behind}
+use Rattle.parsing.specs.Lines.{is_action, action, actions_in}
 use Rattle.parsing.proofs.lines.actions_in.Goals as goal
 
 pub loop-k-init : goal.loop-k-init
@@ -33,3 +33,26 @@ returns c =
     let t : all_below a.n (is_action fs) ≡ true = ap (λ (j : ℕ). all_below j (is_action fs)) (sym e) ∙ l.invariant.2 in
     let p : l.acts ≡ filled (action fs) a.n 8 0 = l.invariant.3 ∙ ap (λ (j : ℕ). filled (action fs) j 8 0) e in
     rw (t, p)
+
+pub loop-k-preserved : goal.loop-k-preserved
+loop-k-preserved c =
+    let s = c.args.s.now in
+    let fs = fields_of s in
+    let l = c.loop-k in
+    let g = c.next_number-got.ensures in
+    let v = c.in-Reads.v in
+    let q = was_number (field_at fs (l.k + 1)) v (ap decimal_of (sym (from_at 32 s l.at (l.k + 1) l.invariant.1.stands)) ∙ sym g.number ∙ c.in-Reads.is) in (
+      search rules,
+      record { inside = g.inside; stands = g.onward ∙ ap (λ (x : List (List ℕ)). drop 1 x) l.invariant.1.stands ∙ drop-drop 1 (l.k + 1) fs },
+      all_more (is_action fs) l.k l.invariant.2 q.0,
+      ap (λ (x : List ℕ). set x l.k v) l.invariant.3 ∙ rw q.1 (filled_more (action fs) l.k 8 0 (omega arith)),
+    )
+
+pub returns-in_default : goal.returns-in_default
+unfolding actions_in
+returns-in_default c =
+    let s = c.args.s.now in
+    let fs = fields_of s in
+    let l = c.loop-k in
+    let e : decimal_of (field_at fs (l.k + 1)) ≡ NoNumber = ap decimal_of (sym (from_at 32 s l.at (l.k + 1) l.invariant.1.stands)) ∙ sym c.next_number-got.ensures.number ∙ c.in_default.is in
+    c.no_entry.ensures ∙ rw (all_fails (is_action fs) c.args.n l.k c.loop-k-test.true (no_number (field_at fs (l.k + 1)) e))

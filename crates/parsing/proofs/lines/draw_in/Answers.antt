@@ -1,8 +1,6 @@
-use Prim.Native.Nat.{◌-◌}
 use mathlib.Core.Path.{sym, ap, ◌∙◌}
 use borrow.Author.Tests.{eq-eqb, ne_eqb}
 use Rattle.parsing.specs.Lines.{draw_by, draw_in}
-use borrow.Author.Rules.{rules}
 use Rattle.parsing.proofs.lines.draw_in.Goals as goal
 
 pub returns-then-field_count-eq2 : goal.returns-then-field_count-eq2

@@ -1,7 +1,5 @@
-use Prim.Native.Nat.{◌-◌}
 use mathlib.Core.Path.{sym, ◌∙◌}
 use Rattle.parsing.specs.Lines.{entry_in}
-use borrow.Author.Rules.{rules}
 use Rattle.parsing.proofs.lines.entry_in.Goals as goal
 
 pub returns-then-word_is : goal.returns-then-word_is
@@ -11,3 +9,7 @@ returns-then-word_is c = let e = sym c.word_is.ensures ∙ c.if-word_is.true in 
 pub returns : goal.returns
 unfolding entry_in
 returns c = let e = sym c.word_is.ensures ∙ c.if-word_is.false in let f = sym c.word_is-2.ensures ∙ c.if-word_is-2.false in c.no_entry.ensures ∙ rw (e, f)
+
+pub returns-then-word_is-2 : goal.returns-then-word_is-2
+unfolding entry_in
+returns-then-word_is-2 c = let e = sym c.word_is.ensures ∙ c.if-word_is.false in let f = sym c.word_is-2.ensures ∙ c.if-word_is-2.true in c.move_in.ensures ∙ rw (e, f)

@@ -1,8 +1,6 @@
-use Prim.Native.Nat.{◌-◌}
 use mathlib.Core.Path.{sym, ◌∙◌}
 use borrow.Author.Tests.{eq-eqb, ne_eqb}
 use Rattle.parsing.specs.Lines.{move_in}
-use borrow.Author.Rules.{rules}
 use Rattle.parsing.proofs.lines.move_in.Goals as goal
 
 pub returns-then-field_count-n : goal.returns-then-field_count-n

@@ -1,8 +1,6 @@
-use Prim.Native.Nat.{◌-◌}
 use mathlib.Core.Path.{sym, ◌∙◌}
 use borrow.Author.Tests.{le-ltb, lt-ltb, eq-eqb, ne_eqb}
 use Rattle.parsing.specs.Lines.{read_first}
-use borrow.Author.Rules.{rules}
 use Rattle.parsing.proofs.lines.read_first.Goals as goal
 
 pub returns-then-s-gt200 : goal.returns-then-s-gt200

@@ -1,8 +1,6 @@
-use Prim.Native.Nat.{◌-◌}
 use mathlib.Core.Path.{◌∙◌}
 use borrow.Author.Tests.{le-ltb, lt-ltb}
 use Rattle.parsing.specs.Lines.{read_later}
-use borrow.Author.Rules.{rules}
 use Rattle.parsing.proofs.lines.read_later.Goals as goal
 
 pub returns-then-s-gt200 : goal.returns-then-s-gt200

@@ -1,7 +1,5 @@
-use Prim.Native.Nat.{◌-◌}
 use mathlib.Core.Path.{◌∙◌}
 use Rattle.parsing.specs.Lines.{setting_in}
-use borrow.Author.Rules.{rules}
 use Rattle.parsing.proofs.lines.setting_in.Goals as goal
 
 pub returns : goal.returns

@@ -1,7 +1,5 @@
 use Rattle.parsing.specs.Numbers.{decimal_of}
 use mathlib.Core.Path.{sym, ◌∙◌}
-use borrow.Author.Tests.{not-true, not-false}
-use borrow.Author.Rules.{rules}
 use Rattle.parsing.proofs.numbers.decimal.Goals as goal
 
 pub returns-then-not-is_unpadded : goal.returns-then-not-is_unpadded

@@ -1,10 +1,8 @@
 use mathlib.Core.Bool.{true}
 use mathlib.Core.Path.{sym, ◌∙◌, ◌≡◌}
-use borrow.Author.Tests.{not-true, not-false}
 use Rattle.parsing.proofs.Reading.{not_digit, too_large, all_read, at_least, at_most, digits_next, read_next}
-use lib.ListN.{drop, get_or, length}
-use Rattle.parsing.specs.Numbers.{all_digits, read_on, is_digit}
-use Prim.Native.Nat.{◌-◌, ◌≤◌, ◌<◌}
+use lib.ListN.{get_or}
+use Rattle.parsing.specs.Numbers.{is_digit}
 use native.Mathlib.Omega.{arith}
 use borrow.Author.Rules.{rules}
 use Rattle.parsing.proofs.numbers.digits.Goals as goal

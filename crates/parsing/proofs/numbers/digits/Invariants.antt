@@ -1,12 +1,7 @@
-use mathlib.Core.Bool.{true}
-use mathlib.Core.Path.{sym, ◌∙◌, ◌≡◌}
-use borrow.Author.Tests.{not-true, not-false}
-use Rattle.parsing.proofs.Reading.{not_digit, too_large, all_read, at_least, at_most, digits_next, read_next}
-use lib.ListN.{drop, get_or, length}
-use Rattle.parsing.specs.Numbers.{all_digits, read_on, is_digit}
+use mathlib.Core.Path.{◌≡◌}
+use lib.ListN.{drop, length}
+use Rattle.parsing.specs.Numbers.{all_digits, read_on}
 use Prim.Native.Nat.{◌-◌, ◌≤◌, ◌<◌}
-use native.Mathlib.Omega.{arith}
-use borrow.Author.Rules.{rules}
 use Rattle.parsing.proofs.numbers.digits.Given as goal
 
 abbrev pub invariant-loop-i : goal.invariant-loop-i

@@ -6,7 +6,6 @@ use native.Mathlib.Nat.{le_of_eq}
 use lib.Seq.{take_all}
 use lib.ListN.{length, take, drop, length-drop, get_or-eq_default}
 use Rattle.parsing.specs.Numbers.{grid_of, grid_above, grid_below, decimal_of}
-use borrow.Author.Rules.{rules}
 use Rattle.parsing.proofs.numbers.grid_in.Goals as goal
 
 pub returns-then-s-eq0 : goal.returns-then-s-eq0

@@ -1,6 +1,4 @@
-use Prim.Native.Nat.{◌-◌}
 use borrow.Author.Tests.{eq-eqb, ne_eqb}
-use borrow.Author.Rules.{rules}
 use Rattle.parsing.proofs.numbers.is_byte.Goals as goal
 
 pub returns-then-s-ne1 : goal.returns-then-s-ne1

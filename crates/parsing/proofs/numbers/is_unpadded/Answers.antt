@@ -1,5 +1,4 @@
 use borrow.Author.Tests.{eq-eqb, ne_eqb}
-use borrow.Author.Rules.{rules}
 use Rattle.parsing.proofs.numbers.is_unpadded.Goals as goal
 
 pub returns-then-s-eq0 : goal.returns-then-s-eq0

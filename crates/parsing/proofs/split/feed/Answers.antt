@@ -3,7 +3,6 @@ use Rattle.lists.proofs.Writes.{length_write}
 use Rattle.parsing.proofs.Feeding.{fed_over, fed_past, fed_on}
 use native.Mathlib.Omega.{arith}
 use mathlib.Core.Path.{refl, ap, ◌∙◌}
-use borrow.Author.Rules.{rules}
 use Rattle.parsing.proofs.split.feed.Goals as goal
 
 pub returns-then-fill-gt200 : goal.returns-then-fill-gt200

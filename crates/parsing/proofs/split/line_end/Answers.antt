@@ -1,7 +1,6 @@
 use Rattle.parsing.proofs.Cutting.{piece_short}
 use lib.ListN.{drop, length-drop}
 use native.Mathlib.Omega.{arith}
-use borrow.Author.Rules.{rules}
 use Rattle.parsing.proofs.split.line_end.Goals as goal
 
 pub returns : goal.returns

@@ -1,0 +1,19 @@
+-- `unit::index_of` meets its contract: the rounded product lies where it can be cut (`Products`). Assumes nothing.
+use Rattle.std.proofs.Common.{rules}
+use Rattle.unit.specs.UnitNumber.{outcome_of}
+use Rattle.unit.proofs.Products.{product}
+use Rattle.unit.proofs.index_of.Goals as goal
+
+pub truncating_f64_to_u64-whole-requires-clause-lower_bound : goal.truncating_f64_to_u64-whole-requires-clause-lower_bound
+truncating_f64_to_u64-whole-requires-clause-lower_bound c = (product c.args.count c.args.u c.requires).above
+
+pub truncating_f64_to_u64-whole-requires-clause-upper_bound : goal.truncating_f64_to_u64-whole-requires-clause-upper_bound
+truncating_f64_to_u64-whole-requires-clause-upper_bound c = (product c.args.count c.args.u c.requires).below
+
+pub returns-then-whole-count : goal.returns-then-whole-count
+unfolding outcome_of
+returns-then-whole-count c = search rules
+
+pub returns-else-whole-count : goal.returns-else-whole-count
+unfolding outcome_of
+returns-else-whole-count c = search rules
