@@ -9,7 +9,7 @@ use lib.ListN.{get_or, set, length, replicate}
 use Rattle.lists.specs.Below.{filled}
 use Rattle.lists.proofs.Below.{filled_none, filled_more}
 use Rattle.rules.specs.Events.{blank}
-use Rattle.rules.specs.Image.{word, length_at, alive_at, start_at}
+use Rattle.rules.specs.Image.{word, start_at}
 use Rattle.rules.specs.Turns.{truncated}
 use Rattle.rules.specs.declared.Event.{Event}
 use Rattle.printing.specs.Text.{Wrote, body_text, events_text, placings_text}

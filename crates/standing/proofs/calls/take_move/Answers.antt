@@ -1,5 +1,4 @@
 -- `standing::take_move` meets its contract: 33 after the end, and else the match moves on (`Taking`). Assumes nothing.
-use borrow.Author.Rules.{rules}
 use Rattle.standing.proofs.Taking.{taken_33, taken_on}
 use Rattle.standing.proofs.calls.take_move.Goals as goal
 

@@ -1,5 +1,4 @@
 -- `standing::after_move` meets its contract: each part of the match is what its function promises. Assumes nothing.
-use borrow.Author.Rules.{rules}
 use Rattle.standing.proofs.moves.after_move.Goals as goal
 
 pub returns : goal.returns

@@ -1,8 +1,7 @@
 -- `standing::behind_after` meets its contract. The invariant: the first i snakes are noted (`Noted` in `Behind`). The measure is how
 -- many are left. Assumes nothing.
-use borrow.Author.Rules.{rules}
 use Prim.Native.Nat.{◌-◌}
-use Rattle.standing.proofs.Behind.{Noted, noted_none, noted_next, noted_all}
+use Rattle.standing.proofs.Behind.{Noted}
 use Rattle.standing.proofs.moves.behind_after.Given as goal
 
 abbrev pub invariant-loop-i : goal.invariant-loop-i

@@ -1,5 +1,4 @@
 use borrow.Author.Tests.{lt-ltb, le-ltb}
-use borrow.Author.Rules.{rules}
 use Rattle.standing.proofs.moves.count_on.Goals as goal
 
 pub returns-then-k-lt18446744073709551615 : goal.returns-then-k-lt18446744073709551615

@@ -1,12 +1,7 @@
-use borrow.Author.Rules.{rules}
 use Rattle.standing.specs.Standing.{death_at}
-use Rattle.lists.proofs.Below.{filled_none, filled_more}
 use Rattle.lists.specs.Below.{filled}
-use lib.ListN.{set}
-use mathlib.Core.List.{List}
-use mathlib.Core.Path.{◌≡◌, ap, ◌∙◌}
-use native.Mathlib.Omega.{arith}
-use Prim.Native.Nat.{ℕ, ◌-◌, ◌≤◌}
+use mathlib.Core.Path.{◌≡◌}
+use Prim.Native.Nat.{◌-◌, ◌≤◌}
 use Rattle.standing.proofs.moves.deaths_after.Given as goal
 
 abbrev pub invariant-loop-i : goal.invariant-loop-i

@@ -2,7 +2,6 @@ use Rattle.standing.specs.Standing.{reached}
 use Prim.Native.Nat.{ℕ}
 use mathlib.Core.Bool.{Bool, not, ◌&&◌}
 use mathlib.Core.Path.{ap, ◌∙◌}
-use borrow.Author.Rules.{rules}
 use Rattle.standing.proofs.moves.ends_by.Goals as goal
 
 pub returns : goal.returns

@@ -1,5 +1,4 @@
 -- `standing::events_shown` meets its contract: the living are marked where max_ticks ends the match (`Showing`). Assumes nothing.
-use borrow.Author.Rules.{rules}
 use Rattle.standing.proofs.Showing.{events_marked, events_kept}
 use Rattle.standing.proofs.moves.events_shown.Goals as goal
 

@@ -1,8 +1,6 @@
 -- `standing::mark_all` meets its contract. The invariant: the first i events are marked (`Marked` in `Showing`). The measure is how
 -- many are left. Assumes nothing.
-use borrow.Author.Rules.{rules}
-use Prim.Native.Nat.{◌-◌}
-use Rattle.standing.proofs.Showing.{Marked, marked_none, marked_next, marked_all}
+use Rattle.standing.proofs.Showing.{marked_none, marked_next, marked_all}
 use Rattle.standing.proofs.moves.mark_all.Goals as goal
 
 pub loop-i-init : goal.loop-i-init

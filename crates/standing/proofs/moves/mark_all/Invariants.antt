@@ -1,8 +1,7 @@
 -- `standing::mark_all` meets its contract. The invariant: the first i events are marked (`Marked` in `Showing`). The measure is how
 -- many are left. Assumes nothing.
-use borrow.Author.Rules.{rules}
 use Prim.Native.Nat.{◌-◌}
-use Rattle.standing.proofs.Showing.{Marked, marked_none, marked_next, marked_all}
+use Rattle.standing.proofs.Showing.{Marked}
 use Rattle.standing.proofs.moves.mark_all.Given as goal
 
 abbrev pub invariant-loop-i : goal.invariant-loop-i

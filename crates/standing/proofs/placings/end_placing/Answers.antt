@@ -1,5 +1,4 @@
 -- `standing::end_placing` meets its contract: 2 for a living snake that lost, and else 01's placing (`Behind`). Assumes nothing.
-use borrow.Author.Rules.{rules}
 use Rattle.standing.proofs.Behind.{placed_behind, placed_else}
 use Rattle.standing.proofs.placings.end_placing.Goals as goal
 

@@ -1,5 +1,4 @@
 -- `standing::places` meets its contract: the placings of as many snakes as the match has. Assumes nothing.
-use borrow.Author.Rules.{rules}
 use Rattle.standing.proofs.Behind.{placed_all}
 use Rattle.standing.proofs.placings.places.Goals as goal
 

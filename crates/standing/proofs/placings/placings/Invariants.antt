@@ -1,12 +1,7 @@
-use Prim.Native.Nat.{ℕ, ◌-◌, ◌≤◌}
-use mathlib.Core.Path.{◌≡◌, ap, ◌∙◌}
-use lib.ListN.{set}
-use mathlib.Core.List.{List}
-use Rattle.standing.specs.Placings.{end_placing, placings_of}
+use Prim.Native.Nat.{◌-◌, ◌≤◌}
+use mathlib.Core.Path.{◌≡◌}
+use Rattle.standing.specs.Placings.{end_placing}
 use Rattle.lists.specs.Below.{filled}
-use Rattle.lists.proofs.Below.{filled_none, filled_more}
-use native.Mathlib.Omega.{arith}
-use borrow.Author.Rules.{rules}
 use Rattle.standing.proofs.placings.placings.Given as goal
 
 abbrev pub invariant-loop-i : goal.invariant-loop-i

@@ -1,5 +1,4 @@
 -- `standing::first_of` meets its contract: the word at the start that the record says (`Showing`). Assumes nothing.
-use borrow.Author.Rules.{rules}
 use Rattle.standing.proofs.Showing.{first_shown}
 use Rattle.standing.proofs.shown.first_of.Goals as goal
 

@@ -1,7 +1,6 @@
 use native.Mathlib.Omega.{arith}
 use Rattle.standing.specs.Shown.{line_shown}
 use Rattle.printing.proofs.Writing.{both}
-use borrow.Author.Rules.{rules}
 use Rattle.standing.proofs.shown.put_line.Goals as goal
 
 pub returns : goal.returns

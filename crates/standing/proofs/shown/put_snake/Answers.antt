@@ -1,5 +1,4 @@
 -- `standing::put_snake` meets its contract: body, colon and events, written one after the other (`Showing`). Assumes nothing.
-use borrow.Author.Rules.{rules}
 use Rattle.standing.proofs.Showing.{snake_shown_lem}
 use Rattle.standing.proofs.shown.put_snake.Goals as goal
 

@@ -1,10 +1,5 @@
-use Prim.Native.Nat.{◌+◌, ◌-◌, ◌≤◌, ◌*◌}
-use mathlib.Core.Path.{◌≡◌}
-use native.Mathlib.Omega.{arith}
-use borrow.Author.Rules.{rules}
+use Prim.Native.Nat.{◌-◌, ◌≤◌, ◌*◌}
 use Rattle.lists.specs.Below.{concat_below}
-use Rattle.lists.proofs.Below.{concat_none, concat_next}
-use Rattle.printing.proofs.Writing.{both, wider, nothing}
 use Rattle.printing.specs.Text.{Wrote}
 use Rattle.standing.specs.Shown.{snake_shown_by}
 use Rattle.standing.proofs.shown.put_snakes.Given as goal
