@@ -18,7 +18,7 @@ DECLARED = re.compile(r"^(\s*)((?:pub |abbrev |unfoldable |opaque )*)(record |da
 IMPORT = re.compile(r"\b(?:ghost )?use ([^\s{]+)\.\{([^}]*)\}")
 OTHER_WORDS = {"let", "use", "in", "module", "where", "--", "//", "infixr", "infixl", "infix"}
 # names that would fall together with another of the same file
-GIVEN = {"one_number": "one_number_lem", "one_number_lem": "one_number_lem", "body-to": "body_to_lem", "own-at": "own_at_lem"}
+GIVEN = {"onGrid": "IsOnGrid", "one_number": "one_number_lem", "one_number_lem": "one_number_lem", "body-to": "body_to_lem", "own-at": "own_at_lem"}
 
 
 # what records and lemmas bind
