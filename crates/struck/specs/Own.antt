@@ -9,8 +9,8 @@ use Rattle.judge.specs.World.{still, world}
 use Rattle.judge.specs.Judging.{hit_in}
 
 -- the first place of a cell in the rest of snake i, if it stands there
-abbrev pub field_own : List ℕ → List Move → ℕ → ℕ → Hit
-field_own w all i cell = hit_in i (place cell (world w all i).rest) if member cell (world w all i).rest else no_hit
+abbrev pub own_at : List ℕ → List Move → ℕ → ℕ → Hit
+own_at w all i cell = hit_in i (place cell (world w all i).rest) if member cell (world w all i).rest else no_hit
 
 pub record OwnHit (w : List ℕ) (all : List Move) (i : ℕ) (r : Hit) : Type 0 where
-  pub is : r ≡ field_own w all i (get_or all i still).cell
+  pub is : r ≡ own_at w all i (get_or all i still).cell

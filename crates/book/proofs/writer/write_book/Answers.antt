@@ -6,8 +6,5 @@ use Rattle.book.proofs.writer.write_book.Goals as goal
 pub returns-then-out-words : goal.returns-then-out-words
 returns-then-out-words c = search writes_29
 
-pub write_contents-requires : goal.write_contents-requires
-write_contents-requires c = (search rules, (search rules, search rules))
-
 pub returns : goal.returns
 returns c = search writes_done
