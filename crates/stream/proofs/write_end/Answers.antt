@@ -1,7 +1,5 @@
-use mathlib.Core.Path.{refl, sym, ◌∙◌}
-use mathlib.Core.Bool.{true≢false}
-use borrow.Author.Tests.{not-true, not-false}
-use borrow.Author.Rules.{rules}
+use Rattle.std.proofs.Common.{refl, sym, ◌∙◌, true≢false}
+use Rattle.std.proofs.lemmas.Bool.{not-true, not-false}
 use Rattle.stream.proofs.write_end.Goals as goal
 
 pub returns-then-not-r : goal.returns-then-not-r
@@ -14,6 +12,6 @@ returns c =
     let e = not-false c.args.r.on c.if-not-r.false in
     let k = c.close in
     record {
-      closed = λ o. record { out = c.args.out.now; exit = k.last.1.0; count = k.result; wrote = k.ensures; prints = refl };
+      closed = λ o. record { out = c.args.out.now; exit = k.new.out; count = k.result; wrote = k.ensures; prints = refl };
       stopped = λ o. absurd (true≢false (sym e ∙ o));
     }
