@@ -35,7 +35,7 @@ fn find_on(image: &[u16], i: usize, j: usize, you: Move, cell: u16) -> Found
     find_rest(image, j, you, cell)
 }
 
-// The lowest-numbered snake that has the cell so, and its position there. Heads are not asked: a head there was head_on.
+// The lowest-numbered snake that has the cell so, and its position there. Heads are not asked: a head there was head-on.
 pub fn find_other(image: &[u16], all: [Move; 8], n: usize, i: usize, cell: u16) -> Hit
     requires { Judging image.now all n i }
     ensures { Stopped image.now all n i cell result }

@@ -1,4 +1,4 @@
--- What a loop over a slice needs: what is left from i on (`-end`, `-here`, `-next`), or what is passed (`-taken`). Assumes nothing.
+-- What a loop over a slice needs: what is left from i on (`_end`, `_here`, `_next`), or what is passed (`_taken`). Assumes nothing.
 use mathlib.Core.Path.{◌≡◌, refl, sym, ap, ◌∙◌}
 use mathlib.Core.Bool.{Bool, true, false, cond, ◌&&◌, ◌||◌}
 use mathlib.Core.List.{List, [], ◌∷◌, ◌++◌}

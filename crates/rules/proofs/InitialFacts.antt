@@ -1,4 +1,4 @@
--- The initial state of an accepted setting: its snakes, its image, and that the image is well_formed. Assumes nothing.
+-- The initial state of an accepted setting: its snakes, its image, and that the image is well-formed. Assumes nothing.
 use Prim.Native.Nat.{ℕ, ◌+◌, ◌*◌, ◌<◌, ◌≤◌, zero-le}
 use native.Mathlib.Nat.{le_refl, mul_comm}
 use native.Mathlib.Omega.{arith}
