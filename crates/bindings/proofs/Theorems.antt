@@ -25,13 +25,13 @@ use Rattle.rules.specs.Events.{blank, eight}
 use Rattle.rules.specs.Image.{image_of, state_of}
 use Rattle.rules.specs.Step.{Transition, stepped}
 use Rattle.rules.specs.Struck.{hits_in}
-use Rattle.rules.specs.Chance.{outcomes, drawn, after_draw, rank_of}
+use Rattle.rules.specs.Chance.{outcomes, rank_of}
 use Rattle.rules.specs.View.{view, lit}
 use Rattle.rules.specs.LengthKey.{length_key}
 use Rattle.rules.specs.Turns.{chance_acts, legal_for, truncated}
 use Rattle.rules.specs.Reward.{reward_of}
 use Rattle.rules.specs.Setting.{setting_order, side_of, initial_state}
-use Rattle.rules.specs.Says.{Says, refuses, gives, by_table, lent, Shape, box, discrete}
+use Rattle.rules.specs.Says.{Says, refuses, gives, by_table, Shape, box, discrete}
 use Rattle.rules.specs.Calls.{setting_says, image_says, initial_says, step_says, struck_says, observe_says, count_says, Draw, draw_says, rank_says, actor_says, legal_says, key_says, truncation_says, reward_says, space_says}
 use Rattle.rules.specs.Orders.{initial_order, asked_rows, asked_order, due_rows, count_order, draw_rows, rank_rows, reward_order, space_order}
 use Rattle.rules.specs.declared.Refusal.{Refusal}

@@ -1,5 +1,5 @@
 -- What writing says by the tests made so far, and the words that it writes. Assumes nothing.
-use Prim.Native.Nat.{ℕ, ◌+◌, ◌*◌, ◌-◌, ◌<◌, ◌≤◌}
+use Prim.Native.Nat.{ℕ, ◌+◌, ◌*◌, ◌<◌, ◌≤◌}
 use native.Mathlib.Omega.{arith}
 use mathlib.Core.Path.{◌≡◌, refl, sym, ap, ◌∙◌}
 use mathlib.Core.Bool.{Bool, true, false, not, false≢true}
@@ -15,7 +15,7 @@ use Rattle.lists.proofs.Concat.{blocks_long}
 use Rattle.rules.proofs.Tables.{and_then, row_out, table_gives, table_after, table_given}
 use Rattle.lists.proofs.Tests.{and_left, and_right}
 use Rattle.lists.proofs.Writes.{write_more, write_front}
-use Rattle.rules.specs.Says.{refuses, gives, by_table, says, says_verdict}
+use Rattle.rules.specs.Says.{refuses, gives, by_table, says_verdict}
 use Rattle.rules.specs.Calls.{setting_says}
 use Rattle.rules.specs.Setting.{setting_order, setting_check}
 use Rattle.rules.specs.Promises.{Validates}

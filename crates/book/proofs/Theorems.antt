@@ -1,7 +1,7 @@
 -- The book's theorems (02, wish 1). A call is spoken of by its promise, which its code is proved to meet. Assumes nothing.
-use Prim.Native.Nat.{ℕ, ◌+◌, ◌-◌, ◌<◌, ◌≤◌}
+use Prim.Native.Nat.{ℕ, ◌+◌, ◌<◌, ◌≤◌}
 use native.Mathlib.Omega.{arith}
-use mathlib.Core.Path.{◌≡◌, refl, sym, ap, ◌∙◌}
+use mathlib.Core.Path.{◌≡◌, sym, ap, ◌∙◌}
 use mathlib.Core.Bool.{true}
 use mathlib.Core.List.{List}
 use lib.ListN.{length, take, drop}
@@ -30,7 +30,6 @@ use Rattle.contents.specs.Promises.{Finds}
 use Rattle.book.specs.Promises.{Writes, Hands}
 use Rattle.book.specs.Read.{PageChecks}
 use Rattle.contents.specs.declared.PageFound.TheVariants.{Part, Refused}
-use Rattle.book.proofs.Separate as separate
 use Rattle.book.proofs.Binding as binding
 use Rattle.contents.proofs.Alone as alone
 use Rattle.book.proofs.Bound.{bound_pages, bound_setting, bound_page, bound_rest}

@@ -13,7 +13,7 @@ use Rattle.lists.specs.Lists.{over_front}
 use Rattle.rules.specs.Image.{due_in, birth_in, area_in, image_of, state_of}
 use Rattle.rules.specs.Says.{gives}
 use Rattle.rules.specs.declared.Answer.TheVariants.{Done}
-use Rattle.rules.specs.Chance.{free, drawn_from, drawn, after_draw}
+use Rattle.rules.specs.Chance.{drawn_from, drawn, after_draw}
 use Rattle.rules.proofs.DrawFacts.{drawn_due}
 use Rattle.rules.proofs.Fairness.{listed}
 use Rattle.rules.proofs.FreeCells.{free_short}

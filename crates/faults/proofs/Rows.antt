@@ -1,21 +1,19 @@
 -- Which row of an image holds first, by the tests made so far: one law for each return, and what the rows before it tell. Assumes nothing.
 use Prim.Native.Nat.{ℕ, zero, suc, ◌+◌, ◌*◌, ◌<◌, ◌≤◌, min}
 use native.Mathlib.Omega.{arith}
-use native.Mathlib.Numerals.{add-one}
-use mathlib.Core.Path.{◌≡◌, refl, sym, ap, ap₂, ◌∙◌}
-use mathlib.Core.Bool.{Bool, true, false, not, ◌&&◌, ◌||◌, true≢false}
+use mathlib.Core.Path.{◌≡◌, refl, sym, ap, ◌∙◌}
+use mathlib.Core.Bool.{Bool, true, false, not, true≢false}
 use mathlib.Core.List.{List, [], ◌∷◌}
 use mathlib.Core.Logic.{⊎_elim}
-use lib.Dec.{ltb, eqb}
+use lib.Dec.{ltb}
 use lib.ListN.{length, get_or, take}
 use borrow.Author.Tests.{ltb-false, not-true, not-false, ne_eqb, eq-eqb}
-use Rattle.lists.specs.Choice.{◌if◌else◌}
 use Rattle.lists.specs.Below.{all_below}
-use Rattle.lists.specs.Lists.{every, all, distinct}
+use Rattle.lists.specs.Lists.{all, distinct}
 use Rattle.lists.proofs.Tests.{tell, and_left, and_right, every_at, both, or_false_left, or_false_right}
 use Rattle.lists.proofs.Lowest.{some_out, none_out}
 use Rattle.rules.specs.Tables.{Table, by, by_word, none_hold}
-use Rattle.rules.specs.Image.{front, snakes_in, food_count_in, food_start, start_at, body_at, between, long_enough, contents_fit, record_fits, ranges_fit, starts_fit, total_fits, cells_fit, bodies_fit, food_fits, well_formed}
+use Rattle.rules.specs.Image.{front, snakes_in, food_count_in, food_start, start_at, body_at, contents_fit, record_fits, ranges_fit, starts_fit, total_fits, cells_fit, bodies_fit, food_fits, well_formed}
 use Rattle.rules.specs.Faults.{first_out, cut_short, contents_out, record_out, range_word, start_word, total_word, cell_word, twice_in, twice_word, food_word, image_rows}
 use Rattle.rules.specs.Says.{Says, refuses, gives, by_table}
 use Rattle.rules.specs.Calls.{image_says}
@@ -23,7 +21,7 @@ use Rattle.rules.specs.Promises.{Checks, Examines, Faulty}
 use Rattle.rules.specs.declared.Refusal.{Refusal}
 use Rattle.rules.specs.declared.Verdict.TheVariants.{Accepted, Refused}
 use Rattle.rules.proofs.Faults.{no_fault, image_given}
-use Rattle.wellformed.specs.Checked.{Long, Ranged, Laid, OnBoard, Adds}
+use Rattle.wellformed.specs.Checked.{Adds}
 use Rattle.wellformed.specs.declared.contents.Layout.{Layout}
 use Rattle.wellformed.proofs.Checked.{ranged_of, laid_of, board_of}
 use Rattle.faults.specs.Past.{Past, Counted, InRange, InPlace, OnGrid}

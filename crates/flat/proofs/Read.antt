@@ -14,7 +14,6 @@ use mir.Val.{to_z, of_z, SFits}
 use Rattle.lists.proofs.Signs.{minus_one}
 use Rattle.rules.specs.declared.Limit.{Limit}
 use Rattle.rules.specs.declared.Limit.TheVariants.{Unset, Is}
-use Rattle.rules.specs.declared.Setting.{Setting}
 use Rattle.flat.specs.Flat.{limit_in, grid_in, setting_in}
 
 -- ---- a limit

@@ -1,22 +1,21 @@
 -- What is wrong with an image fits a number of 64 bits: a fault's number is 50 to 56, and its word is below 65,536. Assumes nothing.
-use Prim.Native.Nat.{ℕ, ◌+◌, ◌*◌, ◌-◌, ◌<◌, ◌≤◌, min}
-use native.Mathlib.Nat.{min-le_left, min-le_right}
+use Prim.Native.Nat.{ℕ, ◌+◌, ◌*◌, ◌-◌, ◌<◌, ◌≤◌}
+use native.Mathlib.Nat.{min-le_left}
 use native.Mathlib.Omega.{arith}
 use mathlib.Core.Path.{◌≡◌, refl, sym, ap, ◌∙◌}
 use mathlib.Core.Bool.{Bool, true, false, not, ◌&&◌, ◌||◌}
-use mathlib.Core.List.{List, [], ◌∷◌}
+use mathlib.Core.List.{List}
 use mathlib.Core.Logic.{⊎_elim}
 use lib.Dec.{leb, ltb, eqb}
 use lib.ListN.{length, get_or, take, drop, length-take}
-use borrow.Author.Tests.{ltb-true, leb-true, eq-eqb, ne_eqb, eqb-true}
+use borrow.Author.Tests.{ltb-true, leb-true}
 use Rattle.lists.specs.Choice.{◌if◌else◌}
-use Rattle.lists.specs.Below.{all_below}
 use Rattle.lists.specs.Lists.{member, distinct}
 use Rattle.lists.proofs.Tests.{tell, compared, same, other, ordered, less, more, and_left, and_right, every_at, or_second}
 use Rattle.lists.proofs.Lowest.{lowest_le}
 use Rattle.rules.specs.Tables.{by_word}
 use Rattle.rules.specs.Image.{word, front, snakes_in, side_in, area_in, due_in, birth_in, food_count_in, start_at, start_due, length_at, heading_at, alive_at, body_at, food_start, between, contents_fit, record_fits, starts_fit, cells_fit, well_formed}
-use Rattle.rules.specs.Faults.{first_out, cut_short, contents_out, record_out, start_word, total_word, cell_word, twice_in, twice_word, food_word}
+use Rattle.rules.specs.Faults.{first_out, cut_short, contents_out, record_out, start_word, total_word, cell_word, twice_in, food_word}
 use Rattle.rules.specs.Says.{refuses, gives}
 use Rattle.rules.specs.Calls.{image_says}
 use Rattle.rules.specs.Promises.{Faulty}

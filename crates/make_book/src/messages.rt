@@ -2,17 +2,19 @@
 ghost use Rattle.std.specs.Prelude.{◌≤◌};
 
 use crate::{Fault, Tally};
-use libc::STDERR_FILENO;
+
+// Standard error, as `io` numbers it.
+const STDERR: i32 = 2;
 
 fn say(text: &[u8]) {
-    io::write_all(STDERR_FILENO, text);
+    io::write_all(STDERR, text);
 }
 
 // `shown` is what the replay prints for the line, up to its newline.
 fn say_refused(line: usize, shown: &[u8]) {
     say(shown);
     say(b": line ");
-    io::print_decimal(STDERR_FILENO, line as u64);
+    io::print_decimal(STDERR, line as u64);
     say(b" of the match is refused, so there is no book\n");
 }
 

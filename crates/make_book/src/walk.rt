@@ -5,8 +5,8 @@ ghost use Rattle.stream.specs.Room.{Ready};
 use crate::messages::tell_line;
 use crate::pages::{see, stop};
 use crate::{Fault, Tally};
-use libc::STDIN_FILENO;
 use rules::Setting;
+use std::io::Read;
 use stream::Progress;
 
 // How far the replay is, what the pass has done, and whether more may come.
@@ -56,7 +56,8 @@ fn take_part(
 }
 
 // One read.
-fn read_some(
+fn read_some<F: Read>(
+    input: &mut F,
     p: Pass,
     line: &mut [u8],
     image: &mut [u16],
@@ -69,17 +70,16 @@ fn read_some(
     ensures pages_bound_2 { result.tally.pages ≤ 65535 }
 {
     let mut part = io::large_buffer();
-    let got = libc::read(STDIN_FILENO, &mut part);
+    let got = input.read(&mut part);
     let progress = p.progress;
     let tally = p.tally;
-    if got < 0 {
+    let Ok(n) = got else {
         return Pass {
             progress,
             tally: stop(tally, Fault::NotRead),
             more: false,
         };
-    }
-    let n = io::count(got, &part);
+    };
     let came = Pass {
         progress,
         tally,
@@ -119,7 +119,8 @@ fn finish(
 }
 
 // As in `replay`, the loop counts its turns down, from a number that no run uses up.
-fn walk(
+fn walk<F: Read>(
+    input: &mut F,
     first: Pass,
     line: &mut [u8],
     image: &mut [u16],
@@ -133,13 +134,18 @@ fn walk(
     let mut p = first;
     let mut turns = u64::MAX;
     while turns > 0 && p.more && p.tally.on {
-        p = read_some(p, line, image, lengths, bytes);
+        p = read_some(input, p, line, image, lengths, bytes);
         turns -= 1;
     }
     finish(p, line, image, lengths, bytes)
 }
 
-pub(crate) fn go_over(writes: bool, lengths: &mut [u16; 65535], bytes: &mut [u8]) -> Passed
+pub(crate) fn go_over<F: Read>(
+    input: &mut F,
+    writes: bool,
+    lengths: &mut [u16; 65535],
+    bytes: &mut [u8],
+) -> Passed
     ensures { result.tally.pages ≤ 65535 }
 {
     let mut line = [0u8; 256];
@@ -156,7 +162,7 @@ pub(crate) fn go_over(writes: bool, lengths: &mut [u16; 65535], bytes: &mut [u8]
         tally,
         more: true,
     };
-    let last = walk(first, &mut line, &mut image, lengths, bytes);
+    let last = walk(input, first, &mut line, &mut image, lengths, bytes);
     let r = last.progress;
     let desk = r.desk;
     let game = desk.game;

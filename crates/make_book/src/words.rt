@@ -1,7 +1,8 @@
 // Words as a book's file has them: two bytes each, low one first.
 ghost use Rattle.std.specs.Prelude.{◌+◌, ◌*◌, ◌≤◌, length};
 
-use libc::STDOUT_FILENO;
+// Standard output, as `io` numbers it.
+const STDOUT: i32 = 1;
 
 pub(crate) fn wide(word: u16) -> usize
     ensures { result ≤ 65535 }
@@ -41,5 +42,5 @@ pub(crate) fn put_words(words: &[u16], bytes: &mut [u8]) -> bool {
         return false;
     }
     spell(words, bytes);
-    io::write_all(STDOUT_FILENO, &bytes[0..2 * n])
+    io::write_all(STDOUT, &bytes[0..2 * n])
 }

@@ -5,8 +5,11 @@
 ghost use Rattle.std.specs.Prelude.{◌≡◌, ◌+◌, ◌<◌, ◌≤◌, length};
 ghost use Rattle.stream.specs.Room.{Ready};
 
-use libc::{STDIN_FILENO, STDOUT_FILENO};
+use std::io::{Read, Stdin};
 use stream::Progress;
+
+// Standard output, as `io` numbers it.
+const STDOUT: i32 = 1;
 
 // The match under way; how many bytes of the line's front came, up to two, and its mark; where to go on in what came; whether more may come.
 #[derive(Clone, Copy)]
@@ -40,7 +43,7 @@ fn begin(old: Progress, line: &[u8], image: &mut [u16]) -> Progress
     ensures { Ready result line.now image.new }
 {
     stream::finish(old, line, image);
-    io::write_all(STDOUT_FILENO, b"= ");
+    io::write_all(STDOUT, b"= ");
     stream::start()
 }
 
@@ -63,7 +66,7 @@ fn take_text(f: Frame, text: &[u8], line: &mut [u8], image: &mut [u16]) -> Progr
 {
     let r = f.progress;
     if f.mark == b'=' {
-        io::write_all(STDOUT_FILENO, text);
+        io::write_all(STDOUT, text);
         return r;
     }
     stream::take_all(r, text, line, image)
@@ -141,14 +144,23 @@ fn take_part(first: Frame, part: &[u8], line: &mut [u8], image: &mut [u16]) -> F
     f
 }
 
-// One read.
-fn read_some(f: Frame, line: &mut [u8], image: &mut [u16]) -> Frame
+// One read: how many bytes came; 0 at the end of the input, and where it cannot be read.
+fn read(mut stdin: Stdin, part: &mut [u8]) -> usize
+    ensures { result ≤ length part.new }
+{
+    match stdin.read(part) {
+        Ok(n) => n,
+        Err(_) => 0,
+    }
+}
+
+// What one read brought.
+fn read_some(stdin: Stdin, f: Frame, line: &mut [u8], image: &mut [u16]) -> Frame
     requires { Ready f.progress line.old image.old }
     ensures { Ready result.progress line.new image.new }
 {
     let mut part = io::large_buffer();
-    let got = libc::read(STDIN_FILENO, &mut part);
-    let n = io::count(got, &part);
+    let n = read(stdin, &mut part);
     let progress = f.progress;
     let start = Frame {
         progress,
@@ -161,20 +173,20 @@ fn read_some(f: Frame, line: &mut [u8], image: &mut [u16]) -> Frame
 }
 
 // As in `replay`, the loop counts its turns down, from a number that no run uses up.
-fn replay_all(first: Frame, line: &mut [u8], image: &mut [u16])
+fn replay_all(stdin: Stdin, first: Frame, line: &mut [u8], image: &mut [u16])
     requires { Ready first.progress line.old image.old }
 {
     let mut f = first;
     let mut turns = u64::MAX;
     while turns > 0 && f.more {
-        f = read_some(f, line, image);
+        f = read_some(stdin, f, line, image);
         turns -= 1;
     }
     let progress = f.progress;
     stream::finish(progress, line, image);
 }
 
-fn main() {
+fn main(rt: HostRuntime) {
     let mut line = [0u8; 256];
     let mut image = [0u16; 9253];
     let progress = idle();
@@ -185,5 +197,5 @@ fn main() {
         at: 0,
         more: true,
     };
-    replay_all(first, &mut line, &mut image);
+    replay_all(rt.stdin(), first, &mut line, &mut image);
 }

@@ -4,8 +4,10 @@ ghost use Rattle.std.specs.Prelude.{◌+◌, ◌<◌, ◌≤◌, length};
 
 use crate::pages::food_in;
 use layout::alive_at;
-use libc::STDOUT_FILENO;
 use lists::word_at;
+
+// Standard output, as `io` numbers it.
+const STDOUT: i32 = 1;
 
 // What is drawn of the snakes, one over the other.
 #[derive(Clone, Copy)]
@@ -79,8 +81,8 @@ fn mark_layer(board: &mut [u8], image: &[u16], layer: Layer) {
 fn put_row(board: &[u8], at: usize, g: usize) -> bool
     requires { at + g ≤ length board.now }
 {
-    let row = io::write_all(STDOUT_FILENO, &board[at..at + g]);
-    let end = io::write_all(STDOUT_FILENO, b"\n");
+    let row = io::write_all(STDOUT, &board[at..at + g]);
+    let end = io::write_all(STDOUT, b"\n");
     row & end
 }
 

@@ -1,7 +1,7 @@
-// Standard input as a file of words, two bytes each, low one first.
+// A file of words, two bytes each, low one first.
 ghost use Rattle.std.specs.Prelude.{◌*◌, ◌≤◌, length};
 
-use libc::{SEEK_END, SEEK_SET, STDIN_FILENO};
+use std::io::{Read, Seek, SeekFrom};
 
 #[derive(Clone, Copy)]
 pub enum Size {
@@ -9,20 +9,30 @@ pub enum Size {
     Bytes(u64),
 }
 
-pub fn file_size() -> Size {
-    let end = libc::lseek(STDIN_FILENO, 0, SEEK_END);
-    if end < 0 {
-        return Size::NoFile;
+pub fn file_size<F: Seek>(file: &mut F) -> Size {
+    match file.seek(SeekFrom::End(0)) {
+        Ok(end) => Size::Bytes(end),
+        Err(_) => Size::NoFile,
     }
-    Size::Bytes(end as u64)
 }
 
 // To a word; a book's words are numbered below 2^32.
-fn seek(word: usize) -> bool {
+fn seek<F: Seek>(file: &mut F, word: usize) -> bool {
     if 4294967295 < word {
         return false;
     }
-    0 <= libc::lseek(STDIN_FILENO, (2 * word) as i64, SEEK_SET)
+    match file.seek(SeekFrom::Start((2 * word) as u64)) {
+        Ok(_) => true,
+        Err(_) => false,
+    }
+}
+
+// Whether the file has so many bytes more.
+fn fill<F: Read>(file: &mut F, bytes: &mut [u8]) -> bool {
+    match file.read_exact(bytes) {
+        Ok(()) => true,
+        Err(_) => false,
+    }
 }
 
 fn word_of(low: u8, high: u8) -> u16 {
@@ -40,15 +50,20 @@ fn join(bytes: &[u8], words: &mut [u16])
 }
 
 // The words from `from` on, as many as are lent; false where the file has fewer. The bytes are lent to hold them.
-pub fn read_words(from: usize, words: &mut [u16], bytes: &mut [u8]) -> bool {
+pub fn read_words<F: Read + Seek>(
+    file: &mut F,
+    from: usize,
+    words: &mut [u16],
+    bytes: &mut [u8],
+) -> bool {
     let n = words.len();
     if bytes.len() / 2 < n {
         return false;
     }
-    if !seek(from) {
+    if !seek(file, from) {
         return false;
     }
-    if io::read_full(STDIN_FILENO, &mut bytes[0..2 * n]) < 2 * n {
+    if !fill(file, &mut bytes[0..2 * n]) {
         return false;
     }
     join(bytes, words);
@@ -56,12 +71,12 @@ pub fn read_words(from: usize, words: &mut [u16], bytes: &mut [u8]) -> bool {
 }
 
 // One word; 0 where the file has none there.
-pub(crate) fn word_in(at: usize) -> u16 {
+pub(crate) fn word_in<F: Read + Seek>(file: &mut F, at: usize) -> u16 {
     let mut two = [0u8; 2];
-    if !seek(at) {
+    if !seek(file, at) {
         return 0;
     }
-    if io::read_full(STDIN_FILENO, &mut two) < 2 {
+    if !fill(file, &mut two) {
         return 0;
     }
     word_of(two[0], two[1])

@@ -1,4 +1,4 @@
-// A page of a book's file: standard input as words, the page that the contents find there, its board, and the line of the match that leads to it.
+// A page of a book's file: the file as words, the page that the contents find there, its board, and the line of the match that leads to it.
 #![tactic(auto)]
 
 mod board;

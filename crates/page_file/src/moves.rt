@@ -2,9 +2,10 @@
 ghost use Rattle.std.specs.Prelude.{◌+◌, ◌<◌, ◌≤◌};
 
 use crate::file::word_in;
+use std::io::{Read, Seek};
 
 // Whether food is due on a page, by word 2 of its image.
-fn is_due(contents: &[u16], page: u64) -> bool {
+fn is_due<F: Read + Seek>(file: &mut F, contents: &[u16], page: u64) -> bool {
     if 65535 <= page {
         return false;
     }
@@ -12,7 +13,7 @@ fn is_due(contents: &[u16], page: u64) -> bool {
     if contents.len() < 19 + 2 * i {
         return false;
     }
-    word_in(contents::pair(contents, 17 + 2 * i) + 2) != 0
+    word_in(file, contents::pair(contents, 17 + 2 * i) + 2) != 0
 }
 
 fn count_on(k: u64, due: bool) -> u64
@@ -25,11 +26,11 @@ fn count_on(k: u64, due: bool) -> u64
     k + 1
 }
 
-pub fn moves_to(contents: &[u16], page: u64) -> u64 {
+pub fn moves_to<F: Read + Seek>(file: &mut F, contents: &[u16], page: u64) -> u64 {
     let mut k = 0;
     let mut i = 0;
     while i < page {
-        k = count_on(k, is_due(contents, i));
+        k = count_on(k, is_due(file, contents, i));
         i += 1;
     }
     k

@@ -5,6 +5,7 @@ use crate::file::read_words;
 use contents::PageFound;
 use lists::smaller;
 use rules::{Refusal, Verdict};
+use std::io::{Read, Seek};
 
 // Whether the file could be read; why the page is refused, or the number 0 and how many words its image has.
 #[derive(Clone, Copy)]
@@ -44,7 +45,8 @@ fn why_not(contents: &[u16], image: &[u16]) -> Refusal {
 }
 
 // The page's image, at the front of a lent buffer that holds any and a word more: what is wrong with a longer part shows in so many words.
-pub fn load(
+pub fn load<F: Read + Seek>(
+    file: &mut F,
     contents: &[u16],
     words: usize,
     page: u64,
@@ -58,7 +60,7 @@ pub fn load(
         return refused(why_not_found(found));
     };
     let held = smaller(len, image.len());
-    if !read_words(start, &mut image[0..held], bytes) {
+    if !read_words(file, start, &mut image[0..held], bytes) {
         return Loaded {
             read: false,
             why: refusals::by(0),

@@ -5,9 +5,11 @@ mod answer;
 mod books;
 mod steps;
 
+ghost use Rattle.std.specs.Prelude.{◌≤◌, length};
+
 use crate::answer::answer_line;
-use libc::STDIN_FILENO;
 use replies::{book_room, flush, put};
+use std::io::{Read, Stdin};
 
 // Takes the bytes that were read, after the `begun` that are held; each newline ends a line, and its answer follows. The
 // answers are written at the end, so that whoever waits for them gets them before the next read.
@@ -44,13 +46,22 @@ fn take_last(held: usize, line: &mut [u8], words: &mut [u16], answers: &mut [u8]
     take_all(&newline, held, line, words, answers);
 }
 
+// One read: how many bytes came; 0 at the end of the input, and where it cannot be read.
+fn read(mut stdin: Stdin, part: &mut [u8]) -> usize
+    ensures { result ≤ length part.new }
+{
+    match stdin.read(part) {
+        Ok(n) => n,
+        Err(_) => 0,
+    }
+}
+
 // Nothing says that the input ends, so the loop counts its turns down from a number that no run uses up.
-fn serve(input: &mut [u8], line: &mut [u8], words: &mut [u16], answers: &mut [u8]) {
+fn serve(stdin: Stdin, input: &mut [u8], line: &mut [u8], words: &mut [u16], answers: &mut [u8]) {
     let mut held = 0;
     let mut turns = u64::MAX;
     while turns > 0 {
-        let got = libc::read(STDIN_FILENO, input);
-        let n = io::count(got, input);
+        let n = read(stdin, input);
         if n == 0 {
             take_last(held, line, words, answers);
             return;
@@ -65,10 +76,10 @@ fn line_room() -> [u8; 1573200] {
     [0u8; 1573200]
 }
 
-fn main() {
+fn main(rt: HostRuntime) {
     let mut input = [0u8; 65536];
     let mut line = line_room();
     let mut words = book_room();
     let mut answers = [0u8; 65536];
-    serve(&mut input, &mut line, &mut words, &mut answers);
+    serve(rt.stdin(), &mut input, &mut line, &mut words, &mut answers);
 }

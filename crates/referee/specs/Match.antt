@@ -1,5 +1,5 @@
 -- The match as a value, what each line does to it, and the whole replay (01, 'Replay'). Assumes nothing.
-use Rattle.std.specs.Prelude.{ℕ, ◌+◌, ◌≡◌, Bool, true, false, List, [], ◌∷◌, ◌++◌, length, get_or, take}
+use Rattle.std.specs.Prelude.{ℕ, ◌≡◌, Bool, true, false, List, [], ◌∷◌, ◌++◌, length, get_or, take}
 use Rattle.lists.specs.Choice.{◌if◌else◌}
 use Rattle.lists.specs.Below.{filled}
 use Rattle.rules.specs.State.{State, count, snake_of}

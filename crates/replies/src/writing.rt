@@ -1,9 +1,11 @@
 // Answers as text, put one after the other into a lent buffer. Each call answers the index after what it put.
 // What was put is written out from 32,768 bytes on, before each answer and among many words, so that the room of 65,536 never ends.
 use crate::buffers::kept;
-use libc::STDOUT_FILENO;
 use printing::put_item;
 use rules::{Answer, Refusal};
+
+// Standard output, as `io` numbers it.
+const STDOUT: i32 = 1;
 
 pub fn put(text: &mut [u8], at: usize, b: u8) -> usize {
     if text.len() <= at {
@@ -21,7 +23,7 @@ pub fn flush(text: &[u8], at: usize, least: usize) -> usize {
     if text.len() < at {
         return 0;
     }
-    io::write_all(STDOUT_FILENO, &text[0..at]);
+    io::write_all(STDOUT, &text[0..at]);
     0
 }
 

@@ -4,9 +4,9 @@ use native.Mathlib.Nat.{pos_of_ne-zero, le_refl, le_trans, not-suc-le-zero, le_o
 use native.Mathlib.Omega.{arith}
 use mathlib.Core.Path.{◌≡◌, refl, sym, ap, subst, ◌∙◌}
 use mathlib.Core.Bool.{Bool, true, false, not}
-use mathlib.Core.List.{List, [], ◌∷◌, ◌++◌, append_assoc, append-nil}
+use mathlib.Core.List.{List, [], ◌++◌, append_assoc, append-nil}
 use lib.Dec.{ltb, eqb}
-use lib.ListN.{length, get_or, take, drop}
+use lib.ListN.{length, get_or, take}
 use borrow.Author.Tests.{ltb-true, ltb-false, eqb-false, lt-ltb, le-ltb, ne_eqb, not-false}
 use Rattle.lists.specs.Below.{count_below}
 use Rattle.lists.specs.Lists.{all, over_front, member, distinct}

@@ -1,8 +1,8 @@
 -- What is wrong with an image: no row holds exactly where it is well-formed, and what its rows say before any other. Assumes nothing.
-use Prim.Native.Nat.{ℕ, ◌<◌, ◌≤◌}
+use Prim.Native.Nat.{ℕ}
 use mathlib.Core.Path.{◌≡◌, refl, sym, ap, ◌∙◌}
 use mathlib.Core.Bool.{Bool, true, false, not, ◌&&◌, ◌||◌, and-false}
-use mathlib.Core.List.{List, [], ◌∷◌, ◌++◌, append-nil}
+use mathlib.Core.List.{List, [], ◌++◌, append-nil}
 use mathlib.Core.Logic.{⊎_elim}
 use lib.Dec.{leb, ltb}
 use lib.ListN.{length}
@@ -17,7 +17,7 @@ use Rattle.rules.specs.Says.{Says, refuses, by_table}
 use Rattle.rules.specs.Calls.{image_says}
 use Rattle.rules.specs.Promises.{Faulty}
 use Rattle.rules.specs.declared.Refusal.{Refusal}
-use Rattle.rules.proofs.Tables.{and_then, table_gives, table_after}
+use Rattle.rules.proofs.Tables.{table_gives, table_after}
 
 not_not : (b : Bool) → not (not b) ≡ b
 not_not true = refl

@@ -6,7 +6,7 @@ use mathlib.Core.Bool.{Bool, true, false, not, ◌&&◌, ◌||◌, and-false}
 use lib.Dec.{ltb, eqb}
 use lib.IntN.{pos}
 use lib.ListN.{length, get_or}
-use borrow.Author.Tests.{not-true, eq-eqb, eqb-true, lt-ltb, ltb-true}
+use borrow.Author.Tests.{not-true, eq-eqb, lt-ltb, ltb-true}
 use Rattle.lists.specs.Choice.{◌if◌else◌}
 use Rattle.lists.specs.Below.{lowest_from}
 use Rattle.lists.specs.Lists.{member, place}
@@ -16,10 +16,9 @@ use Rattle.lists.proofs.Lowest.{none_lower, lowest_holds, some_lowest}
 use Rattle.lists.proofs.Members.{clash, place_lt, get_d_place, place_first}
 use Rattle.rules.specs.Grid.{inside, same, cell_of}
 use Rattle.rules.specs.Step.{Moved, another, on_body, cause_of}
-use Rattle.rules.specs.Struck.{no_hit, behind_head, position_of, stops_head, hit_by, hit_of, strikes, stands_at, FirstBehind, HitsItself, HitsAnother}
+use Rattle.rules.specs.Struck.{no_hit, behind_head, stops_head, hit_by, hit_of, strikes, stands_at, FirstBehind, HitsItself, HitsAnother}
 use Rattle.rules.specs.declared.Cause.{Cause}
 use Rattle.rules.specs.declared.Cause.TheVariants.{NoCause, Wall, SelfBody, OppBody, HeadOn}
-use Rattle.rules.specs.declared.Hit.{Hit}
 use Rattle.rules.specs.declared.Place.{Place}
 
 -- ---- the tests behind a cause

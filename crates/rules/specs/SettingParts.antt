@@ -1,5 +1,5 @@
 -- The check of a setting in two halves, numbers and places, as code goes about it; each over just what it depends on. Assumes nothing.
-use Rattle.std.specs.Prelude.{ℕ, ◌+◌, ◌*◌, ◌-◌, ◌≤◌, ◌≡◌, false, List, [], ◌∷◌, map, ltb, ℤ, pos}
+use Rattle.std.specs.Prelude.{ℕ, ◌+◌, ◌*◌, ◌≤◌, ◌≡◌, false, List, [], ◌∷◌, map, ltb, ℤ, pos}
 use Rattle.std.specs.Int.Signed.{lt_z}
 use Rattle.lists.specs.Choice.{bit}
 use Rattle.lists.specs.Below.{concat_below}

@@ -1,5 +1,5 @@
 -- The halves of the check put together, and what `validate` says. Assumes nothing.
-use Prim.Native.Nat.{ℕ, ◌-◌}
+use Prim.Native.Nat.{ℕ}
 use mathlib.Core.Path.{◌≡◌, sym, ap, ◌∙◌}
 use mathlib.Core.List.{List}
 use Rattle.lists.specs.Choice.{first_of}

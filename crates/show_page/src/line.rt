@@ -1,12 +1,13 @@
 // The line that the replay prints for a page's state. A book holds no events: they are those of the move that leads from the page before to this one.
 ghost use Rattle.std.specs.Prelude.{◌≤◌, length};
 
+use crate::messages::STDOUT;
 use events::no_events;
-use libc::STDOUT_FILENO;
 use lists::word_at;
 use page_file::{load, moves_to, put_entry};
 use referee::Desk;
 use rules::{Answer, Setting};
+use std::io::{Read, Seek};
 
 // Whether it is known what leads to the page, and whether the line could be written.
 #[derive(Clone, Copy)]
@@ -19,7 +20,7 @@ fn print(out: &[u8], n: usize) -> bool {
     if out.len() < n {
         return false;
     }
-    io::write_all(STDOUT_FILENO, &out[0..n])
+    io::write_all(STDOUT, &out[0..n])
 }
 
 // A line without events.
@@ -102,7 +103,8 @@ fn put_turn(setting: Setting, moves: u64, past: &mut [u16], len: usize, image: &
 }
 
 // After the page before.
-fn put_next(
+fn put_next<F: Read + Seek>(
+    file: &mut F,
     contents: &[u16],
     words: usize,
     page: u64,
@@ -111,21 +113,22 @@ fn put_next(
     bytes: &mut [u8],
 ) -> Shown {
     let mut past = [0u16; 9254];
-    let before = load(contents, words, page, &mut past, bytes);
+    let before = load(file, contents, words, page, &mut past, bytes);
     let why = before.why;
     if !before.read || why.number != 0 {
         return put_unknown(image);
     }
     put_turn(
         setting,
-        moves_to(contents, page),
+        moves_to(file, contents, page),
         &mut past,
         before.len,
         image,
     )
 }
 
-pub(crate) fn put_state(
+pub(crate) fn put_state<F: Read + Seek>(
+    file: &mut F,
     contents: &[u16],
     words: usize,
     page: u64,
@@ -139,5 +142,5 @@ pub(crate) fn put_state(
     if page == 0 {
         return put_start(setting, image);
     }
-    put_next(contents, words, page - 1, setting, image, bytes)
+    put_next(file, contents, words, page - 1, setting, image, bytes)
 }

@@ -1,10 +1,15 @@
 // The words below the board, and what is wrong, in one line on standard error. A refusal's line begins with `r` and its number, for 50 to 56 its word too.
 use crate::Fault;
 use crate::line::Shown;
-use libc::{STDERR_FILENO, STDOUT_FILENO};
 use lists::word_at;
 use page_file::moves_to;
 use rules::Refusal;
+use std::io::{Read, Seek};
+
+// Standard output and standard error, as `io` numbers them.
+pub(crate) const STDOUT: i32 = 1;
+
+const STDERR: i32 = 2;
 
 // Pages are numbered from 0.
 fn last_of(pages: u64) -> u64 {
@@ -17,27 +22,27 @@ fn last_of(pages: u64) -> u64 {
 // ---- on standard output
 
 fn write(text: &[u8]) -> bool {
-    io::write_all(STDOUT_FILENO, text)
+    io::write_all(STDOUT, text)
 }
 
 fn put_moves(moves: u64) -> bool {
     if moves == 0 {
         return write(b", before the first move\n");
     }
-    write(b", after move ") & io::print_decimal(STDOUT_FILENO, moves) & write(b"\n")
+    write(b", after move ") & io::print_decimal(STDOUT, moves) & write(b"\n")
 }
 
 fn put_number(page: u64, pages: u64) -> bool {
     write(b"page ")
-        & io::print_decimal(STDOUT_FILENO, page)
+        & io::print_decimal(STDOUT, page)
         & write(b" of 0 to ")
-        & io::print_decimal(STDOUT_FILENO, last_of(pages))
+        & io::print_decimal(STDOUT, last_of(pages))
 }
 
-fn put_place(contents: &[u16], page: u64, state: Shown) -> bool {
+fn put_place<F: Read + Seek>(file: &mut F, contents: &[u16], page: u64, state: Shown) -> bool {
     let number = put_number(page, word_at(contents, 16));
     if state.known {
-        return number & put_moves(moves_to(contents, page));
+        return number & put_moves(moves_to(file, contents, page));
     }
     number & write(b", which no line of a match leads to\n")
 }
@@ -47,19 +52,24 @@ fn put_legend() -> bool {
 }
 
 // Below the board.
-pub(crate) fn put_foot(contents: &[u16], page: u64, state: Shown) -> bool {
-    let place = put_place(contents, page, state);
+pub(crate) fn put_foot<F: Read + Seek>(
+    file: &mut F,
+    contents: &[u16],
+    page: u64,
+    state: Shown,
+) -> bool {
+    let place = put_place(file, contents, page, state);
     place & put_legend()
 }
 
 // ---- on standard error
 
 fn say(text: &[u8]) {
-    io::write_all(STDERR_FILENO, text);
+    io::write_all(STDERR, text);
 }
 
 fn say_number(n: u64) {
-    io::print_decimal(STDERR_FILENO, n);
+    io::print_decimal(STDERR, n);
 }
 
 fn say_pages(pages: u64) {

@@ -7,8 +7,10 @@ ghost use Rattle.std.specs.Prelude.{◌≡◌, [], ◌<◌, ◌≤◌, length};
 ghost use Rattle.stream.specs.Room.{Ready, Spare};
 ghost use Rattle.stream.specs.Steps.{Fresh, Takes, Step, TakesAll, Last, Ends, Finishes};
 
-use libc::STDOUT_FILENO;
 use referee::Desk;
+
+// Standard output, as `io` numbers it.
+const STDOUT: i32 = 1;
 
 // What is kept from part to part: the desk, how many bytes of a line are held, where to go on in what came, how many bytes the text to print has,
 // whether the replay goes on, and whether all texts could be written.
@@ -42,7 +44,7 @@ fn print(heard: bool, out: &[u8], n: usize) -> bool {
     if !heard || out.len() < n {
         return false;
     }
-    io::write_all(STDOUT_FILENO, &out[0..n])
+    io::write_all(STDOUT, &out[0..n])
 }
 
 // The line that is held.

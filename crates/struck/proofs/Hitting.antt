@@ -2,26 +2,26 @@
 use Prim.Native.Nat.{ℕ, ◌+◌, ◌<◌, ◌≤◌}
 use native.Mathlib.Omega.{arith}
 use mathlib.Core.Path.{◌≡◌, refl, sym, ap, ◌∙◌}
-use mathlib.Core.Bool.{Bool, true, false}
+use mathlib.Core.Bool.{Bool}
 use mathlib.Core.List.{List}
 use lib.Dec.{ltb}
 use lib.ListN.{length, get_or, set, replicate}
 use borrow.Author.Tests.{lt-ltb}
 use Rattle.lists.specs.Choice.{◌if◌else◌}
 use Rattle.lists.specs.Below.{each_below, lowest_from, filled}
-use Rattle.lists.specs.Lists.{member, place}
+use Rattle.lists.specs.Lists.{place}
 use Rattle.lists.specs.Search.{is_found}
 use Rattle.lists.specs.declared.Found.{Found}
 use Rattle.lists.specs.declared.Found.TheVariants.{At, Nothing}
 use Rattle.lists.proofs.Lowest.{lowest_same}
-use Rattle.lists.proofs.Search.{found_member, found_holds, found_place}
+use Rattle.lists.proofs.Search.{found_member, found_place}
 use Rattle.rules.specs.Grid.{cell_of}
 use Rattle.rules.specs.State.{nobody}
 use Rattle.rules.specs.Image.{snakes_in, side_in, state_of}
 use Rattle.rules.specs.Facts.{Sound}
 use Rattle.rules.specs.Step.{Moved, stays, moved_of, cause_of}
-use Rattle.rules.specs.Struck.{no_hit, behind_head, stops_head, hit_by, hit_of, hits_in}
-use Rattle.rules.specs.Says.{Says, seen, beside, says_verdict, by_table}
+use Rattle.rules.specs.Struck.{no_hit, stops_head, hit_by, hit_of, hits_in}
+use Rattle.rules.specs.Says.{seen, beside, says_verdict}
 use Rattle.rules.specs.Orders.{asked_order}
 use Rattle.rules.specs.Calls.{struck_says}
 use Rattle.rules.specs.Promises.{Strikes}

@@ -1,5 +1,5 @@
 -- Which word each search finds: a law for each return and each turn of a loop. Assumes nothing.
-use Prim.Native.Nat.{ℕ, ◌+◌, ◌-◌, ◌*◌, ◌<◌, ◌≤◌}
+use Prim.Native.Nat.{ℕ, ◌+◌, ◌*◌, ◌<◌, ◌≤◌}
 use native.Mathlib.Omega.{arith}
 use mathlib.Core.Path.{◌≡◌, sym, ap, ◌∙◌}
 use mathlib.Core.Bool.{Bool, true, false, not, ◌&&◌, ◌||◌}
@@ -8,7 +8,7 @@ use lib.Dec.{ltb, eqb}
 use lib.ListN.{length, get_or}
 use borrow.Author.Tests.{lt-ltb, le-ltb, eq-eqb, ne_eqb, not-true, not-false}
 use Rattle.lists.proofs.Lowest.{out_here, out_none}
-use Rattle.rules.specs.Image.{word, snakes_in, side_in, due_in, birth_in, area_in, between, record_fits}
+use Rattle.rules.specs.Image.{snakes_in, side_in, due_in, birth_in, area_in, between, record_fits}
 use Rattle.rules.specs.Faults.{first_out, cut_short, contents_out, record_out, start_word}
 use Rattle.wellformed.proofs.Checked.{start_fits}
 use Rattle.wellformed.proofs.Loops.{RecordsTo, records_next, AddsTo, adds_next}

@@ -1,6 +1,5 @@
 -- `chance::count` meets its contract: an image that is not well-formed is refused by its fault, and one that is is sound, which `count_due` asks.
 -- Assumes nothing.
-use borrow.Author.Rules.{rules}
 use Rattle.rules.proofs.Facts.{passed, failed}
 use Rattle.outcomes.proofs.Rows.{count_faulty}
 use Rattle.chance.proofs.count.Goals as goal

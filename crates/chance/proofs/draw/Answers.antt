@@ -1,5 +1,4 @@
 -- `chance::draw` meets its contract, as `count` does. Assumes nothing.
-use borrow.Author.Rules.{rules}
 use Rattle.rules.proofs.Facts.{passed, failed}
 use Rattle.chance.proofs.Saying.{draw_faulty}
 use Rattle.chance.proofs.draw.Goals as goal

@@ -1,5 +1,4 @@
 -- `chance::rank` meets its contract, as `count` does. Assumes nothing.
-use borrow.Author.Rules.{rules}
 use Rattle.rules.proofs.Facts.{passed, failed}
 use Rattle.chance.proofs.Saying.{rank_faulty}
 use Rattle.chance.proofs.rank.Goals as goal

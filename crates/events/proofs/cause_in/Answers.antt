@@ -1,6 +1,5 @@
 use Rattle.events.proofs.Numbers.{cause_past}
 use native.Mathlib.Omega.{arith}
-use borrow.Author.Rules.{rules}
 use Rattle.events.proofs.cause_in.Goals as goal
 
 pub returns-in_default : goal.returns-in_default

@@ -1,5 +1,4 @@
 -- `faults::check_image` meets its contract: the check accepts, or the fault is looked for. Assumes nothing.
-use borrow.Author.Rules.{rules}
 use Rattle.faults.proofs.Rows.{check_accepts, check_refuses}
 use Rattle.faults.proofs.check_image.Goals as goal
 

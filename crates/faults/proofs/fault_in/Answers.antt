@@ -1,5 +1,4 @@
 -- `faults::fault_in` meets its contract: contents cut short are 50, a word of the first five out of range is 51. Assumes nothing.
-use borrow.Author.Rules.{rules}
 use Rattle.faults.proofs.Rows.{at_50, five, at_51, counted}
 use Rattle.faults.proofs.fault_in.Goals as goal
 

@@ -1,6 +1,5 @@
 use Rattle.grid.proofs.Actions.{action_last}
 use native.Mathlib.Omega.{arith}
-use borrow.Author.Rules.{rules}
 use Rattle.grid.proofs.action_of.Goals as goal
 
 pub returns-in_default : goal.returns-in_default

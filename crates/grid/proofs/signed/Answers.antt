@@ -1,5 +1,4 @@
 use Rattle.grid.proofs.Bits.{small}
-use borrow.Author.Rules.{rules}
 use Rattle.grid.proofs.signed.Goals as goal
 
 pub returns : goal.returns

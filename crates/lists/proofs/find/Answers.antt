@@ -1,9 +1,7 @@
 -- Not held: nothing; held: at its place.
 use mathlib.Core.Path.{sym, ap, ◌∙◌}
-use borrow.Author.Tests.{not-true, not-false}
 use Rattle.lists.specs.declared.Found.TheVariants.{At}
 use Rattle.lists.proofs.Search.{found_none, found_at}
-use borrow.Author.Rules.{rules}
 use Rattle.lists.proofs.find.Goals as goal
 
 pub returns-then-not-holds : goal.returns-then-not-holds

@@ -1,10 +1,7 @@
 -- The invariant: what was found so far, or what is still to come, is the whole answer.
-use Prim.Native.Nat.{◌≤◌, ◌-◌}
 use native.Mathlib.Omega.{arith}
-use mathlib.Core.Path.{◌≡◌, refl, sym, ap, ◌∙◌}
+use mathlib.Core.Path.{refl, sym, ap, ◌∙◌}
 use mathlib.Core.Bool.{Bool, ◌||◌, or-false}
-use lib.ListN.{length, drop}
-use Rattle.lists.specs.Lists.{member}
 use Rattle.lists.proofs.Lists.{member_end}
 use Rattle.lists.proofs.Search.{search_next}
 use Rattle.lists.proofs.holds.Goals as goal

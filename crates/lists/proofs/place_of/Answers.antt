@@ -1,10 +1,7 @@
 -- The invariant: the word is still to come, and its place is i and what is left.
-use Prim.Native.Nat.{◌≤◌, ◌+◌, ◌-◌}
 use native.Mathlib.Omega.{arith}
-use mathlib.Core.Path.{◌≡◌, sym, ◌∙◌}
-use mathlib.Core.Bool.{true, false, false≢true}
-use lib.ListN.{length, drop}
-use Rattle.lists.specs.Lists.{member, place}
+use mathlib.Core.Path.{sym, ◌∙◌}
+use mathlib.Core.Bool.{false≢true}
 use Rattle.lists.proofs.Lists.{member_end, member_next}
 use Rattle.lists.proofs.Search.{place_here, place_next}
 use Rattle.lists.proofs.place_of.Goals as goal

@@ -1,5 +1,5 @@
 -- The invariant: the first j words of src are pasted over those of out from `at` on.
-use Prim.Native.Nat.{ℕ, ◌≤◌, ◌<◌, ◌-◌, ◌+◌}
+use Prim.Native.Nat.{ℕ, ◌<◌, ◌+◌}
 use mathlib.Core.Path.{◌≡◌, refl, ap, ◌∙◌}
 use mathlib.Core.List.{List}
 use native.Mathlib.Omega.{arith}

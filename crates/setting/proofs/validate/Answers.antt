@@ -1,5 +1,4 @@
 -- `setting::validate` meets its contract: the first half's number where it is not 0, else the second half's, which asks that the first found nothing. Assumes nothing.
-use borrow.Author.Rules.{rules}
 use Rattle.rules.proofs.SettingParts.{limited_by}
 use Rattle.setting.proofs.Halves.{verdict_first, verdict_second}
 use Rattle.setting.proofs.validate.Goals as goal

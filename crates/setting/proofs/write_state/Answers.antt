@@ -1,6 +1,5 @@
 -- `setting::write_state` meets its contract: 29 where the image is longer than the buffer, else the words of the initial state, which fit (`Starting`).
 -- Assumes nothing.
-use borrow.Author.Rules.{rules}
 use Rattle.setting.proofs.Starting.{starts_short, fits, starts_done}
 use Rattle.setting.proofs.write_state.Goals as goal
 

@@ -1,6 +1,5 @@
 -- `step::step` meets its contract: a refusal leaves the lent words; an accepted step is the applied judgement (`Refusals`).
 -- Assumes nothing.
-use borrow.Author.Rules.{rules}
 use Rattle.step.proofs.Refusals.{asked_sound, asked_count, steps_refused, steps_done}
 use Rattle.step.proofs.step.Goals as goal
 

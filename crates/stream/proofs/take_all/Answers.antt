@@ -21,24 +21,16 @@ loop-r-init c =
 pub take_part-r-requires : goal.take_part-r-requires
 take_part-r-requires c =
     let l = c.loop-r in
-    ((l.invariant.0, l.invariant.1), ltb-true l.r.at (length c.args.part.now) c.if-r-part.true-raw)
-
-pub loop-r-smaller : goal.loop-r-smaller
-loop-r-smaller c =
-    let l = c.loop-r in
-    let n = length c.args.part.now in
-    let h : l.r.at < n = ltb-true l.r.at n c.if-r-part.true-raw in
-    omega (arith, c.take_part-r.ensures.1.1)
+    record { ready = (l.invariant.0, l.invariant.1); at_in_bounds = c.if-r-part.true }
 
 pub loop-r-preserved : goal.loop-r-preserved
 loop-r-preserved c =
     let l = c.loop-r in
     let t = c.take_part-r in
-    let p = t.ensures.0.0 in
-    let out = t.last.1.1.1.1.1.1.0 in (
+    let p = t.ensures.ready_2.0 in (
       record { held = p.held; wide = p.wide; words = p.words; room = p.room },
-      t.ensures.0.1,
-      record { said = l.invariant.2.said ++ take t.result.text out; steps = more out l.invariant.2.steps c.loop-r-test.true (printed_or_not c.print.result t.ensures.1.0) },
+      t.ensures.ready_2.1,
+      record { said = l.invariant.2.said ++ take t.result.text t.new.out; steps = more t.new.out l.invariant.2.steps c.loop-r-test.true (printed_or_not c.print.result t.ensures.step) },
       search rules,
       search rules,
       search rules,
@@ -47,12 +39,11 @@ loop-r-preserved c =
 pub returns-else-r-part : goal.returns-else-r-part
 returns-else-r-part c =
     let l = c.loop-r in
-    let part = c.args.part.now in
     let taken = l.invariant.2 in
-    (l.invariant.0, record { said = taken.said; steps = taken.steps; past = λ o. drop_of_length-le part (ltb-false l.r.at (length part) c.if-r-part.false) })
+    record { ready = l.invariant.0; takes_all = record { said = taken.said; steps = taken.steps; past = λ o. drop_of_length-le c.args.part.now c.if-r-part.false } }
 
 pub returns-after-loop-r : goal.returns-after-loop-r
 returns-after-loop-r c =
     let l = c.loop-r in
     let taken = l.invariant.2 in
-    (l.invariant.0, record { said = taken.said; steps = taken.steps; past = λ o. absurd (true≢false (sym o ∙ c.loop-r-test.false)) })
+    record { ready = l.invariant.0; takes_all = record { said = taken.said; steps = taken.steps; past = λ o. absurd (true≢false (sym o ∙ c.loop-r-test.false)) } }

@@ -12,8 +12,7 @@ returns-then-not-r c =
 pub returns : goal.returns
 returns c =
     let e = not-false c.args.r.on c.if-not-r.false in
-    let k = c.close in
     record {
-      closed = λ o. record { out = c.args.out.now; exit = k.last.1.0; count = k.result; wrote = k.ensures; prints = refl };
+      closed = λ o. record { out = c.args.out.now; exit = c.close.new.out; count = c.close.result; wrote = c.close.ensures; prints = refl };
       stopped = λ o. absurd (true≢false (sym e ∙ o));
     }

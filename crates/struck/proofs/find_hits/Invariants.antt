@@ -1,12 +1,10 @@
 -- `struck::find_hits` meets its contract: the invariant says that the snakes passed have their hits and those after them hit nobody (`Hitting`).
 -- Assumes nothing.
 use Prim.Native.Nat.{◌-◌}
-use borrow.Author.Rules.{rules}
 use Rattle.rules.specs.Image.{side_in}
 use Rattle.rules.specs.Struck.{no_hit, hit_of}
 use Rattle.judge.specs.Loops.{Filling}
 use Rattle.judge.specs.World.{world}
-use Rattle.struck.proofs.Hitting.{hit_judging, cause_handed, hits_none, hits_next, hits_all}
 use Rattle.struck.proofs.find_hits.Given as goal
 
 abbrev pub invariant-loop-i : goal.invariant-loop-i

@@ -1,6 +1,5 @@
 -- `struck::hit_of` meets its contract: the cause that it is handed is the definition's, and each hit goes by its cause (`Hitting`).
 -- Assumes nothing.
-use borrow.Author.Rules.{rules}
 use Rattle.struck.proofs.Hitting.{hit_free, hit_wall, hit_own, hit_other, hit_heads}
 use Rattle.struck.proofs.hit_of.Goals as goal
 

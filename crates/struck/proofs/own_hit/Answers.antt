@@ -1,6 +1,5 @@
 -- `struck::own_hit` meets its contract: nothing found is nobody, and the first place of the cell is a position behind the head (`Hitting`).
 -- Assumes nothing.
-use borrow.Author.Rules.{rules}
 use Rattle.judge.proofs.Judging.{own_in}
 use Rattle.struck.proofs.Hitting.{own_none, own_fits, own_at_lem}
 use Rattle.struck.proofs.own_hit.Goals as goal

@@ -1,6 +1,5 @@
 -- `struck::struck` meets its contract: a refusal tells nobody; where nothing is refused the hits are the definition's (`Hitting`).
 -- Assumes nothing.
-use borrow.Author.Rules.{rules}
 use Rattle.step.proofs.Refusals.{asked_sound, asked_count}
 use Rattle.struck.proofs.Hitting.{strikes_refused, strikes_done}
 use Rattle.struck.proofs.struck.Goals as goal

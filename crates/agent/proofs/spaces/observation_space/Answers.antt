@@ -1,6 +1,5 @@
 -- `agent::observation_space` meets its contract: a side above 32 or below 1 is refused by 5, and another is a plain number; one law of `Sizes` each.
 -- Assumes nothing.
-use borrow.Author.Rules.{rules}
 use Rattle.agent.proofs.Sizes.{space_high, space_low, side_plain, side_fits, space_box}
 use Rattle.agent.proofs.spaces.observation_space.Goals as goal
 

@@ -1,6 +1,5 @@
 -- `agent::legal_actions` meets its contract: an image that is not well-formed is refused by its fault, and one that is is sound, which `legal_in` asks.
 -- Assumes nothing.
-use borrow.Author.Rules.{rules}
 use Rattle.rules.proofs.Facts.{passed, failed}
 use Rattle.agent.proofs.Gates.{legal_faulty}
 use Rattle.agent.proofs.turns.legal_actions.Goals as goal

@@ -1,6 +1,5 @@
 -- `agent::legal_in` meets its contract: the image is sound, which bounds each index, and each `return` is one law of `Gates`, by the tests that led there.
 -- Assumes nothing.
-use borrow.Author.Rules.{rules}
 use Rattle.agent.proofs.Gates.{legal_26, legal_dead, legal_any, legal_due}
 use Rattle.agent.proofs.turns.legal_in.Goals as goal
 

@@ -1,6 +1,5 @@
 -- `agent::truncation` meets its contract, as `legal_actions` does.
 -- Assumes nothing.
-use borrow.Author.Rules.{rules}
 use Rattle.rules.proofs.Facts.{passed, failed}
 use Rattle.agent.proofs.Gates.{mark_faulty}
 use Rattle.agent.proofs.turns.truncation.Goals as goal

@@ -1,6 +1,5 @@
 -- `agent::truncation_in` meets its contract: the image is sound, and each `return` is one law of `Gates`.
 -- Assumes nothing.
-use borrow.Author.Rules.{rules}
 use Rattle.agent.proofs.Gates.{mark_26, mark_gives}
 use Rattle.agent.proofs.turns.truncation_in.Goals as goal
 

@@ -1,5 +1,4 @@
 -- `bindings::lundaspro_flat_page` meets its contract: each case of the answer (`Saying`). Assumes nothing.
-use borrow.Author.Rules.{rules}
 use Rattle.bindings.proofs.Saying.{page_told, page_refused}
 use Rattle.bindings.proofs.books.lundaspro_flat_page.Goals as goal
 

@@ -1,5 +1,4 @@
 -- `bindings::lundaspro_flat_draw` meets its contract: the arena's words and list, and how many; a refusal tells nothing (`Saying`). Assumes nothing.
-use borrow.Author.Rules.{rules}
 use Rattle.bindings.proofs.Saying.{draw_told, draw_refused}
 use Rattle.bindings.proofs.chances.lundaspro_flat_draw.Goals as goal
 

@@ -1,5 +1,4 @@
 -- `bindings::lundaspro_flat_outcome_of` meets its contract: what it says is what the arena's answer says (`Saying`). Assumes nothing.
-use borrow.Author.Rules.{rules}
 use Rattle.bindings.proofs.Saying.{tells_by}
 use Rattle.bindings.proofs.chances.lundaspro_flat_outcome_of.Goals as goal
 

@@ -1,5 +1,4 @@
 -- `bindings::lundaspro_flat_places` meets its contract: the places of the match that the numbers are read as (`GameLaws`). Assumes nothing.
-use borrow.Author.Rules.{rules}
 use Rattle.bindings.proofs.GameLaws.{places_told}
 use Rattle.bindings.proofs.games.lundaspro_flat_places.Goals as goal
 

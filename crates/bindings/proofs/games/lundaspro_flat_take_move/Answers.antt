@@ -1,5 +1,4 @@
 -- `bindings::lundaspro_flat_take_move` meets its contract: the match's answer in numbers; a refusal tells nothing (`GameLaws`). Assumes nothing.
-use borrow.Author.Rules.{rules}
 use Rattle.bindings.proofs.GameLaws.{move_told, move_refused}
 use Rattle.bindings.proofs.games.lundaspro_flat_take_move.Goals as goal
 

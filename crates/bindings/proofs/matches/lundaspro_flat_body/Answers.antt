@@ -1,5 +1,4 @@
 -- `bindings::lundaspro_flat_body` meets its contract: a malformed image has no part, a sound one is asked (`Lying`). Assumes nothing.
-use borrow.Author.Rules.{rules}
 use Rattle.rules.proofs.Facts.{passed}
 use Rattle.telling.proofs.Lying.{malformed}
 use Rattle.bindings.proofs.matches.lundaspro_flat_body.Goals as goal

@@ -1,5 +1,4 @@
 -- `bindings::lundaspro_flat_check_image` meets its contract: each case of the verdict (`Saying`). Assumes nothing.
-use borrow.Author.Rules.{rules}
 use Rattle.bindings.proofs.Saying.{image_accepted, image_refused}
 use Rattle.bindings.proofs.matches.lundaspro_flat_check_image.Goals as goal
 

@@ -1,5 +1,4 @@
 -- `bindings::lundaspro_flat_step` meets its contract: the arena's words, events and end; a refusal tells nothing (`Saying`). Assumes nothing.
-use borrow.Author.Rules.{rules}
 use Rattle.bindings.proofs.Saying.{step_told, step_refused}
 use Rattle.bindings.proofs.matches.lundaspro_flat_step.Goals as goal
 

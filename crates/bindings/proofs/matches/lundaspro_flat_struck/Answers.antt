@@ -1,5 +1,4 @@
 -- `bindings::lundaspro_flat_struck` meets its contract: the arena's hits; a refusal tells nothing (`Saying`). Assumes nothing.
-use borrow.Author.Rules.{rules}
 use Rattle.bindings.proofs.Saying.{struck_told, struck_refused}
 use Rattle.bindings.proofs.matches.lundaspro_flat_struck.Goals as goal
 

@@ -1,5 +1,4 @@
 -- `bindings::lundaspro_flat_validate` meets its contract: each case of the verdict (`Saying`). Assumes nothing.
-use borrow.Author.Rules.{rules}
 use Rattle.bindings.proofs.Saying.{setting_accepted, setting_refused}
 use Rattle.bindings.proofs.matches.lundaspro_flat_validate.Goals as goal
 

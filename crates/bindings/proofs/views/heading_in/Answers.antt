@@ -1,5 +1,4 @@
 -- `bindings::heading_in` meets its contract: a number that is none of 0, 1 and 2 is Left's (`heading_last`). Assumes nothing.
-use borrow.Author.Rules.{rules}
 use Rattle.image.proofs.Headed.{heading_last}
 use Rattle.bindings.proofs.views.heading_in.Goals as goal
 

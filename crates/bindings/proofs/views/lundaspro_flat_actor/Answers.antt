@@ -1,5 +1,4 @@
 -- `bindings::lundaspro_flat_actor` meets its contract: each case of the answer (`Saying`). Assumes nothing.
-use borrow.Author.Rules.{rules}
 use Rattle.bindings.proofs.Saying.{chance_told, all_told, actor_refused}
 use Rattle.bindings.proofs.views.lundaspro_flat_actor.Goals as goal
 

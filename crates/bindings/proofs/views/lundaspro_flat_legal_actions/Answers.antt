@@ -1,5 +1,4 @@
 -- `bindings::lundaspro_flat_legal_actions` meets its contract: each case of the answer (`Saying`). Assumes nothing.
-use borrow.Author.Rules.{rules}
 use Rattle.bindings.proofs.Saying.{any_told, none_told, legal_refused}
 use Rattle.bindings.proofs.views.lundaspro_flat_legal_actions.Goals as goal
 

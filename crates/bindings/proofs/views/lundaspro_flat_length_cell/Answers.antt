@@ -1,5 +1,4 @@
 -- `bindings::lundaspro_flat_length_cell` meets its contract: each case of the answer (`Saying`). Assumes nothing.
-use borrow.Author.Rules.{rules}
 use Rattle.bindings.proofs.Saying.{key_told, no_key_told, key_refused}
 use Rattle.bindings.proofs.views.lundaspro_flat_length_cell.Goals as goal
 

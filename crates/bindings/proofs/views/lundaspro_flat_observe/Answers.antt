@@ -1,5 +1,4 @@
 -- `bindings::lundaspro_flat_observe` meets its contract: the arena's numbers, and how many; a refusal tells nothing (`Saying`). Assumes nothing.
-use borrow.Author.Rules.{rules}
 use Rattle.bindings.proofs.Saying.{view_told}
 use Rattle.bindings.proofs.views.lundaspro_flat_observe.Goals as goal
 

@@ -1,5 +1,4 @@
 -- `bindings::lundaspro_flat_reward` meets its contract: the arena's sum; a refusal tells nothing (`Saying`). Assumes nothing.
-use borrow.Author.Rules.{rules}
 use Rattle.bindings.proofs.Saying.{sum_told, sum_refused}
 use Rattle.bindings.proofs.views.lundaspro_flat_reward.Goals as goal
 

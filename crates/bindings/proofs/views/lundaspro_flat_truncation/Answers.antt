@@ -1,5 +1,4 @@
 -- `bindings::lundaspro_flat_truncation` meets its contract: the arena's event, in bytes; a refusal tells nothing (`Saying`). Assumes nothing.
-use borrow.Author.Rules.{rules}
 use Rattle.bindings.proofs.Saying.{mark_told, mark_refused}
 use Rattle.bindings.proofs.views.lundaspro_flat_truncation.Goals as goal
 

@@ -1,5 +1,4 @@
 -- `bindings::tell_space` meets its contract: each case of the answer (`Saying`). Assumes nothing.
-use borrow.Author.Rules.{rules}
 use Rattle.bindings.proofs.Saying.{box_told, discrete_told, space_refused}
 use Rattle.bindings.proofs.views.tell_space.Goals as goal
 

@@ -2,9 +2,7 @@
 -- each way through a turn is one law of `Boards`. The measure is how many numbers are left. Assumes nothing.
 use borrow.Author.Rules.{rules}
 use Rattle.lists.proofs.Fits.{word_fits}
-use Prim.Native.Nat.{◌-◌}
-use lib.ListN.{length}
-use Rattle.boards.proofs.Boards.{Stamping, square_in, stamp_none, stamp_twice, stamp_next, stamp_all}
+use Rattle.boards.proofs.Boards.{square_in, stamp_none, stamp_twice, stamp_next, stamp_all}
 use Rattle.boards.proofs.stamps.stamps_once.Goals as goal
 
 pub loop-i-init : goal.loop-i-init

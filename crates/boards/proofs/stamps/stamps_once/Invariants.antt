@@ -1,10 +1,8 @@
 -- `boards::stamps_once` meets its contract. The invariant: the pass over what is left, on the board as it is now, gives the whole answer (`Stamping`);
 -- each way through a turn is one law of `Boards`. The measure is how many numbers are left. Assumes nothing.
-use borrow.Author.Rules.{rules}
-use Rattle.lists.proofs.Fits.{word_fits}
 use Prim.Native.Nat.{◌-◌}
 use lib.ListN.{length}
-use Rattle.boards.proofs.Boards.{Stamping, square_in, stamp_none, stamp_twice, stamp_next, stamp_all}
+use Rattle.boards.proofs.Boards.{Stamping}
 use Rattle.boards.proofs.stamps.stamps_once.Given as goal
 
 abbrev pub invariant-loop-i : goal.invariant-loop-i

@@ -1,5 +1,4 @@
 -- `book::pages::check_page` meets its contract: each return is one law of `Paging`, by the tests that led there. Assumes nothing.
-use borrow.Author.Rules.{rules}
 use Rattle.rules.proofs.Facts.{passed}
 use Rattle.book.proofs.Paging.{page_faulty, page_21, page_fits}
 use Rattle.book.proofs.pages.check_page.Goals as goal

@@ -1,6 +1,5 @@
 -- `book::pages::cut` meets its contract: the part's words, at its own place in the book. Assumes nothing.
 use mathlib.Core.Path.{refl}
-use borrow.Author.Rules.{rules}
 use Rattle.lists.proofs.Lists.{part_is}
 use Rattle.book.proofs.pages.cut.Goals as goal
 

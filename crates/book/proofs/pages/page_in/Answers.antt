@@ -1,5 +1,4 @@
 -- `book::pages::page_in` meets its contract: what the contents find, then the page's own verdict. Assumes nothing.
-use borrow.Author.Rules.{rules}
 use Rattle.contents.proofs.Finding.{part_long, part_inside}
 use Rattle.book.proofs.Paging.{page_none, page_refused, page_part}
 use Rattle.book.proofs.pages.page_in.Goals as goal

@@ -1,6 +1,5 @@
 -- `book::pages::page_of` meets its contract: the page that `page_in` found lies inside the book, and where none was found the part is empty.
 -- Assumes nothing.
-use borrow.Author.Rules.{rules}
 use Rattle.book.proofs.Paging.{read_inside, hands_none, hands_part}
 use Rattle.book.proofs.pages.page_of.Goals as goal
 

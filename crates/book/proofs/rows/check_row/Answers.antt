@@ -1,8 +1,6 @@
 -- `book::rows::check_row` meets its contract. The invariant: the first i pages have passed, the last of them has `last` words, and the next starts at `at`
 -- (`Passed`). The measure is how many pages are left. Assumes nothing.
-use Prim.Native.Nat.{◌-◌}
 use borrow.Author.Rules.{rules}
-use Rattle.book.specs.Writing.{Passed}
 use Rattle.book.proofs.RowLaws.{passed_none, passed_fits, passed_next, row_stops, row_left, row_done}
 use Rattle.book.proofs.rows.check_row.Goals as goal
 

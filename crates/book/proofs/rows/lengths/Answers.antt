@@ -1,8 +1,5 @@
 -- `book::rows::lengths` meets its contract. The invariant: the first i lengths are added up (`Summed`). The measure is how many are left.
 -- Assumes nothing.
-use Prim.Native.Nat.{◌-◌}
-use borrow.Author.Rules.{rules}
-use Rattle.book.specs.Writing.{Summed}
 use Rattle.book.proofs.RowLaws.{sum_start, sum_more, sum_all}
 use Rattle.book.proofs.rows.lengths.Goals as goal
 

@@ -1,6 +1,5 @@
 -- `book::rows::told` meets its contract: contents that are cut short tell all words, others the sum of their parts, as far as there are words.
 -- Assumes nothing.
-use borrow.Author.Rules.{rules}
 use Rattle.book.proofs.RowLaws.{told_five, told_short, told_is}
 use Rattle.book.proofs.rows.told.Goals as goal
 

@@ -1,5 +1,4 @@
 -- `book::turning::page_after` meets its contract, by its test. Assumes nothing.
-use borrow.Author.Rules.{rules}
 use Rattle.book.proofs.Turns.{after_end, after_more}
 use Rattle.book.proofs.turning.page_after.Goals as goal
 

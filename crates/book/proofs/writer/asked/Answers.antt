@@ -1,5 +1,4 @@
 -- `book::writer::asked` meets its contract: the verdict on the setting, 42, or the row's. Assumes nothing.
-use borrow.Author.Rules.{rules}
 use Rattle.book.proofs.Booked.{asked_setting, asked_42, asked_row}
 use Rattle.book.proofs.writer.asked.Goals as goal
 

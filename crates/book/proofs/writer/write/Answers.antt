@@ -1,5 +1,4 @@
 -- `book::writer::write` meets its contract: a verdict refuses, and where it accepts its rows are facts. Assumes nothing.
-use borrow.Author.Rules.{rules}
 use Rattle.book.proofs.Booked.{none_asked, none_wordy, none_fits, writes_refused}
 use Rattle.book.proofs.writer.write.Goals as goal
 

@@ -1,5 +1,4 @@
 -- `book::writer::write_book` meets its contract: 29, or the contents and then the row, which is the pages one after the other. Assumes nothing.
-use borrow.Author.Rules.{rules}
 use Rattle.book.proofs.Booked.{writes_29, writes_done}
 use Rattle.book.proofs.writer.write_book.Goals as goal
 

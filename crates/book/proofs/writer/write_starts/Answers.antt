@@ -1,9 +1,6 @@
 -- `book::writer::write_starts` meets its contract. The invariant: the first i starts are written, and the next image stands at `at` (`StartsTo`).
 -- The measure is how many starts are left.
 -- Assumes nothing.
-use Prim.Native.Nat.{◌-◌}
-use borrow.Author.Rules.{rules}
-use Rattle.book.specs.Writing.{StartsTo}
 use Rattle.book.proofs.Laying.{starts_open, starts_more, starts_shut}
 use Rattle.book.proofs.writer.write_starts.Goals as goal
 

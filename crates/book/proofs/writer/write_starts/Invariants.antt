@@ -2,9 +2,7 @@
 -- The measure is how many starts are left.
 -- Assumes nothing.
 use Prim.Native.Nat.{◌-◌}
-use borrow.Author.Rules.{rules}
 use Rattle.book.specs.Writing.{StartsTo}
-use Rattle.book.proofs.Laying.{starts_open, starts_more, starts_shut}
 use Rattle.book.proofs.writer.write_starts.Given as goal
 
 abbrev pub invariant-loop-i : goal.invariant-loop-i

@@ -1,5 +1,4 @@
 -- `book_words::settings::limit_of` meets its contract, by its flag. Assumes nothing.
-use borrow.Author.Rules.{rules}
 use Rattle.book_words.proofs.Told.{limit_set}
 use Rattle.book_words.proofs.settings.limit_of.Goals as goal
 

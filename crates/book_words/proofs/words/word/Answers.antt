@@ -1,7 +1,6 @@
 -- `book_words::words::word` meets its contract: a word of 16 bits fits 64. Assumes nothing.
 use native.Mathlib.Omega.{arith}
 use mathlib.Core.Path.{refl}
-use borrow.Author.Rules.{rules}
 use Rattle.book_words.proofs.words.word.Goals as goal
 
 pub overflow_cast-result : goal.overflow_cast-result

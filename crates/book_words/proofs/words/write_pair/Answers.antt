@@ -1,5 +1,4 @@
 -- `book_words::words::write_pair` meets its contract: the low word, then the high one. Assumes nothing.
-use borrow.Author.Rules.{rules}
 use Rattle.book_words.proofs.Laying.{pair_is}
 use Rattle.book_words.proofs.words.write_pair.Goals as goal
 

@@ -7,7 +7,6 @@ use Rattle.lists.specs.Products.{falling}
 use Rattle.rules.specs.Tables.{fault}
 use borrow.Author.Tests.{lt-ltb, le-ltb}
 use Rattle.rules.proofs.Facts.{square_le}
-use borrow.Author.Rules.{rules}
 use Rattle.bounds.proofs.numbers.crowded.Goals as goal
 
 pub overflow_mul-area : goal.overflow_mul-area

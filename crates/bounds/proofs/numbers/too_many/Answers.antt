@@ -3,7 +3,6 @@ use native.Mathlib.Omega.{arith}
 use mathlib.Core.Path.{ap, ◌∙◌}
 use mathlib.Core.Bool.{◌||◌}
 use lib.Dec.{eqb, ltb}
-use borrow.Author.Rules.{rules}
 use Rattle.lists.specs.Products.{falling}
 use Rattle.lists.proofs.Products.{falling_pos}
 use Rattle.lists.proofs.Fitted.{fitted_above}

@@ -1,6 +1,5 @@
 -- A body is its head, where it lives, and the part of the image: two writes, one after the other.
-use Rattle.lists.proofs.Runs.{then_write, written_long}
-use borrow.Author.Rules.{rules}
+use Rattle.lists.proofs.Runs.{then_write}
 use native.Mathlib.Omega.{arith}
 use Prim.Native.Nat.{ℕ, ◌+◌, ◌≤◌}
 use mathlib.Core.Path.{sym, ap, ◌∙◌}

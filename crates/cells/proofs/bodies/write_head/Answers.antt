@@ -1,4 +1,3 @@
-use borrow.Author.Rules.{rules}
 use native.Mathlib.Omega.{arith}
 use Rattle.cells.proofs.Heads.{head_written, head_left}
 use Rattle.cells.proofs.bodies.write_head.Goals as goal

@@ -1,9 +1,7 @@
 -- The invariant: how many of the first j apples are left.
-use Prim.Native.Nat.{◌-◌, ◌≤◌, ◌+◌}
-use mathlib.Core.Path.{◌≡◌, sym, ap, ◌∙◌}
+use Prim.Native.Nat.{◌+◌}
+use mathlib.Core.Path.{sym, ap, ◌∙◌}
 use lib.ListN.{length, take}
-use Rattle.cells.specs.Writers.{left}
-use borrow.Author.Rules.{rules}
 use native.Mathlib.Omega.{arith}
 use mathlib.Core.Bool.{not}
 use Rattle.lists.proofs.Tests.{bit_le, byte_bit}

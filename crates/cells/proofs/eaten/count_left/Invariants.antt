@@ -1,14 +1,8 @@
 -- The invariant: how many of the first j apples are left.
-use Prim.Native.Nat.{◌-◌, ◌≤◌, ◌+◌}
-use mathlib.Core.Path.{◌≡◌, sym, ap, ◌∙◌}
+use Prim.Native.Nat.{◌-◌, ◌≤◌}
+use mathlib.Core.Path.{◌≡◌}
 use lib.ListN.{length, take}
 use Rattle.cells.specs.Writers.{left}
-use borrow.Author.Rules.{rules}
-use native.Mathlib.Omega.{arith}
-use mathlib.Core.Bool.{not}
-use Rattle.lists.proofs.Tests.{bit_le, byte_bit}
-use Rattle.cells.proofs.Left.{left_all, left_none, left_end, left_small, left_more}
-use lib.Seq.{length-take-le}
 use Rattle.cells.proofs.eaten.count_left.Given as goal
 
 abbrev pub invariant-loop-j : goal.invariant-loop-j

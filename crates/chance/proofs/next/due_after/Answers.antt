@@ -1,5 +1,4 @@
 -- `chance::due_after` meets its contract: it is no birth draw, no cell is free, or one apple less is due. Assumes nothing.
-use borrow.Author.Rules.{rules}
 use Rattle.chance.proofs.Bounds.{due_none, due_full, due_less}
 use Rattle.chance.proofs.next.due_after.Goals as goal
 

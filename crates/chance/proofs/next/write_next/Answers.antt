@@ -1,6 +1,5 @@
 -- `chance::write_next` meets its contract: the image copied and words 0 to 4 written anew, the part past the bodies is the food with room behind it,
 -- and the food grown there makes the next words (`NextImage`). Assumes nothing.
-use borrow.Author.Rules.{rules}
 use Rattle.chance.proofs.NextImage.{food_grows, next_written}
 use Rattle.chance.proofs.next.write_next.Goals as goal
 

@@ -1,10 +1,6 @@
 -- `chance::rank_cells` meets its contract. The invariant: the first j cells are ranked and marked (`RankedTo`); each way through a turn is one law of `Horner`.
 -- The measure is how many cells are left. Assumes nothing.
-use borrow.Author.Rules.{rules}
 use Rattle.lists.proofs.Fits.{word_fits}
-use Prim.Native.Nat.{◌-◌}
-use lib.ListN.{length}
-use Rattle.chance.specs.Ranking.{RankedTo}
 use Rattle.chance.proofs.Horner.{ranked_none, ranked_off, ranked_taken, ranked_free, ranked_times, ranked_room, ranked_next, ranked_all}
 use Rattle.chance.proofs.ranks.rank_cells.Goals as goal
 

@@ -1,8 +1,5 @@
 -- `consequences::count_all` meets its contract: the invariant has the counts of the snakes passed, and that they are small (`Laws`).
 -- Assumes nothing.
-use Prim.Native.Nat.{◌-◌}
-use borrow.Author.Rules.{rules}
-use Rattle.consequences.specs.After.{Counting}
 use Rattle.consequences.proofs.Laws.{count_start, short_at, cells_fit_lem, count_on, count_all}
 use Rattle.consequences.proofs.after.count_all.Goals as goal
 

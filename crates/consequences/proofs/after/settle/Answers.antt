@@ -1,6 +1,5 @@
 -- `consequences::settle` meets its contract: whether the snake dies is the cause's (`Laws`).
 -- Assumes nothing.
-use borrow.Author.Rules.{rules}
 use Rattle.consequences.proofs.Laws.{settled_so}
 use Rattle.consequences.proofs.after.settle.Goals as goal
 

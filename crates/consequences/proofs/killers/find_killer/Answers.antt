@@ -1,9 +1,7 @@
 -- `consequences::find_killer` meets its contract: the invariant says that none of the snakes passed holds the cell (`Laws`).
 -- Assumes nothing.
-use Prim.Native.Nat.{◌-◌}
-use borrow.Author.Rules.{rules}
 use Rattle.lists.proofs.Lowest.{pass_none}
-use Rattle.consequences.proofs.Laws.{NoHolder, part_in, holder_here, holder_on, holder_none}
+use Rattle.consequences.proofs.Laws.{part_in, holder_here, holder_on, holder_none}
 use Rattle.consequences.proofs.killers.find_killer.Goals as goal
 
 pub loop-j-init : goal.loop-j-init

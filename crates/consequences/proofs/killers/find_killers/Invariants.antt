@@ -1,11 +1,8 @@
 -- `consequences::find_killers` meets its contract: the invariant says that the deaths passed are credited and the places after them 0 (`Laws`).
 -- Assumes nothing.
 use Prim.Native.Nat.{◌-◌}
-use borrow.Author.Rules.{rules}
 use Rattle.judge.specs.Loops.{Filling}
 use Rattle.consequences.specs.After.{killer_in}
-use Rattle.judge.proofs.Loops.{fill_none, fill_all}
-use Rattle.consequences.proofs.Laws.{killers_next}
 use Rattle.consequences.proofs.killers.find_killers.Given as goal
 
 abbrev pub invariant-loop-i : goal.invariant-loop-i

@@ -1,6 +1,5 @@
 -- `consequences::has_cell` meets its contract: the dead hold nothing; a survivor has its head's cell and the rest (`Laws`).
 -- Assumes nothing.
-use borrow.Author.Rules.{rules}
 use Rattle.consequences.proofs.Laws.{cell_gone, start_word_lem, part_fits, cell_held}
 use Rattle.consequences.proofs.killers.has_cell.Goals as goal
 

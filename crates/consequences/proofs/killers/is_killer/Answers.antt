@@ -1,9 +1,5 @@
 -- `consequences::is_killer` meets its contract: the invariant says whether one of the deaths passed is credited to the snake (`Laws`).
 -- Assumes nothing.
-use Prim.Native.Nat.{◌-◌}
-use borrow.Author.Rules.{rules}
-use Rattle.judge.specs.Loops.{Seeking}
-use Rattle.consequences.specs.After.{credited_to}
 use Rattle.judge.proofs.Loops.{seek_none}
 use Rattle.consequences.proofs.Laws.{credit_next, credit_all}
 use Rattle.consequences.proofs.killers.is_killer.Goals as goal

@@ -1,11 +1,8 @@
 -- `consequences::is_killer` meets its contract: the invariant says whether one of the deaths passed is credited to the snake (`Laws`).
 -- Assumes nothing.
 use Prim.Native.Nat.{◌-◌}
-use borrow.Author.Rules.{rules}
 use Rattle.judge.specs.Loops.{Seeking}
 use Rattle.consequences.specs.After.{credited_to}
-use Rattle.judge.proofs.Loops.{seek_none}
-use Rattle.consequences.proofs.Laws.{credit_next, credit_all}
 use Rattle.consequences.proofs.killers.is_killer.Given as goal
 
 abbrev pub invariant-loop-i : goal.invariant-loop-i

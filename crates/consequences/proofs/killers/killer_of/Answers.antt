@@ -1,6 +1,5 @@
 -- `consequences::killer_of` meets its contract: a death by another's body asks for the holder of its cell, any other for nobody (`Laws`).
 -- Assumes nothing.
-use borrow.Author.Rules.{rules}
 use Rattle.consequences.proofs.Laws.{killed_so, killed_else}
 use Rattle.consequences.proofs.killers.killer_of.Goals as goal
 

@@ -1,8 +1,5 @@
 -- `consequences::find_living` meets its contract: the invariant says that none of the snakes passed lives (`Leading`).
 -- Assumes nothing.
-use Prim.Native.Nat.{◌-◌}
-use borrow.Author.Rules.{rules}
-use Rattle.consequences.specs.Leads.{NoneLiving}
 use Rattle.consequences.proofs.Leading.{living_none, living_next, living_here, living_end}
 use Rattle.consequences.proofs.leads.find_living.Goals as goal
 

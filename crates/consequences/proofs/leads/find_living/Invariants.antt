@@ -1,9 +1,7 @@
 -- `consequences::find_living` meets its contract: the invariant says that none of the snakes passed lives (`Leading`).
 -- Assumes nothing.
 use Prim.Native.Nat.{◌-◌}
-use borrow.Author.Rules.{rules}
 use Rattle.consequences.specs.Leads.{NoneLiving}
-use Rattle.consequences.proofs.Leading.{living_none, living_next, living_here, living_end}
 use Rattle.consequences.proofs.leads.find_living.Given as goal
 
 abbrev pub invariant-loop-i : goal.invariant-loop-i

@@ -1,6 +1,5 @@
 -- `consequences::is_longer` meets its contract: where a keeps no more than b it is not longer; else the difference is compared (`Leading`).
 -- Assumes nothing.
-use borrow.Author.Rules.{rules}
 use Rattle.consequences.proofs.Leading.{longer_not, longer_by}
 use Rattle.consequences.proofs.leads.is_longer.Goals as goal
 

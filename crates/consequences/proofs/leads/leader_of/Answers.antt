@@ -1,6 +1,5 @@
 -- `consequences::leader_of` meets its contract: each return is the one of the two that live who leads, or nobody (`Leading`).
 -- Assumes nothing.
-use borrow.Author.Rules.{rules}
 use Rattle.consequences.proofs.Leading.{leads_first, leads_second, leads_neither}
 use Rattle.consequences.proofs.leads.leader_of.Goals as goal
 

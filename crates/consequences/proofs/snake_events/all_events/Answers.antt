@@ -1,10 +1,5 @@
 -- `consequences::all_events` meets its contract: the invariant says that the snakes passed have their events and the places after them are blank (`Laws`).
 -- Assumes nothing.
-use Prim.Native.Nat.{◌-◌}
-use borrow.Author.Rules.{rules}
-use Rattle.judge.specs.Loops.{Filling}
-use Rattle.rules.specs.Events.{blank}
-use Rattle.consequences.specs.After.{event_at}
 use Rattle.judge.proofs.Loops.{fill_all}
 use Rattle.consequences.proofs.Laws.{events_none, events_next}
 use Rattle.consequences.proofs.snake_events.all_events.Goals as goal

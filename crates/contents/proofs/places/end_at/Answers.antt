@@ -1,5 +1,4 @@
 -- `contents::places::end_at` meets its contract: the next start where there is one, which is above this one, or the book's end. Assumes nothing.
-use borrow.Author.Rules.{rules}
 use Rattle.contents.proofs.Finding.{ends_next, ends_last}
 use Rattle.contents.proofs.places.end_at.Goals as goal
 

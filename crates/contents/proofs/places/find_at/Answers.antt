@@ -1,5 +1,4 @@
 -- `contents::places::find_at` meets its contract: the start is the page's, and the end is above it. Assumes nothing.
-use borrow.Author.Rules.{rules}
 use Rattle.contents.proofs.Finding.{find_part}
 use Rattle.contents.proofs.places.find_at.Goals as goal
 

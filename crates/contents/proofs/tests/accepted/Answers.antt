@@ -1,5 +1,4 @@
 -- `contents::tests::accepted` meets its contract: fewer than 17 words, a layout that is off, or what the starts say. Assumes nothing.
-use borrow.Author.Rules.{rules}
 use Rattle.contents.proofs.Fitting.{contents_cut, contents_off, contents_on}
 use Rattle.contents.proofs.tests.accepted.Goals as goal
 

@@ -1,5 +1,4 @@
 -- `contents::tests::layout_fits` meets its contract: each `return` is one law of `Fitting`, by the row that holds, or by all that do not. Assumes nothing.
-use borrow.Author.Rules.{rules}
 use Rattle.contents.proofs.Fitting.{layout_first, layout_last, layout_lead, layout_ticks, layout_all}
 use Rattle.contents.proofs.tests.layout_fits.Goals as goal
 

@@ -1,5 +1,4 @@
 -- `contents::tests::limit_off` meets its contract: the flag and the number after it are those of the book. Assumes nothing.
-use borrow.Author.Rules.{rules}
 use Rattle.contents.proofs.Fitting.{limit_off_is}
 use Rattle.contents.proofs.tests.limit_off.Goals as goal
 

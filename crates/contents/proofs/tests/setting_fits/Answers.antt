@@ -1,5 +1,4 @@
 -- `contents::tests::setting_fits` meets its contract: the verdict is that of the setting's check. Assumes nothing.
-use borrow.Author.Rules.{rules}
 use Rattle.contents.proofs.Fitting.{setting_taken, setting_refused}
 use Rattle.contents.proofs.tests.setting_fits.Goals as goal
 

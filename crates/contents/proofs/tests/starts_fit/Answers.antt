@@ -1,5 +1,4 @@
 -- `contents::tests::starts_fit` meets its contract: each `return` is one law of `Fitting`. Assumes nothing.
-use borrow.Author.Rules.{rules}
 use Rattle.contents.proofs.Fitting.{starts_cut, starts_none, starts_late, starts_fall, starts_last}
 use Rattle.contents.proofs.tests.starts_fit.Goals as goal
 

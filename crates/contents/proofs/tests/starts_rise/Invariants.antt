@@ -1,9 +1,7 @@
 -- `contents::tests::starts_rise` meets its contract. The invariant: the flag tells of the first i starts (`Rising`). The measure is how many are left.
 -- Assumes nothing.
 use Prim.Native.Nat.{◌-◌}
-use borrow.Author.Rules.{rules}
 use Rattle.contents.specs.Read.{Rising}
-use Rattle.contents.proofs.Fitting.{rise_none, rise_next, rise_all}
 use Rattle.contents.proofs.tests.starts_rise.Given as goal
 
 abbrev pub invariant-loop-i : goal.invariant-loop-i

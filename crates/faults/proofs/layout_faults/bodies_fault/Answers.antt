@@ -1,5 +1,4 @@
 -- `faults::bodies_fault` meets its contract: a body with a cell twice is 55; without one 56 alone is left (`at_56`). Assumes nothing.
-use borrow.Author.Rules.{rules}
 use Rattle.lists.proofs.Fits.{word_fits}
 use Rattle.faults.proofs.Rows.{at_55, at_56}
 use Rattle.faults.proofs.layout_faults.bodies_fault.Goals as goal

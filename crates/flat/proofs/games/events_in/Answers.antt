@@ -1,5 +1,4 @@
 -- `flat::events_in` meets its contract: event by event (`Matches`); the nearer place is bound first. Assumes nothing.
-use borrow.Author.Rules.{rules}
 use Rattle.flat.proofs.Matches.{events_read}
 use Rattle.flat.proofs.games.events_in.Goals as goal
 

@@ -1,5 +1,4 @@
 -- `flat::match_in` meets its contract: number by number (`Matches`). Assumes nothing.
-use borrow.Author.Rules.{rules}
 use Rattle.flat.proofs.Matches.{match_read}
 use Rattle.flat.proofs.games.match_in.Goals as goal
 

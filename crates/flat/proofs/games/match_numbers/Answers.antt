@@ -1,5 +1,4 @@
 -- `flat::match_numbers` meets its contract: number by number (`Matches`). Assumes nothing.
-use borrow.Author.Rules.{rules}
 use Rattle.flat.proofs.Matches.{match_told}
 use Rattle.flat.proofs.games.match_numbers.Goals as goal
 

@@ -1,5 +1,4 @@
 -- `flat::event_in` meets its contract: field by field. Assumes nothing.
-use borrow.Author.Rules.{rules}
 use Rattle.flat.proofs.readings.event_in.Goals as goal
 
 pub returns : goal.returns

@@ -1,5 +1,4 @@
 -- `flat::grid_in` meets its contract: the three ranges of a number (`Read`). Assumes nothing.
-use borrow.Author.Rules.{rules}
 use Rattle.flat.proofs.Read.{small_grid, no_grid, low_grid_fits, low_grid}
 use Rattle.flat.proofs.readings.grid_in.Goals as goal
 

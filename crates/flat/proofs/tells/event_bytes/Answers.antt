@@ -1,5 +1,4 @@
 -- `flat::event_bytes` meets its contract: byte by byte (`Told`). Assumes nothing.
-use borrow.Author.Rules.{rules}
 use Rattle.flat.proofs.Told.{event_told}
 use Rattle.flat.proofs.tells.event_bytes.Goals as goal
 

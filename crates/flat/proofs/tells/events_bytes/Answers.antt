@@ -1,5 +1,4 @@
 -- `flat::events_bytes` meets its contract: event by event (`Told`). Assumes nothing.
-use borrow.Author.Rules.{rules}
 use Rattle.flat.proofs.Told.{events_told}
 use Rattle.flat.proofs.tells.events_bytes.Goals as goal
 

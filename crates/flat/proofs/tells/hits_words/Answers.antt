@@ -1,5 +1,4 @@
 -- `flat::hits_words` meets its contract: hit by hit (`Told`). Assumes nothing.
-use borrow.Author.Rules.{rules}
 use Rattle.flat.proofs.Told.{hits_told}
 use Rattle.flat.proofs.tells.hits_words.Goals as goal
 

@@ -1,6 +1,5 @@
 -- `image::body_of` meets its contract: a sound image holds the body whole, and the part from its start word on is the body, at that word's place (`Read`).
 -- Assumes nothing.
-use borrow.Author.Rules.{rules}
 use Rattle.lists.proofs.Fits.{word_fits}
 use Rattle.image.proofs.Read.{body_fits, start_fits, body_ends, body_read, body_place}
 use Rattle.image.proofs.parts.body_of.Goals as goal

@@ -1,5 +1,4 @@
 -- `image::find_in` meets its contract: what the slice holds is the part (`found_part`). Assumes nothing.
-use borrow.Author.Rules.{rules}
 use Rattle.image.proofs.Read.{found_part}
 use Rattle.image.proofs.parts.find_in.Goals as goal
 

@@ -1,5 +1,4 @@
 -- `image::food_start` meets its contract: a sound image's food starts where its last body ends (`last_end`). Assumes nothing.
-use borrow.Author.Rules.{rules}
 use Rattle.lists.proofs.Fits.{word_fits}
 use Rattle.image.proofs.Read.{last_fits, last_end}
 use Rattle.image.proofs.parts.food_start.Goals as goal

@@ -1,5 +1,4 @@
 -- `image::record_at` meets its contract: the four words, read at their places (`record_read`). Assumes nothing.
-use borrow.Author.Rules.{rules}
 use Rattle.image.proofs.Read.{record_read}
 use Rattle.image.proofs.table.record_at.Goals as goal
 

@@ -1,5 +1,4 @@
 -- `image::heading_of` meets its contract: a word that is none of 0, 1 and 2 is Left's (`heading_last`). Assumes nothing.
-use borrow.Author.Rules.{rules}
 use Rattle.image.proofs.Headed.{heading_last}
 use Rattle.image.proofs.words.heading_of.Goals as goal
 

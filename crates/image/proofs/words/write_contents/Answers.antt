@@ -1,5 +1,4 @@
 -- `image::write_contents` meets its contract: the five words, the birth as a number (`contents_written`). Assumes nothing.
-use borrow.Author.Rules.{rules}
 use Rattle.image.proofs.Read.{contents_written}
 use Rattle.image.proofs.words.write_contents.Goals as goal
 

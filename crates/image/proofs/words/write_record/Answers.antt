@@ -1,5 +1,4 @@
 -- `image::write_record` meets its contract: the four words, the heading and the flag as numbers (`record_written`). Assumes nothing.
-use borrow.Author.Rules.{rules}
 use Rattle.image.proofs.Read.{record_written}
 use Rattle.image.proofs.words.write_record.Goals as goal
 

@@ -1,6 +1,5 @@
 -- `judge::body_cause` meets its contract: the own rest is searched, then the others' (`Judging`).
 -- Assumes nothing.
-use borrow.Author.Rules.{rules}
 use Rattle.judge.proofs.Judging.{own_in, body_own, body_other, body_clear}
 use Rattle.judge.proofs.causes.body_cause.Goals as goal
 

@@ -1,11 +1,8 @@
 -- `judge::cause_of` meets its contract: the invariant says whether one of the snakes passed moved to the same place; each return is the definition's choice by
 -- the tests made so far (`Judging`). Assumes nothing.
 use Prim.Native.Nat.{◌-◌}
-use borrow.Author.Rules.{rules}
 use Rattle.judge.specs.Loops.{Seeking}
 use Rattle.judge.specs.Judging.{meets_at}
-use Rattle.judge.proofs.Loops.{seek_none}
-use Rattle.judge.proofs.Judging.{meets_next, cause_stays, cause_meets, cause_wall, cause_clear, cause_body}
 use Rattle.judge.proofs.causes.cause_of.Given as goal
 
 abbrev pub invariant-loop-j : goal.invariant-loop-j

@@ -1,6 +1,5 @@
 -- `judge::find_on` meets its contract: nothing is found on the snake itself or on a corpse; else the rest of the body is searched (`Judging`).
 -- Assumes nothing.
-use borrow.Author.Rules.{rules}
 use Rattle.judge.proofs.Judging.{stops_self, stops_still, stops_found}
 use Rattle.judge.proofs.causes.find_on.Goals as goal
 

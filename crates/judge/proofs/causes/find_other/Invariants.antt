@@ -1,9 +1,7 @@
 -- `judge::find_other` meets its contract: the invariant says that the head is on no snake passed (`Judging`).
 -- Assumes nothing.
 use Prim.Native.Nat.{◌-◌}
-use borrow.Author.Rules.{rules}
-use Rattle.lists.proofs.Lowest.{pass_none}
-use Rattle.judge.proofs.Judging.{NoStop, rest_in, hit_fits, other_here, other_on, other_none}
+use Rattle.judge.proofs.Judging.{NoStop}
 use Rattle.judge.proofs.causes.find_other.Given as goal
 
 abbrev pub invariant-loop-j : goal.invariant-loop-j

@@ -1,6 +1,5 @@
 -- `judge::find_rest` meets its contract: the part of the image that is searched is the rest of the body (`Judging`).
 -- Assumes nothing.
-use borrow.Author.Rules.{rules}
 use Rattle.judge.proofs.Judging.{start_word_lem, rest_fits, rest_found}
 use Rattle.judge.proofs.causes.find_rest.Goals as goal
 

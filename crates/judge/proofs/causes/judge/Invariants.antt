@@ -1,11 +1,9 @@
 -- `judge::judge` meets its contract: the invariant says that the snakes passed are judged on the world of all moves, and that those after them are unharmed (`Judging`).
 -- Assumes nothing.
 use Prim.Native.Nat.{◌-◌}
-use borrow.Author.Rules.{rules}
 use Rattle.judge.specs.Loops.{Filling}
 use Rattle.judge.specs.Judging.{fate_at}
 use Rattle.judge.specs.World.{unharmed}
-use Rattle.judge.proofs.Judging.{judging_at, fates_none, fates_next, judges}
 use Rattle.judge.proofs.causes.judge.Given as goal
 
 abbrev pub invariant-loop-i : goal.invariant-loop-i

@@ -1,6 +1,5 @@
 -- `judge::goes_on` meets its contract: the head's next place, its cell and the food there are the definition's, from what each call promises (`Moving`).
 -- Assumes nothing.
-use borrow.Author.Rules.{rules}
 use Rattle.judge.proofs.Moving.{here_near, goes_so}
 use Rattle.judge.proofs.moves.goes_on.Goals as goal
 

@@ -1,6 +1,5 @@
 -- `judge::kept` meets its contract: the whole body where it eats, and else one word less (`Moving`).
 -- Assumes nothing.
-use borrow.Author.Rules.{rules}
 use Rattle.judge.proofs.Moving.{kept_all, kept_less}
 use Rattle.judge.proofs.moves.kept.Goals as goal
 

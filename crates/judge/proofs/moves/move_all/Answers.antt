@@ -1,11 +1,5 @@
 -- `judge::move_all` meets its contract: the invariant says that the snakes passed have moved and those after them are still (`Moving`).
 -- Assumes nothing.
-use Prim.Native.Nat.{◌-◌}
-use lib.ListN.{length}
-use borrow.Author.Rules.{rules}
-use Rattle.judge.specs.Loops.{Filling}
-use Rattle.judge.specs.Moving.{move_at}
-use Rattle.judge.specs.World.{still}
 use Rattle.judge.proofs.Moving.{moves_none, moves_next, moves_all}
 use Rattle.judge.proofs.moves.move_all.Goals as goal
 

@@ -2,11 +2,9 @@
 -- Assumes nothing.
 use Prim.Native.Nat.{◌-◌}
 use lib.ListN.{length}
-use borrow.Author.Rules.{rules}
 use Rattle.judge.specs.Loops.{Filling}
 use Rattle.judge.specs.Moving.{move_at}
 use Rattle.judge.specs.World.{still}
-use Rattle.judge.proofs.Moving.{moves_none, moves_next, moves_all}
 use Rattle.judge.proofs.moves.move_all.Given as goal
 
 abbrev pub invariant-loop-i : goal.invariant-loop-i

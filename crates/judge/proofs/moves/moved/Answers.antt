@@ -1,6 +1,5 @@
 -- `judge::moved` meets its contract: a living snake turns and goes on, a corpse stays, both by its record (`Moving`).
 -- Assumes nothing.
-use borrow.Author.Rules.{rules}
 use Rattle.judge.proofs.Moving.{living_at, living_moves, corpse_stays}
 use Rattle.judge.proofs.moves.moved.Goals as goal
 

@@ -1,6 +1,5 @@
 -- `judge::on_food` meets its contract: off the grid there is no food, and inside it is looked for among the image's (`Moving`).
 -- Assumes nothing.
-use borrow.Author.Rules.{rules}
 use Rattle.judge.proofs.Moving.{food_off, food_on}
 use Rattle.judge.proofs.moves.on_food.Goals as goal
 

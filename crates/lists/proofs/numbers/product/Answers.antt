@@ -1,9 +1,6 @@
 use Rattle.lists.proofs.Fitted.{product_over, product_fits, product_done}
-use borrow.Author.Rules.{rules}
 use native.Mathlib.Omega.{arith}
-use Prim.Native.Nat.{◌-◌, ◌≤◌, ◌<◌, ◌^◌}
 use mathlib.Core.Path.{◌≡◌, sym}
-use Rattle.lists.specs.Products.{falling}
 use Rattle.lists.proofs.Products.{falling_none, falling_next}
 use Rattle.lists.proofs.numbers.product.Goals as goal
 

@@ -1,10 +1,6 @@
-use Rattle.lists.proofs.Fitted.{product_over, product_fits, product_done}
-use borrow.Author.Rules.{rules}
-use native.Mathlib.Omega.{arith}
 use Prim.Native.Nat.{◌-◌, ◌≤◌, ◌<◌, ◌^◌}
-use mathlib.Core.Path.{◌≡◌, sym}
+use mathlib.Core.Path.{◌≡◌}
 use Rattle.lists.specs.Products.{falling}
-use Rattle.lists.proofs.Products.{falling_none, falling_next}
 use Rattle.lists.proofs.numbers.product.Given as goal
 
 abbrev pub invariant-loop-j : goal.invariant-loop-j

@@ -1,10 +1,7 @@
 -- `outcomes::pick_cells` meets its contract. The invariant: j digits have given way to cells, each of which has its mark, and the digits left pick the rest
 -- (`Picking`). The measure is how many digits are left. Assumes nothing.
-use borrow.Author.Rules.{rules}
 use Rattle.lists.proofs.Fits.{word_fits}
-use Prim.Native.Nat.{◌-◌}
-use lib.ListN.{length}
-use Rattle.outcomes.proofs.Picks.{Picking, picking_none, picking_asks, picking_free, picking_fits, picking_next, picking_all}
+use Rattle.outcomes.proofs.Picks.{picking_none, picking_asks, picking_free, picking_fits, picking_next, picking_all}
 use Rattle.outcomes.proofs.index.pick_cells.Goals as goal
 
 pub loop-j-init : goal.loop-j-init

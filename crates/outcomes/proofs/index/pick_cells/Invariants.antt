@@ -1,10 +1,8 @@
 -- `outcomes::pick_cells` meets its contract. The invariant: j digits have given way to cells, each of which has its mark, and the digits left pick the rest
 -- (`Picking`). The measure is how many digits are left. Assumes nothing.
-use borrow.Author.Rules.{rules}
-use Rattle.lists.proofs.Fits.{word_fits}
 use Prim.Native.Nat.{◌-◌}
 use lib.ListN.{length}
-use Rattle.outcomes.proofs.Picks.{Picking, picking_none, picking_asks, picking_free, picking_fits, picking_next, picking_all}
+use Rattle.outcomes.proofs.Picks.{Picking}
 use Rattle.outcomes.proofs.index.pick_cells.Given as goal
 
 abbrev pub invariant-loop-j : goal.invariant-loop-j

@@ -1,7 +1,6 @@
 -- `outcomes::split` meets its contract. The invariant: the digits from j on are written, and what is left of the index has the others (`Splitting`).
 -- The measure is j. Assumes nothing.
-use borrow.Author.Rules.{rules}
-use Rattle.outcomes.proofs.Radix.{Splitting, split_none, digit_fits, split_next, split_all}
+use Rattle.outcomes.proofs.Radix.{Splitting}
 use Rattle.outcomes.proofs.index.split.Given as goal
 
 abbrev pub invariant-loop-j : goal.invariant-loop-j

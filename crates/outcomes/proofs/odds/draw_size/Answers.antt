@@ -1,5 +1,4 @@
 -- `outcomes::draw_size` meets its contract: it is a birth draw or it is not. Assumes nothing.
-use borrow.Author.Rules.{rules}
 use Rattle.outcomes.proofs.Marking.{size_birth, size_due}
 use Rattle.outcomes.proofs.odds.draw_size.Goals as goal
 

@@ -5,7 +5,7 @@ use borrow.Author.Rules.{rules}
 use Rattle.page_file.proofs.moves.moves_to.Given as goal
 
 abbrev pub invariant-loop-i : goal.invariant-loop-i
-invariant-loop-i l = (l.i ≤ l.page) × (l.k ≤ l.i)
+invariant-loop-i g l = (l.i ≤ l.page) × (l.k ≤ l.i)
 
 abbrev pub decreases-loop-i : goal.decreases-loop-i
-decreases-loop-i l = l.page - l.i
+decreases-loop-i g l = l.page - l.i

@@ -1,4 +1,3 @@
-use borrow.Author.Rules.{rules}
 use Rattle.placed.proofs.Judging.{free_less}
 use Rattle.placed.proofs.place.full.Goals as goal
 

@@ -1,6 +1,5 @@
 use native.Mathlib.Omega.{arith}
 use mathlib.Core.Path.{◌≡◌}
-use borrow.Author.Rules.{rules}
 use Rattle.placement.proofs.trace.direction.Goals as goal
 
 pub returns-in_default : goal.returns-in_default

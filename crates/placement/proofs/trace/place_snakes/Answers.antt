@@ -1,11 +1,5 @@
-use Prim.Native.Nat.{◌-◌}
 use native.Mathlib.Omega.{arith}
-use mathlib.Core.Path.{ap, ◌∙◌}
-use lib.IntN.{pos}
-use Rattle.rules.specs.Grid.{inside}
-use Rattle.rules.specs.declared.Place.{Place}
-use Rattle.rules.proofs.Starts.{start_inside}
-use Rattle.placement.proofs.Laying.{Laying, laying_start, laying_room, laying_long, laying_count, laying_short, laying_on, laying_end}
+use Rattle.placement.proofs.Laying.{laying_start, laying_room, laying_long, laying_count, laying_short, laying_on}
 use Rattle.placement.proofs.trace.place_snakes.Goals as goal
 
 pub loop-i-init : goal.loop-i-init

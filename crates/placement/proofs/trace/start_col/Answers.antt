@@ -1,6 +1,5 @@
 use borrow.Author.Tests.{eq-eqb, ne_eqb}
 use Rattle.rules.proofs.Starts.{col_even, col_odd}
-use borrow.Author.Rules.{rules}
 use Rattle.placement.proofs.trace.start_col.Goals as goal
 
 pub returns-then-i-eq0 : goal.returns-then-i-eq0

@@ -2,11 +2,11 @@ use mathlib.Core.Bool.{true}
 use lib.IntN.{pos}
 use lib.ListN.{length, length-set}
 use Rattle.rules.specs.Grid.{inside}
-use Prim.Native.Nat.{◌+◌, ◌-◌, ◌≤◌}
+use Prim.Native.Nat.{◌+◌, ◌≤◌}
 use native.Mathlib.Omega.{arith}
 use mathlib.Core.Path.{◌≡◌}
 use borrow.Author.Rules.{rules}
-use Rattle.placement.proofs.Going.{Going, inside_near, going_start, going_room, going_full, going_stuck, going_on}
+use Rattle.placement.proofs.Going.{going_start, going_room, going_full, going_stuck, going_on}
 use Rattle.placement.proofs.trace.trace_body.Goals as goal
 
 pub loop-k-init : goal.loop-k-init

@@ -1,14 +1,14 @@
 -- The directions that are left do not change while a shut one is passed.
-use Prim.Native.Nat.{◌-◌, ◌≤◌, ◌<◌}
+use Prim.Native.Nat.{◌<◌}
 use native.Mathlib.Nat.{lt_irrefl}
 use native.Mathlib.Omega.{arith}
 use mathlib.Core.Path.{◌≡◌, refl, sym, ap, ◌∙◌}
 use mathlib.Core.Bool.{true, false}
 use lib.IntN.{pos}
-use lib.ListN.{drop, get_or}
+use lib.ListN.{get_or}
 use borrow.Author.Rules.{rules}
 use Rattle.rules.specs.Grid.{ahead, inside}
-use Rattle.rules.specs.Placement.{tracing, unblocked}
+use Rattle.rules.specs.Placement.{tracing}
 use Rattle.rules.specs.declared.Heading.{Heading}
 use Rattle.rules.specs.declared.Heading.TheVariants.{Up}
 use Rattle.rules.specs.declared.Place.{Place}

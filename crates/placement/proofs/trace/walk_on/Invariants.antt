@@ -1,18 +1,9 @@
 -- The directions that are left do not change while a shut one is passed.
-use Prim.Native.Nat.{◌-◌, ◌≤◌, ◌<◌}
-use native.Mathlib.Nat.{lt_irrefl}
-use native.Mathlib.Omega.{arith}
-use mathlib.Core.Path.{◌≡◌, refl, sym, ap, ◌∙◌}
-use mathlib.Core.Bool.{true, false}
+use Prim.Native.Nat.{◌-◌, ◌≤◌}
+use mathlib.Core.Path.{◌≡◌}
 use lib.IntN.{pos}
-use lib.ListN.{drop, get_or}
-use borrow.Author.Rules.{rules}
-use Rattle.rules.specs.Grid.{ahead, inside}
+use lib.ListN.{drop}
 use Rattle.rules.specs.Placement.{tracing, unblocked}
-use Rattle.rules.specs.declared.Heading.{Heading}
-use Rattle.rules.specs.declared.Heading.TheVariants.{Up}
-use Rattle.rules.specs.declared.Place.{Place}
-use Rattle.placement.proofs.Walks.{walk_open, walk_shut, walk_end}
 use Rattle.placement.proofs.trace.walk_on.Given as goal
 
 abbrev pub invariant-loop-turn : goal.invariant-loop-turn

@@ -1,4 +1,3 @@
-use Prim.Native.Nat.{◌-◌}
 use Rattle.printing.proofs.bytes.digit_of.Goals as goal
 
 pub returns-then-b : goal.returns-then-b

@@ -1,10 +1,8 @@
 use native.Mathlib.Omega.{arith}
-use Prim.Native.Nat.{◌-◌}
 use mathlib.Core.Path.{refl}
 use mathlib.Core.List.{[], ◌∷◌}
 use Rattle.printing.proofs.Writing.{written}
 use Rattle.lists.proofs.Writes.{sets_write}
-use borrow.Author.Rules.{rules}
 use Rattle.printing.proofs.bytes.put.Goals as goal
 
 pub returns : goal.returns

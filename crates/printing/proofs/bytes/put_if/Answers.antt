@@ -1,6 +1,4 @@
-use Prim.Native.Nat.{◌-◌}
 use Rattle.printing.proofs.Writing.{nothing}
-use borrow.Author.Rules.{rules}
 use Rattle.printing.proofs.bytes.put_if.Goals as goal
 
 pub returns-then-flag : goal.returns-then-flag

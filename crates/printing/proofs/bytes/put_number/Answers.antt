@@ -1,6 +1,6 @@
 use Rattle.printing.proofs.Writing.{written, digits_are, digits_short, few}
 use native.Mathlib.Omega.{arith}
-use Prim.Native.Nat.{ℕ, ◌+◌, ◌-◌, ◌≤◌, ◌<◌}
+use Prim.Native.Nat.{ℕ, ◌+◌, ◌≤◌, ◌<◌}
 use mathlib.Core.Path.{◌≡◌, ap, ◌∙◌}
 use Rattle.lists.specs.Lists.{write_at}
 use Rattle.printing.specs.Text.{decimal_text}
@@ -8,6 +8,7 @@ use lib.ListN.{length, take}
 use mathlib.Core.List.{List}
 use borrow.Author.Rules.{rules}
 use Rattle.printing.proofs.bytes.put_number.Goals as goal
+
 pub write_at-requires : goal.write_at-requires
 write_at-requires c =
     let e = c.decimal-k.ensures in
@@ -16,6 +17,7 @@ write_at-requires c =
     let v : a.v < 18446744073709551616 = search rules in
     let m : k ≤ 20 = few k a.v e.len v in
     omega (arith, e.in_bounds.1)
+
 pub overflow_add-result : goal.overflow_add-result
 overflow_add-result c =
     let e = c.decimal-k.ensures in
@@ -24,6 +26,7 @@ overflow_add-result c =
     let v : a.v < 18446744073709551616 = search rules in
     let m : k ≤ 20 = few k a.v e.len v in
     omega arith
+
 pub returns : goal.returns
 returns c =
     let e = c.decimal-k.ensures in

@@ -1,12 +1,11 @@
 use native.Mathlib.Omega.{arith}
-use Prim.Native.Nat.{ℕ, ◌-◌}
+use Prim.Native.Nat.{ℕ}
 use mathlib.Core.Path.{refl, ap, ◌∙◌}
 use mathlib.Core.List.{[], ◌∷◌}
 use native.Mathlib.Numerals.{add-one}
 use lib.ListN.{set, length-set}
 use Rattle.printing.proofs.Writing.{written}
 use Rattle.lists.proofs.Writes.{sets_write}
-use borrow.Author.Rules.{rules}
 use Rattle.printing.proofs.bytes.put_two.Goals as goal
 
 pub bounds-out-at-2 : goal.bounds-out-at-2

@@ -1,11 +1,10 @@
-use Prim.Native.Nat.{ℕ, ◌+◌, ◌-◌, ◌≤◌, ◌<◌}
+use Prim.Native.Nat.{ℕ, ◌+◌, ◌<◌}
 use mathlib.Core.Path.{◌≡◌, refl, ap, ◌∙◌}
 use mathlib.Core.List.{List}
 use lib.ListN.{set, get_or, length-set, length}
 use Rattle.lists.proofs.Writes.{paste_all, paste_more}
 use lib.Seq.{paste, paste-zero}
 use native.Mathlib.Omega.{arith}
-use borrow.Author.Rules.{rules}
 use Rattle.printing.proofs.bytes.write_at.Goals as goal
 
 pub loop-j-init : goal.loop-j-init

@@ -1,11 +1,7 @@
-use Prim.Native.Nat.{ℕ, ◌+◌, ◌-◌, ◌≤◌, ◌<◌}
-use mathlib.Core.Path.{◌≡◌, refl, ap, ◌∙◌}
-use mathlib.Core.List.{List}
-use lib.ListN.{set, get_or, length-set, length}
-use Rattle.lists.proofs.Writes.{paste_all, paste_more}
-use lib.Seq.{paste, paste-zero}
-use native.Mathlib.Omega.{arith}
-use borrow.Author.Rules.{rules}
+use Prim.Native.Nat.{◌-◌, ◌≤◌}
+use mathlib.Core.Path.{◌≡◌}
+use lib.ListN.{length}
+use lib.Seq.{paste}
 use Rattle.printing.proofs.bytes.write_at.Given as goal
 
 abbrev pub invariant-loop-j : goal.invariant-loop-j

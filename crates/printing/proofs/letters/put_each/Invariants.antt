@@ -1,11 +1,6 @@
-use Prim.Native.Nat.{◌+◌, ◌-◌, ◌≤◌, ◌*◌}
-use mathlib.Core.Path.{◌≡◌}
-use Rattle.printing.proofs.Writing.{both, wider, nothing}
-use Rattle.lists.proofs.Below.{concat_none, concat_next}
+use Prim.Native.Nat.{◌-◌, ◌≤◌, ◌*◌}
 use Rattle.printing.specs.Text.{Wrote, placing_text}
 use Rattle.lists.specs.Below.{concat_below}
-use native.Mathlib.Omega.{arith}
-use borrow.Author.Rules.{rules}
 use Rattle.printing.proofs.letters.put_each.Given as goal
 
 abbrev pub invariant-loop-i : goal.invariant-loop-i

@@ -1,8 +1,6 @@
 use native.Mathlib.Omega.{arith}
-use Prim.Native.Nat.{◌-◌}
 use Rattle.printing.specs.Text.{ends_text}
 use Rattle.printing.proofs.Writing.{both}
-use borrow.Author.Rules.{rules}
 use Rattle.printing.proofs.letters.put_ends.Goals as goal
 
 pub returns : goal.returns

@@ -1,9 +1,7 @@
 use native.Mathlib.Omega.{arith}
-use Prim.Native.Nat.{◌+◌, ◌-◌}
 use mathlib.Core.List.{◌++◌}
 use Rattle.printing.specs.Text.{events_text, deeds_text, ends_text}
 use Rattle.printing.proofs.Writing.{both, dashed, undashed}
-use borrow.Author.Rules.{rules}
 use Rattle.printing.proofs.letters.put_events.Goals as goal
 
 pub returns-then-j-at : goal.returns-then-j-at

@@ -1,8 +1,6 @@
 use native.Mathlib.Omega.{arith}
-use Prim.Native.Nat.{◌-◌}
 use borrow.Author.Tests.{eq-eqb, ne_eqb}
 use Rattle.printing.proofs.Writing.{wider}
-use borrow.Author.Rules.{rules}
 use Rattle.printing.proofs.letters.put_first.Goals as goal
 
 pub returns-then-size-eq0 : goal.returns-then-size-eq0

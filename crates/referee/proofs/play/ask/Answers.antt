@@ -1,6 +1,5 @@
 -- `referee::ask` meets its contract: a desk that has begun takes a turn, a new one its first line (`Lines`).
 -- Assumes nothing.
-use borrow.Author.Rules.{rules}
 use Rattle.referee.proofs.Lines.{ask_turns, ask_begins}
 use Rattle.referee.proofs.play.ask.Goals as goal
 

@@ -1,6 +1,5 @@
 -- `referee::close` meets its contract: the placings of a match that has begun, or 32 (`Lines`).
 -- Assumes nothing.
-use borrow.Author.Rules.{rules}
 use Rattle.referee.proofs.Lines.{close_ends, close_refuses}
 use Rattle.referee.proofs.play.close.Goals as goal
 

@@ -7,11 +7,8 @@ use Rattle.referee.proofs.Lines.{desk_stays, desk_words, desk_room, desk_moves}
 use Rattle.referee.proofs.play.take_line.Goals as goal
 
 -- the next image fits where the desk's image stands
-room-for-next : tie.Need-write-at-requires
-room-for-next c κs =
-    let asked : tie.After-ask = search in
-    let start : tie.Start = search in
-    desk_room _ _ _ _ _ _ _ _ _ _ asked.ask.ensures start.pre.1
+pub write_at-requires : goal.write_at-requires
+write_at-requires c = desk_room _ _ _ _ _ _ _ _ _ _ c.ask-t.ensures c.requires.1
 
 pub returns-then-not-t : goal.returns-then-not-t
 returns-then-not-t c = search desk_stays

@@ -1,6 +1,5 @@
 -- `referee::begin` meets its contract: the first line opens the match or is refused by 32, as it is read (`Lines`).
 -- Assumes nothing.
-use borrow.Author.Rules.{rules}
 use Rattle.referee.proofs.Lines.{begin_stops, begin_opens}
 use Rattle.referee.proofs.turns.begin.Goals as goal
 

@@ -7,10 +7,9 @@ use Rattle.referee.proofs.Lines.{entry_none, entry_draw, entry_move}
 use Rattle.referee.proofs.turns.play_entry.Goals as goal
 
 -- an entry has room for eight actions
-acts-fit : tie.Need-slice-bounds-play-move-end
-acts-fit c =
-    let start : tie.Start = search in
-    let l : length start.args.e.acts ≡ 8 = search rules in
+pub slice_bounds-play_move-end : goal.slice_bounds-play_move-end
+slice_bounds-play_move-end c =
+    let l : length c.args.e.acts ≡ 8 = search rules in
     search (rules, l)
 
 pub returns-in-NoLine : goal.returns-in-NoLine

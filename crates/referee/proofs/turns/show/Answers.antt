@@ -1,6 +1,5 @@
 -- `referee::show` meets its contract: the image's first word says how many snakes the line has (`Lines`).
 -- Assumes nothing.
-use borrow.Author.Rules.{rules}
 use Rattle.referee.proofs.Lines.{line_shows}
 use Rattle.referee.proofs.turns.show.Goals as goal
 

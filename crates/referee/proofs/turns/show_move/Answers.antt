@@ -1,6 +1,5 @@
 -- `referee::show_move` meets its contract: the events shown and the match after the move are what the callees promise (`Lines`).
 -- Assumes nothing.
-use borrow.Author.Rules.{rules}
 use Rattle.referee.proofs.Lines.{move_shown}
 use Rattle.referee.proofs.turns.show_move.Goals as goal
 

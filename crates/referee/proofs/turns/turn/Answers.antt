@@ -1,6 +1,5 @@
 -- `referee::turn` meets its contract: after the end a line is refused by 33, before it the line is read and played (`Lines`).
 -- Assumes nothing.
-use borrow.Author.Rules.{rules}
 use Rattle.referee.proofs.Lines.{turn_stops, turn_plays}
 use Rattle.referee.proofs.turns.turn.Goals as goal
 

@@ -1,4 +1,3 @@
-use borrow.Author.Rules.{rules}
 use Rattle.score.proofs.rewards.added.Goals as goal
 
 pub returns-then-flag : goal.returns-then-flag

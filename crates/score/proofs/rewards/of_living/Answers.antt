@@ -1,4 +1,3 @@
-use borrow.Author.Rules.{rules}
 use Rattle.score.proofs.rewards.of_living.Goals as goal
 
 pub returns : goal.returns

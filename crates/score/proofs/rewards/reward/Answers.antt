@@ -1,6 +1,5 @@
 -- `score::reward` meets its contract: weights that are not all finite are refused by 31, and else the event is of a dead snake or of a living one; one law of
 -- `Sums` each. Assumes nothing.
-use borrow.Author.Rules.{rules}
 use Rattle.score.proofs.Sums.{reward_31, reward_dead_lem, reward_living_lem}
 use Rattle.score.proofs.rewards.reward.Goals as goal
 

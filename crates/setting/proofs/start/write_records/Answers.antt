@@ -1,8 +1,5 @@
 -- `setting::write_records` meets its contract. The invariant: the first i records are written (`RecordsWritten`); a turn writes one more (`records_next`).
 -- The measure is how many are left. Assumes nothing.
-use borrow.Author.Rules.{rules}
-use Prim.Native.Nat.{◌-◌}
-use Rattle.setting.specs.Starts.{RecordsWritten}
 use Rattle.setting.proofs.Written.{records_none, cells_fit_lem, start_fits, record_in_lem, start_small, size_small, records_next, records_all}
 use Rattle.setting.proofs.start.write_records.Goals as goal
 

@@ -1,8 +1,5 @@
 -- `step::write_bodies` meets its contract: the invariant says that the bodies of the snakes passed are written, and which index comes after them (`Turns`).
 -- Assumes nothing.
-use Prim.Native.Nat.{◌-◌}
-use borrow.Author.Rules.{rules}
-use Rattle.step.specs.Next.{BodiesTo}
 use Rattle.step.proofs.Turns.{bodies_none, place_in, start_fits_word, body_fits, part_there, bodies_next, bodies_all}
 use Rattle.step.proofs.bodies.write_bodies.Goals as goal
 

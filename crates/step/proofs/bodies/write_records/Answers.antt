@@ -1,9 +1,6 @@
 -- `step::write_records` meets its contract: the invariant says that the records of the snakes passed are written, and where the next body starts (`Turns`).
 -- Assumes nothing.
-use Prim.Native.Nat.{◌-◌}
-use borrow.Author.Rules.{rules}
 use Rattle.consequences.proofs.Laws.{short_at}
-use Rattle.step.specs.Next.{RecordsTo}
 use Rattle.step.proofs.Turns.{records_none, size_word, start_word_lem, start_fits, record_fits_lem, records_next, records_all}
 use Rattle.step.proofs.bodies.write_records.Goals as goal
 

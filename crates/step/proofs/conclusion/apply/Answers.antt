@@ -1,6 +1,5 @@
 -- `step::apply` meets its contract: the settled snakes are those of the definition, so what they lead to is its outcome (`Link`).
 -- Assumes nothing.
-use borrow.Author.Rules.{rules}
 use Rattle.step.proofs.Link.{settled_here, applied}
 use Rattle.step.proofs.conclusion.apply.Goals as goal
 

@@ -1,6 +1,5 @@
 -- `step::conclude` meets its contract: the answer of `write_next` tells whether there was room, and the counts link the rest to the definition (`Follows`).
 -- Assumes nothing.
-use borrow.Author.Rules.{rules}
 use Rattle.step.proofs.Follows.{concluded_29, concluded}
 use Rattle.step.proofs.conclusion.conclude.Goals as goal
 

@@ -1,9 +1,7 @@
 -- `step::eaten_of` meets its contract: the invariant says that the cells so far are those that the snakes passed ate (`Left`).
 -- Assumes nothing.
 use Prim.Native.Nat.{◌-◌}
-use borrow.Author.Rules.{rules}
 use Rattle.step.specs.Eaten.{EatenTo}
-use Rattle.step.proofs.Left.{eaten_none, eaten_same, eaten_more, eaten_all}
 use Rattle.step.proofs.food.eaten_of.Given as goal
 
 abbrev pub invariant-loop-i : goal.invariant-loop-i

@@ -1,6 +1,5 @@
 -- `step::asked` meets its contract: the verdict on the setting first, then what is wrong with the image, then what is asked of a checked image (`Refusals`).
 -- Assumes nothing.
-use borrow.Author.Rules.{rules}
 use Rattle.rules.proofs.Facts.{passed, failed}
 use Rattle.step.proofs.Refusals.{asked_setting, asked_faulty, asked_image}
 use Rattle.step.proofs.gate.asked.Goals as goal

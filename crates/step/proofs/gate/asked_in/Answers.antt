@@ -1,6 +1,5 @@
 -- `step::asked_in` meets its contract: each return is the table's row by the tests made so far (`Refusals`).
 -- Assumes nothing.
-use borrow.Author.Rules.{rules}
 use Rattle.step.proofs.Refusals.{asked_21, asked_22, asked_24, asked_25, asked_none}
 use Rattle.step.proofs.gate.asked_in.Goals as goal
 

@@ -1,11 +1,6 @@
 -- `step::has_bad_action` meets its contract: the invariant says whether a snake passed has a bad action (`Refusals`).
 -- Assumes nothing.
-use Prim.Native.Nat.{◌-◌}
-use lib.ListN.{length}
-use borrow.Author.Rules.{rules}
-use Rattle.judge.specs.Loops.{Seeking}
 use Rattle.judge.proofs.Loops.{seek_none}
-use Rattle.step.specs.Asked.{bad_at}
 use Rattle.step.proofs.Refusals.{bad_next, bad_all}
 use Rattle.step.proofs.gate.has_bad_action.Goals as goal
 

@@ -1,6 +1,5 @@
 -- `step::write_next` meets its contract: what is eaten, the apples and the apples left give the room, which is the length of the next image (`Room`).
 -- Assumes nothing.
-use borrow.Author.Rules.{rules}
 use Rattle.step.proofs.Room.{room_so_far, room_fits, next_29, state_fits, next_done}
 use Rattle.step.proofs.next.write_next.Goals as goal
 

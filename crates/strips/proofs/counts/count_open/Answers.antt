@@ -1,8 +1,6 @@
 -- `strips::count_open` meets its contract. The invariant: n squares of the first s strips have no mark (`Counting`). The measure is how many squares are left.
 -- Assumes nothing.
-use borrow.Author.Rules.{rules}
-use Prim.Native.Nat.{◌+◌, ◌-◌, ◌*◌}
-use Rattle.strips.proofs.Counting.{Counting, counting_none, counting_fits, counting_next, counting_over, counting_all}
+use Rattle.strips.proofs.Counting.{counting_none, counting_fits, counting_next, counting_over, counting_all}
 use Rattle.strips.proofs.counts.count_open.Goals as goal
 
 pub loop-s-init : goal.loop-s-init

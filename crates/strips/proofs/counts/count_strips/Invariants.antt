@@ -1,8 +1,7 @@
 -- `strips::count_strips` meets its contract. The invariant: the first s strips have their counts (`Tallying`). The measure is how many squares are left.
 -- Assumes nothing.
-use borrow.Author.Rules.{rules}
 use Prim.Native.Nat.{◌+◌, ◌-◌, ◌*◌}
-use Rattle.strips.proofs.Counting.{Tallying, tally_none, tally_fits, tally_next, tally_all}
+use Rattle.strips.proofs.Counting.{Tallying}
 use Rattle.strips.proofs.counts.count_strips.Given as goal
 
 abbrev pub invariant-loop-s : goal.invariant-loop-s

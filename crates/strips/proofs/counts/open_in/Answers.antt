@@ -1,5 +1,4 @@
 -- `strips::open_in` meets its contract: what is not set of a word's 64 bits is clear (`clear_many`). Assumes nothing.
-use borrow.Author.Rules.{rules}
 use Rattle.strips.proofs.Strips.{ones_few, ones_fit, clear_many}
 use Rattle.strips.proofs.counts.open_in.Goals as goal
 

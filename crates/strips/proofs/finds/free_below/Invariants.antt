@@ -1,8 +1,7 @@
 -- `strips::free_below` meets its contract. The invariant: n squares of the first s strips have no mark (`Summing`); the part of the last strip comes after the
 -- loop. The measure is how many strips are left. Assumes nothing.
-use borrow.Author.Rules.{rules}
 use Prim.Native.Nat.{◌-◌, ◌/◌}
-use Rattle.strips.proofs.Finding.{Summing, summing_none, summing_word, summing_fits, summing_next, bit_some, part_fits, part_less, summing_all}
+use Rattle.strips.proofs.Finding.{Summing}
 use Rattle.strips.proofs.finds.free_below.Given as goal
 
 abbrev pub invariant-loop-s : goal.invariant-loop-s

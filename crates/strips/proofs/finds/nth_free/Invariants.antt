@@ -1,8 +1,7 @@
 -- `strips::nth_free` meets its contract. The invariant: the free squares from strip s on, l of them passed over, end where all of them do (`Scanning`); each way
 -- through a turn is one law of `Finding`. The measure is how many squares are left. Assumes nothing.
-use borrow.Author.Rules.{rules}
 use Prim.Native.Nat.{◌+◌, ◌-◌, ◌*◌}
-use Rattle.strips.proofs.Finding.{Scanning, scan_none, scan_word, scan_room, scan_hit, scan_on, scan_end}
+use Rattle.strips.proofs.Finding.{Scanning}
 use Rattle.strips.proofs.finds.nth_free.Given as goal
 
 abbrev pub invariant-loop-s : goal.invariant-loop-s

@@ -1,7 +1,6 @@
 -- `strips::nth_in` meets its contract. The invariant: from square `at` on, with `left` still to be passed, the search ends where it is to end (`Passing`); a turn
 -- passes a run of marks and a run of clear squares (`Runs`). The measure is how many are still to be passed. Assumes nothing.
-use borrow.Author.Rules.{rules}
-use Rattle.strips.proofs.Runs.{Passing, passing_none, passing_fits, trailing_fits, marks_low, marks_fit, found_fits, found, clear_low, clear_fits, passing_next, passing_less, passing_end}
+use Rattle.strips.proofs.Runs.{Passing}
 use Rattle.strips.proofs.finds.nth_in.Given as goal
 
 abbrev pub invariant-loop-at : goal.invariant-loop-at

@@ -1,5 +1,4 @@
 -- `strips::is_marked` meets its contract, which says what it computes. Assumes nothing.
-use borrow.Author.Rules.{rules}
 use Rattle.strips.proofs.Strips.{marked_is}
 use Rattle.strips.proofs.marks.is_marked.Goals as goal
 

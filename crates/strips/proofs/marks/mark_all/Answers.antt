@@ -1,9 +1,6 @@
 -- `strips::mark_all` meets its contract. The invariant: the cells from i on have their marks (`Adds`); the fewer than four before them come last. The measure
 -- is i. Assumes nothing.
 use borrow.Author.Rules.{rules}
-use Prim.Native.Nat.{◌≤◌}
-use lib.ListN.{length, drop}
-use Rattle.strips.specs.Marks.{Adds}
 use Rattle.strips.proofs.Strips.{part_in, four_long, adds_none, adds_four, adds_all}
 use Rattle.strips.proofs.marks.mark_all.Goals as goal
 

@@ -1,9 +1,6 @@
 -- `strips::mark_each` meets its contract. The invariant: the cells from i on have their marks (`Adds`). The measure is i. Assumes nothing.
 use borrow.Author.Rules.{rules}
-use Prim.Native.Nat.{◌≤◌}
-use lib.ListN.{length, drop}
 use Rattle.lists.proofs.Fits.{word_fits}
-use Rattle.strips.specs.Marks.{Adds}
 use Rattle.strips.proofs.Strips.{cell_in, adds_none, adds_down, adds_whole}
 use Rattle.strips.proofs.marks.mark_each.Goals as goal
 

@@ -1,5 +1,4 @@
 -- `telling::tell_number` meets its contract: each case of the answer (`Saying`). Assumes nothing.
-use borrow.Author.Rules.{rules}
 use Rattle.telling.proofs.Saying.{value_told, number_refused}
 use Rattle.telling.proofs.answers.tell_number.Goals as goal
 

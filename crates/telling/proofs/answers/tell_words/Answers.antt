@@ -1,5 +1,4 @@
 -- `telling::tell_words` meets its contract: each case of the answer (`Saying`). Assumes nothing.
-use borrow.Author.Rules.{rules}
 use Rattle.telling.proofs.Saying.{words_told, words_refused}
 use Rattle.telling.proofs.answers.tell_words.Goals as goal
 

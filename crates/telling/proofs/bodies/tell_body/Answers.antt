@@ -1,5 +1,4 @@
 -- `telling::tell_body` meets its contract: the image is sound, so that the snake's record says where its body lies (`Lying`). Assumes nothing.
-use borrow.Author.Rules.{rules}
 use Rattle.lists.proofs.Fits.{word_fits}
 use Rattle.telling.proofs.Lying.{no_snake, lies}
 use Rattle.telling.proofs.bodies.tell_body.Goals as goal

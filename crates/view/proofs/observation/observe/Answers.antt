@@ -1,6 +1,5 @@
 -- `view::observe` meets its contract: an image that is not well-formed is refused by its fault, and one that is is sound, which `observe_in` asks.
 -- Assumes nothing.
-use borrow.Author.Rules.{rules}
 use Rattle.rules.proofs.Facts.{passed, failed}
 use Rattle.view.proofs.Gates.{observe_faulty}
 use Rattle.view.proofs.observation.observe.Goals as goal

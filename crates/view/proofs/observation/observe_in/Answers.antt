@@ -1,6 +1,5 @@
 -- `view::observe_in` meets its contract: the image is sound, which bounds each number, and each `return` is one law of `Gates`, by the tests that led there.
 -- Assumes nothing.
-use borrow.Author.Rules.{rules}
 use Rattle.view.proofs.Gates.{observe_26, observe_29, observe_done}
 use Rattle.view.proofs.observation.observe_in.Goals as goal
 

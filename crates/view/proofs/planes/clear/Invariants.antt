@@ -1,8 +1,6 @@
 -- `view::clear` meets its contract. The invariant: the first j numbers are 0.0 (`Cleared`). The measure is how many are left. Assumes nothing.
-use borrow.Author.Rules.{rules}
 use Prim.Native.Nat.{◌-◌}
 use Rattle.view.specs.Marks.{Cleared}
-use Rattle.view.proofs.Marks.{cleared_none, cleared_next, cleared_all}
 use Rattle.view.proofs.planes.clear.Given as goal
 
 abbrev pub invariant-loop-j : goal.invariant-loop-j

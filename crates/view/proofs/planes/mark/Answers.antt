@@ -1,10 +1,6 @@
 -- `view::mark` meets its contract. The invariant: what is left to mark on the plane as it is gives what all cells give on the plane as it was (`CellsMarked`).
 -- The measure is how many cells are left. Assumes nothing.
-use borrow.Author.Rules.{rules}
-use Prim.Native.Nat.{◌-◌}
-use lib.ListN.{length}
 use Rattle.lists.proofs.Fits.{word_fits_32}
-use Rattle.view.specs.Marks.{CellsMarked}
 use Rattle.view.proofs.Turning.{cell_square, place_fits, bytes_fit, place_in}
 use Rattle.view.proofs.Marks.{cells_none, cells_next, cells_all}
 use Rattle.view.proofs.planes.mark.Goals as goal

@@ -1,6 +1,5 @@
 -- `view::mark_body` meets its contract: a body without a cell leaves the planes as they are, and any other lies where a sound image says (`Marks`).
 -- Assumes nothing.
-use borrow.Author.Rules.{rules}
 use Rattle.lists.proofs.Fits.{word_fits}
 use Rattle.view.proofs.Marks.{body_empty, bodied, body_marked}
 use Rattle.view.proofs.planes.mark_body.Goals as goal

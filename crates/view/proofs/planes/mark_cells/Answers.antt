@@ -1,5 +1,4 @@
 -- `view::mark_cells` meets its contract: the two marks are the body's (`cells_marked`). Assumes nothing.
-use borrow.Author.Rules.{rules}
 use Rattle.view.proofs.Marks.{cells_marked}
 use Rattle.view.proofs.planes.mark_cells.Goals as goal
 

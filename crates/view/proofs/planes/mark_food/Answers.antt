@@ -1,5 +1,4 @@
 -- `view::mark_food` meets its contract: the food is the image's end (`food_marked`). Assumes nothing.
-use borrow.Author.Rules.{rules}
 use Rattle.view.proofs.Marks.{food_marked}
 use Rattle.view.proofs.planes.mark_food.Goals as goal
 

@@ -1,9 +1,7 @@
 -- `view::mark_others` meets its contract. The invariant: the first i snakes but the agent are marked (`OthersMarked`); each turn's way is one law of `Marks`.
 -- The measure is how many snakes are left. Assumes nothing.
-use borrow.Author.Rules.{rules}
 use Prim.Native.Nat.{◌-◌}
 use Rattle.view.specs.Marks.{OthersMarked}
-use Rattle.view.proofs.Marks.{others_none, others_same, others_canvas, others_next, others_all}
 use Rattle.view.proofs.planes.mark_others.Given as goal
 
 abbrev pub invariant-loop-i : goal.invariant-loop-i

@@ -1,6 +1,5 @@
 -- `view::mark_plane` meets its contract: plane ch lies in the numbers, the part holds squares alone, and the plane comes back marked (`plane_put`).
 -- Assumes nothing.
-use borrow.Author.Rules.{rules}
 use Rattle.view.proofs.Marks.{area_fits, plane_fits, bytes_fit, plane_from, on_plane, plane_put}
 use Rattle.view.proofs.planes.mark_plane.Goals as goal
 

@@ -1,5 +1,4 @@
 -- `view::mark_snakes` meets its contract: the agent's body, then the others (`snakes_marked`). Assumes nothing.
-use borrow.Author.Rules.{rules}
 use Rattle.view.proofs.Marks.{snakes_marked}
 use Rattle.view.proofs.planes.mark_snakes.Goals as goal
 

@@ -1,5 +1,4 @@
 -- `view::turned` meets its contract: each heading's arm is one law of `Turning`. Assumes nothing.
-use borrow.Author.Rules.{rules}
 use Rattle.view.proofs.Turning.{square_fits, turned_up, turned_right, turned_down, turned_left}
 use Rattle.view.proofs.planes.turned.Goals as goal
 

@@ -1,8 +1,7 @@
 -- `wellformed::bodies_fit` meets its contract. The invariant: the bodies so far have no cell twice, and the next stamp is new to the board (`BodiesTo`).
 -- The measure is how many bodies are left. Assumes nothing.
-use borrow.Author.Rules.{rules}
 use Prim.Native.Nat.{◌-◌}
-use Rattle.wellformed.proofs.Loops.{BodiesTo, bodies_none, bodies_fail, bodies_next, bodies_all}
+use Rattle.wellformed.proofs.Loops.{BodiesTo}
 use Rattle.wellformed.proofs.cells.bodies_fit.Given as goal
 
 abbrev pub invariant-loop-i : goal.invariant-loop-i

@@ -1,9 +1,8 @@
 -- `wellformed::cells_below` meets its contract. The invariant: the flag, and the test of what is left, give the whole answer (`BelowTo`).
 -- The measure is how many cells are left. Assumes nothing.
-use borrow.Author.Rules.{rules}
 use Prim.Native.Nat.{◌-◌}
 use lib.ListN.{length}
-use Rattle.wellformed.proofs.Loops.{BelowTo, below_none, below_next, below_all}
+use Rattle.wellformed.proofs.Loops.{BelowTo}
 use Rattle.wellformed.proofs.cells.cells_below.Given as goal
 
 abbrev pub invariant-loop-k : goal.invariant-loop-k

@@ -1,5 +1,4 @@
 -- `wellformed::cells_fit` meets its contract: the words past the records are the cells (`cells_by`). Assumes nothing.
-use borrow.Author.Rules.{rules}
 use Rattle.wellformed.proofs.Answers.{cells_by}
 use Rattle.wellformed.proofs.cells.cells_fit.Goals as goal
 

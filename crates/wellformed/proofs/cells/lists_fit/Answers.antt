@@ -1,5 +1,4 @@
 -- `wellformed::lists_fit` meets its contract: the bodies' tests decide, or the food's do. Assumes nothing.
-use borrow.Author.Rules.{rules}
 use Rattle.wellformed.proofs.Answers.{lists_out, lists_by}
 use Rattle.wellformed.proofs.cells.lists_fit.Goals as goal
 

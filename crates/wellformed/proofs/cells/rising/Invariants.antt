@@ -1,10 +1,8 @@
 -- `wellformed::rising` meets its contract. The invariant: the flag, and the test of what is left above `low`, give the whole answer (`RisingTo`).
 -- The measure is how many cells are left. Assumes nothing.
-use borrow.Author.Rules.{rules}
 use Prim.Native.Nat.{◌-◌}
 use lib.ListN.{length}
-use Rattle.lists.proofs.Fits.{word_fits}
-use Rattle.wellformed.proofs.Loops.{RisingTo, rising_none, above_fits, rising_turn, rising_all}
+use Rattle.wellformed.proofs.Loops.{RisingTo}
 use Rattle.wellformed.proofs.cells.rising.Given as goal
 
 abbrev pub invariant-loop-k : goal.invariant-loop-k

@@ -1,5 +1,4 @@
 -- `wellformed::well_formed` meets its contract: each test that holds gives the facts that the next one requires. Assumes nothing.
-use borrow.Author.Rules.{rules}
 use Rattle.wellformed.proofs.Answers.{check_short, check_long, check_range, check_ranged, check_rest}
 use Rattle.wellformed.proofs.check.well_formed.Goals as goal
 

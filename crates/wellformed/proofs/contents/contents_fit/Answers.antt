@@ -1,5 +1,4 @@
 -- `wellformed::contents_fit` meets its contract: its strict tests are those of the definition, in their order (`contents_by`). Assumes nothing.
-use borrow.Author.Rules.{rules}
 use Rattle.lists.proofs.Fits.{word_fits}
 use Rattle.wellformed.proofs.Answers.{square_fits, contents_by}
 use Rattle.wellformed.proofs.contents.contents_fit.Goals as goal

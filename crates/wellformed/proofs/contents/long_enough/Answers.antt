@@ -1,5 +1,4 @@
 -- `wellformed::long_enough` meets its contract: fewer than five words, or the records fit (`long_by`). Assumes nothing.
-use borrow.Author.Rules.{rules}
 use Rattle.lists.proofs.Fits.{word_fits, word_small}
 use Rattle.wellformed.proofs.Answers.{long_short, long_by}
 use Rattle.wellformed.proofs.contents.long_enough.Goals as goal

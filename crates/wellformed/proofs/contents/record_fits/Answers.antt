@@ -1,5 +1,4 @@
 -- `wellformed::record_fits` meets its contract: its strict tests are those of the definition, at the record's words (`record_by`). Assumes nothing.
-use borrow.Author.Rules.{rules}
 use Rattle.lists.proofs.Fits.{word_fits}
 use Rattle.wellformed.proofs.Answers.{record_by}
 use Rattle.wellformed.proofs.contents.record_fits.Goals as goal

@@ -1,8 +1,6 @@
 -- `wellformed::records_fit` meets its contract. The invariant: the flag tells of the first i records (`RecordsTo`). The measure is how many are left.
 -- Assumes nothing.
-use borrow.Author.Rules.{rules}
-use Prim.Native.Nat.{◌-◌}
-use Rattle.wellformed.proofs.Loops.{RecordsTo, records_none, records_next, records_all}
+use Rattle.wellformed.proofs.Loops.{records_none, records_next, records_all}
 use Rattle.wellformed.proofs.contents.records_fit.Goals as goal
 
 pub loop-i-init : goal.loop-i-init

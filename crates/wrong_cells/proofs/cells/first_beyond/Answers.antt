@@ -1,9 +1,6 @@
 -- `wrong_cells::first_beyond` meets its contract. The invariant: no word from the records' end up to k is g² or more (`Beyond`).
 -- The measure is how many words are left. Assumes nothing.
-use borrow.Author.Rules.{rules}
-use Prim.Native.Nat.{◌-◌}
-use lib.ListN.{length}
-use Rattle.wrong_cells.proofs.Finding.{Beyond, beyond_from, beyond_here, beyond_on, beyond_none}
+use Rattle.wrong_cells.proofs.Finding.{beyond_from, beyond_here, beyond_on, beyond_none}
 use Rattle.wrong_cells.proofs.cells.first_beyond.Goals as goal
 
 pub loop-k-init : goal.loop-k-init

@@ -1,9 +1,6 @@
 -- `wrong_cells::first_fall` meets its contract. The invariant: each word of the food up to k is above the one before it (`Falls`).
 -- The measure is how many words are left. Assumes nothing.
-use borrow.Author.Rules.{rules}
-use Prim.Native.Nat.{◌-◌}
-use lib.ListN.{length}
-use Rattle.wrong_cells.proofs.Finding.{Falls, falls_from, food_fits_lem, falls_here, falls_on, falls_none}
+use Rattle.wrong_cells.proofs.Finding.{falls_from, food_fits_lem, falls_here, falls_on, falls_none}
 use Rattle.wrong_cells.proofs.cells.first_fall.Goals as goal
 
 pub overflow_add-k : goal.overflow_add-k

@@ -1,9 +1,7 @@
 -- `wrong_cells::first_twice` meets its contract. The invariant: the bodies so far have no cell twice, and the next stamp is new to the board (`BodiesTo`).
 -- The measure is how many bodies are left. Assumes nothing.
-use borrow.Author.Rules.{rules}
 use Prim.Native.Nat.{◌-◌}
-use Rattle.wellformed.proofs.Loops.{BodiesTo, bodies_none, bodies_next}
-use Rattle.wrong_cells.proofs.Finding.{twice_here, twice_none}
+use Rattle.wellformed.proofs.Loops.{BodiesTo}
 use Rattle.wrong_cells.proofs.cells.first_twice.Given as goal
 
 abbrev pub invariant-loop-i : goal.invariant-loop-i

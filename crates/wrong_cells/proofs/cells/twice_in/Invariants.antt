@@ -1,9 +1,8 @@
 -- `wrong_cells::twice_in` meets its contract. The invariant: no cell before k stood earlier in the body (`Twice`). The measure is how many are left.
 -- Assumes nothing.
-use borrow.Author.Rules.{rules}
 use Prim.Native.Nat.{◌-◌}
 use lib.ListN.{length}
-use Rattle.wrong_cells.proofs.Finding.{Twice, once_none, once_here, once_on, once_all}
+use Rattle.wrong_cells.proofs.Finding.{Twice}
 use Rattle.wrong_cells.proofs.cells.twice_in.Given as goal
 
 abbrev pub invariant-loop-k : goal.invariant-loop-k

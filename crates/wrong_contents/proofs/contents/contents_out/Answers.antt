@@ -1,5 +1,4 @@
 -- `wrong_contents::contents_out` meets its contract: its tests are those of the definition, in their order. Assumes nothing.
-use borrow.Author.Rules.{rules}
 use Rattle.wrong_contents.proofs.Finding.{out_snakes, out_side, out_due, out_birth, out_food}
 use Rattle.wrong_contents.proofs.contents.contents_out.Goals as goal
 

@@ -1,5 +1,4 @@
 -- `wrong_contents::cut_short` meets its contract: fewer than five words, or fewer than the records ask for (`cut_by`). Assumes nothing.
-use borrow.Author.Rules.{rules}
 use Rattle.lists.proofs.Fits.{word_fits, word_small}
 use Rattle.wrong_contents.proofs.Finding.{cut_few, cut_by}
 use Rattle.wrong_contents.proofs.contents.cut_short.Goals as goal

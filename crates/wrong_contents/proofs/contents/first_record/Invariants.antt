@@ -1,10 +1,8 @@
 -- `wrong_contents::first_record` meets its contract. The invariant: the first i records fit (`RecordsTo`). The measure is how many are left.
 -- Assumes nothing.
-use borrow.Author.Rules.{rules}
 use Prim.Native.Nat.{◌-◌}
 use mathlib.Core.Bool.{true}
-use Rattle.wellformed.proofs.Loops.{RecordsTo, records_none}
-use Rattle.wrong_contents.proofs.Finding.{record_here, record_on, record_none}
+use Rattle.wellformed.proofs.Loops.{RecordsTo}
 use Rattle.wrong_contents.proofs.contents.first_record.Given as goal
 
 abbrev pub invariant-loop-i : goal.invariant-loop-i

@@ -1,10 +1,7 @@
 -- `wrong_contents::first_start` meets its contract. The invariant: `due` is where snake i is due, and the starts before it fit (`AddsTo`).
 -- The measure is how many snakes are left. Assumes nothing.
-use borrow.Author.Rules.{rules}
-use Prim.Native.Nat.{◌-◌}
-use mathlib.Core.Bool.{true}
 use Rattle.lists.proofs.Fits.{word_fits, word_small}
-use Rattle.wellformed.proofs.Loops.{AddsTo, adds_none, adds_fits}
+use Rattle.wellformed.proofs.Loops.{adds_none, adds_fits}
 use Rattle.wrong_contents.proofs.Finding.{start_here, start_on, start_small, start_none}
 use Rattle.wrong_contents.proofs.contents.first_start.Goals as goal
 

@@ -1,5 +1,4 @@
 -- `wrong_contents::record_out` meets its contract: the length's own tests, the heading's, and else the flag. Assumes nothing.
-use borrow.Author.Rules.{rules}
 use Rattle.lists.proofs.Fits.{word_fits}
 use Rattle.wrong_contents.proofs.Finding.{out_length, out_heading, out_alive}
 use Rattle.wrong_contents.proofs.contents.record_out.Goals as goal
