@@ -1,8 +1,7 @@
 -- `make_book::table::put_contents` meets its contract: what the check accepts fits its words (`accepted_wordy`), and the array holds the longest contents.
 -- Assumes nothing.
-use borrow.Author.Rules.{rules}
 use Rattle.contents.proofs.Laying.{accepted_wordy}
 use Rattle.make_book.proofs.table.put_contents.Goals as goal
 
-pub write_front-requires : goal.write_front-requires
-write_front-requires c = (search accepted_wordy, search rules)
+pub write_front-requires-clause-wordy : goal.write_front-requires-clause-wordy
+write_front-requires-clause-wordy c = search accepted_wordy

@@ -1,11 +1,6 @@
 -- `make_book::walk::take_part` meets its contract. The invariant: the stream's buffers are ready, no book has more pages than it may, and every buffer
 -- has its length. The measure is what is left of the part. Assumes nothing.
-use Prim.Native.Nat.{◌<◌, ◌-◌, ◌≤◌}
-use native.Mathlib.Omega.{arith}
-use mathlib.Core.Path.{◌≡◌, refl, ◌∙◌}
-use lib.ListN.{length}
-use borrow.Author.Rules.{rules}
-use borrow.Author.Tests.{ltb-true}
+use Rattle.std.proofs.Common.{◌≡◌, ◌-◌, ◌≤◌, length}
 use Rattle.stream.specs.Room.{Ready, Spare}
 use Rattle.make_book.proofs.walk.take_part.Given as goal
 

@@ -1,11 +1,6 @@
-use lib.ListN.{length}
-use mathlib.Core.Path.{◌≡◌}
-use Prim.Native.Nat.{ℕ, ◌+◌, ◌-◌, ◌*◌, ◌≤◌, ◌<◌}
-use native.Mathlib.Omega.{arith}
-use borrow.Author.Rules.{rules}
-use Rattle.make_book.proofs.words.spell.Reads as reads
-use Rattle.make_book.proofs.words.spell.Lts as lts
-use Rattle.make_book.proofs.words.put_word.Reads as put-word-reads
+-- `make_book::words::spell` meets its contract. The invariant: i counts the words, and the bytes keep their number. The measure is how many words are left.
+-- Assumes nothing.
+use Rattle.std.proofs.Common.{◌≡◌, ◌-◌, ◌≤◌, length}
 use Rattle.make_book.proofs.words.spell.Given as goal
 
 abbrev pub invariant-loop-i : goal.invariant-loop-i
