@@ -45,14 +45,14 @@ turn_distinct cells (c ∷ l) u g =
     distinct_more c l (fails (member c l) (λ m. not_in_without c cells u (turn_among (without c cells) l g.1 c m)))
     (turn_distinct (without c cells) l (distinct_without c cells u) g.1)
 
-pick_length : (cells ds : List ℕ) → length (pick cells ds) ≡ length ds
+pick_length : (ds cells : List ℕ) → length (pick cells ds) ≡ length ds
 unfolding pick
-pick_length cells [] = refl
-pick_length cells (d ∷ ds) = ap suc (pick_length (without (get_or cells d 0) cells) ds)
+pick_length [] cells = refl
+pick_length (d ∷ ds) cells = ap suc (pick_length ds _)
 
 pub drawn_length : (cells : List ℕ) (k i : ℕ) → length (drawn_from cells k i) ≡ k
 unfolding drawn_from
-drawn_length cells k i = pick_length cells (digits (length cells) k i) ∙ digits_length (length cells) k i
+drawn_length cells k i = pick_length (digits (length cells) k i) cells ∙ digits_length (length cells) k i
 
 pub drawn_none : (cells : List ℕ) (i : ℕ) → drawn_from cells 0 i ≡ []
 unfolding drawn_from pick digits

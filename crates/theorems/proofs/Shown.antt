@@ -1,10 +1,10 @@
 -- What a fault names is the first that shows it: the record out of range, the start out of line, the body with a cell twice (02, wish 4). Assumes nothing.
-use Prim.Native.Nat.{ℕ, ◌<◌, ◌≤◌}
+use Prim.Native.Nat.{ℕ, ◌<◌}
 use mathlib.Core.Path.{◌≡◌, sym, ◌∙◌}
 use mathlib.Core.Bool.{Bool, true, false, not, true≢false}
 use mathlib.Core.List.{List}
 use lib.Dec.{eqb}
-use borrow.Author.Tests.{eqb-true, eqb-false, not-true, not-false}
+use borrow.Author.Tests.{not-true, not-false}
 use Rattle.lists.specs.Below.{all_below}
 use Rattle.lists.specs.Lists.{distinct}
 use Rattle.lists.proofs.Tests.{ordered, less, more}

@@ -1,22 +1,21 @@
 -- Who was hit where, of the calls' answers: beside the events of the step of the same setting, image and actions. Assumes nothing.
 use Prim.Native.Nat.{ℕ, ◌<◌, ◌≤◌}
 use native.Mathlib.Omega.{arith}
-use mathlib.Core.Path.{◌≡◌, refl, sym, ap, subst, ◌∙◌}
+use mathlib.Core.Path.{◌≡◌, sym, ap, subst, ◌∙◌}
 use mathlib.Core.Bool.{Bool, true, false, not}
 use mathlib.Core.List.{List, ◌++◌}
 use lib.Dec.{ltb}
 use lib.ListN.{length, get_or, replicate}
-use Rattle.lists.specs.Below.{each_below, filled}
-use Rattle.lists.specs.Lists.{all}
+use Rattle.lists.specs.Below.{each_below}
 use Rattle.lists.proofs.Tests.{and_right}
 use Rattle.lists.proofs.Lists.{all_append}
 use Rattle.lists.proofs.Below.{each_at, each_past, filled_at, filled_is}
 use Rattle.rules.specs.Tables.{Table, none_hold}
 use Rattle.rules.specs.State.{State, nobody, count}
 use Rattle.rules.specs.Setting.{setting_order}
-use Rattle.rules.specs.Image.{snakes_in, state_of}
-use Rattle.rules.specs.Events.{blank, eight}
-use Rattle.rules.specs.Step.{Moved, Transition, stays, moved_of, cause_of, transition_of, stepped}
+use Rattle.rules.specs.Image.{state_of}
+use Rattle.rules.specs.Events.{blank}
+use Rattle.rules.specs.Step.{Moved, stays, moved_of, cause_of, transition_of, stepped}
 use Rattle.rules.specs.Struck.{no_hit, hit_of, hits_in, strikes, HitsItself, HitsAnother}
 use Rattle.rules.specs.Faults.{image_rows}
 use Rattle.rules.specs.Orders.{asked_rows, struck_order, step_order}

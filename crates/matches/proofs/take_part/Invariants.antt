@@ -2,7 +2,6 @@ use Rattle.stream.specs.Room.{Ready}
 use lib.ListN.{length}
 use mathlib.Core.Path.{◌≡◌}
 use Prim.Native.Nat.{◌-◌}
-use borrow.Author.Rules.{rules}
 use Rattle.matches.proofs.take_part.Given as goal
 
 abbrev pub invariant-loop-f : goal.invariant-loop-f

@@ -1,5 +1,4 @@
 -- The turns count down. The lent slices keep their lengths.
-use borrow.Author.Rules.{rules}
 use mathlib.Core.Path.{◌≡◌}
 use lib.ListN.{length}
 use Rattle.probe.proofs.serve.Given as goal

@@ -1,5 +1,4 @@
 -- Every turn takes one byte. The lent slices keep their lengths.
-use borrow.Author.Rules.{rules}
 use Prim.Native.Nat.{◌-◌, ◌≤◌}
 use mathlib.Core.Path.{◌≡◌}
 use lib.ListN.{length}

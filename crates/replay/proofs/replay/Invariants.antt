@@ -1,7 +1,6 @@
 use Rattle.stream.specs.Room.{Ready}
 use lib.ListN.{length}
 use mathlib.Core.Path.{◌≡◌}
-use borrow.Author.Rules.{rules}
 use Rattle.replay.proofs.replay.Given as goal
 
 abbrev pub invariant-loop-turns : goal.invariant-loop-turns

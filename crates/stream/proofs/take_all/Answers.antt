@@ -1,16 +1,13 @@
 -- `stream::take_all` meets its contract. The invariant: the buffers are ready, and what was taken so far was taken step by step. The measure is what is
 -- left of the part. Assumes nothing.
 use borrow.Author.Rules.{rules}
-use borrow.Author.Tests.{ltb-true, ltb-false}
-use Prim.Native.Nat.{◌<◌, ◌-◌}
 use native.Mathlib.Omega.{arith}
-use mathlib.Core.Path.{◌≡◌, refl, sym, ◌∙◌}
+use mathlib.Core.Path.{refl, sym, ◌∙◌}
 use mathlib.Core.Bool.{true≢false}
 use mathlib.Core.List.{[], ◌++◌}
-use lib.ListN.{length, take, drop_of_length-le}
-use Rattle.stream.specs.Room.{Ready, Spare}
+use lib.ListN.{take, drop_of_length-le}
 use Rattle.stream.specs.Steps.{none, more}
-use Rattle.stream.proofs.Taking.{Stepped, printed_or_not}
+use Rattle.stream.proofs.Taking.{printed_or_not}
 use Rattle.stream.proofs.take_all.Goals as goal
 
 pub loop-r-init : goal.loop-r-init

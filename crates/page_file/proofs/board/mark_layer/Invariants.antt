@@ -3,7 +3,6 @@
 use Prim.Native.Nat.{◌≤◌}
 use mathlib.Core.Path.{◌≡◌}
 use lib.ListN.{length}
-use borrow.Author.Rules.{rules}
 use Rattle.page_file.proofs.board.mark_layer.Given as goal
 
 abbrev pub invariant-loop-i : goal.invariant-loop-i

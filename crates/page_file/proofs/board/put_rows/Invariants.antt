@@ -1,6 +1,5 @@
 -- `page_file::board::put_rows` meets its contract. The invariant: a row has at most 32 squares. The measure is how many rows are left. Assumes nothing.
 use Prim.Native.Nat.{◌*◌, ◌-◌, ◌≤◌}
-use borrow.Author.Rules.{rules}
 use Rattle.page_file.proofs.board.put_rows.Given as goal
 
 abbrev pub invariant-loop-row : goal.invariant-loop-row

@@ -1,7 +1,6 @@
 -- `page_file::moves::moves_to` meets its contract. The invariant: no more moves than pages are counted. The measure is how many pages are left. Assumes
 -- nothing.
 use Prim.Native.Nat.{◌-◌, ◌≤◌}
-use borrow.Author.Rules.{rules}
 use Rattle.page_file.proofs.moves.moves_to.Given as goal
 
 abbrev pub invariant-loop-i : goal.invariant-loop-i

@@ -1,5 +1,4 @@
 -- `page_file::pages::food_in` meets its contract: an image that passes the check is sound (`passed`). Assumes nothing.
-use borrow.Author.Rules.{rules}
 use Rattle.rules.proofs.Facts.{passed}
 use Rattle.page_file.proofs.pages.food_in.Goals as goal
 

@@ -1,6 +1,5 @@
 use lib.ListN.{length}
 use Prim.Native.Nat.{◌-◌}
-use borrow.Author.Rules.{rules}
 use Rattle.replies.proofs.buffers.planes_kept.Given as goal
 
 abbrev pub invariant-loop-k : goal.invariant-loop-k

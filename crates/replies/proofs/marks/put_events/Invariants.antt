@@ -2,7 +2,6 @@
 use lib.ListN.{length}
 use mathlib.Core.Path.{◌≡◌}
 use Prim.Native.Nat.{◌-◌, ◌≤◌}
-use borrow.Author.Rules.{rules}
 use Rattle.replies.proofs.marks.put_events.Given as goal
 
 abbrev pub invariant-loop-i : goal.invariant-loop-i

@@ -2,7 +2,6 @@
 use lib.ListN.{length}
 use mathlib.Core.Path.{◌≡◌}
 use Prim.Native.Nat.{◌-◌, ◌≤◌}
-use borrow.Author.Rules.{rules}
 use Rattle.replies.proofs.reply.put_numbers.Given as goal
 
 abbrev pub invariant-loop-k : goal.invariant-loop-k

@@ -4,7 +4,6 @@ use mathlib.Core.Bool.{false, not}
 use lib.Dec.{T}
 use lib.Ieee.{Float, nan, inf, fin, ne, is_nan}
 use lib.Ieee.Compare.{nan_differs}
-use borrow.Author.Rules.{rules}
 use Rattle.replies.proofs.rewards.bits_of.Goals as goal
 
 real : (x : Float) → ne x x ≡ false → T (not (is_nan x))

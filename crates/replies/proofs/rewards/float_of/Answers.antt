@@ -5,7 +5,6 @@ use lib.Dec.{T}
 use lib.Ieee.{binary64}
 use lib.Ieee.Bits.{nan_bits_above}
 use borrow.Author.Tests.{le-ltb}
-use borrow.Author.Rules.{rules}
 use Rattle.replies.proofs.rewards.float_of.Goals as goal
 
 pub float_from_bits-result : goal.float_from_bits-result

@@ -1,9 +1,5 @@
 -- Every turn puts one word. The text keeps its length.
-use lib.ListN.{length}
-use mathlib.Core.Path.{◌≡◌}
-use Prim.Native.Nat.{◌-◌, ◌≤◌}
 use native.Mathlib.Omega.{arith}
-use borrow.Author.Rules.{rules}
 use Rattle.replies.proofs.writing.put_each.Goals as goal
 
 pub overflow_cast-words : goal.overflow_cast-words

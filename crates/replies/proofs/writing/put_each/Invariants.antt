@@ -2,8 +2,6 @@
 use lib.ListN.{length}
 use mathlib.Core.Path.{◌≡◌}
 use Prim.Native.Nat.{◌-◌, ◌≤◌}
-use native.Mathlib.Omega.{arith}
-use borrow.Author.Rules.{rules}
 use Rattle.replies.proofs.writing.put_each.Given as goal
 
 abbrev pub invariant-loop-k : goal.invariant-loop-k
