@@ -1,63 +1,50 @@
 # shellcheck shell=sh disable=SC2154,SC2034
-# The port's programs, for the commands beside it (play, probe, book, page): proved and built where they are missing or a source has changed, run as the
-# kit runs them. It is sourced, with `root` (the repository) and `self` (the command that messages name); a command calls `build NAME`, then `run NAME`
+# The port's programs, for the commands beside it (play, probe, book, page): proved and built where they are missing or a source has changed, and run as they
+# are. It is sourced, with `root` (the repository) and `self` (the command that messages name); a command calls `build NAME`, then `run NAME`
 # or `run_told NAME`.
 
 tell() { printf '%s: %s\n' "$self" "$*" >&2; }
 die() { tell "$*"; exit 2; }
 
-find_kit() {
-    command -v rt >/dev/null 2>&1 || die "the Rattle kit is missing: no command rt"
-    kit=${RATTLE_HOME:-$(dirname "$(dirname "$(rt doc)")")}
-    tools=$kit/on/$(uname -m)/toolchain
-    [ -e "$tools/lib/ld-linux-x86-64.so.2" ] || die "the kit has no loader for $(uname -m)"
-}
+find_kit() { command -v rt >/dev/null 2>&1 || die "the Rattle kit is missing: no command rt"; }
 
-# Becomes the program. Programs are made for x86-64: the kit's loader runs them, elsewhere under its emulator.
+# Where `rt run` leaves a proved program: an x86-64 one, which the machine's own C library loads.
+program_of() { printf '%s\n' "$root/crates/$1/out/$1"; } # NAME
+
+# Becomes the program.
 run() { # NAME [ARGUMENT..]
-    [ -n "${tools:-}" ] || find_kit
-    bin=$root/target/bin/$1
+    bin=$(program_of "$1")
     shift
-    set -- "$tools/lib/ld-linux-x86-64.so.2" --library-path "$tools/lib" "$bin" "$@"
-    [ ! -x "$tools/bin/qemu-x86_64" ] || set -- "$tools/bin/qemu-x86_64" "$@"
-    exec "$@"
+    exec "$bin" "$@"
 }
 
-# NAME and the crates that it stands on, in the order in which `rt check` proves them.
+# NAME and the crates that it stands on, in the order in which `rt run` proves them.
 needed_by() { # NAME
     awk -v name="$1" '
-        function visit(n,    k, part, i, high) {
-            if (n in level) return
-            level[n] = 0
+        function visit(n,    k, part, i) {
+            if (n in seen) return
+            seen[n]
             k = split(needs[n], part, " ")
-            for (i = 1; i <= k; i++) if (part[i] in needs) {
-                visit(part[i])
-                if (level[part[i]] >= high) high = level[part[i]] + 1
-            }
-            level[n] = high + 0
-            if (high > top) top = high
-            order[++count] = n
+            for (i = 1; i <= k; i++) if (part[i] in needs) visit(part[i])
+            print n
         }
         { sub(/#.*/, "") }
         /:/ { n = $1; sub(/:.*/, "", n); sub(/^[^:]*:/, ""); needs[n] = $0 }
-        END {
-            visit(name)
-            for (l = 0; l <= top; l++) for (i = 1; i <= count; i++) if (level[order[i]] == l) print order[i]
-        }' "$root/crates.txt"
+        END { visit(name) }' "$root/crates.txt"
 }
 
-# The sum of what NAME is proved from: the kit, crates.txt and the files of the crates that it needs.
+# The sum of what NAME is proved from: the kit, crates.txt and the files of the crates that it needs, but for what is made of them.
 sum_of_sources() { # NAME
     (
         cd "$root" && rt version && sha256sum <crates.txt
-        for crate in $(needed_by "$1"); do find "crates/$crate" -type f -exec sha256sum {} +; done | LC_ALL=C sort
+        for crate in $(needed_by "$1"); do find "crates/$crate" -path "crates/$crate/out" -prune -o -type f -exec sha256sum {} +; done | LC_ALL=C sort
     ) | sha256sum
 }
 sum_of_program() { sha256sum <"$program"; }
 
-# The last proof was of these sources and left this very program. `rt check` would tell as much of the sources; this is quicker, and writes nothing.
+# The last proof was of these sources and left this very program. `rt run` would tell as much; this is quicker, writes nothing, and waits for no other rt.
 is_built() { # NAME
-    program=$root/target/bin/$1 record=$root/target/$1.built
+    program=$(program_of "$1") record=$root/target/$1.built
     now=$(sum_of_sources "$1")
     [ -x "$program" ] && [ -r "$record" ] && [ "$(cat "$record")" = "$now $(sum_of_program)" ]
 }
@@ -77,25 +64,34 @@ build() { # NAME
     } 9>"$root/target/building"
 }
 
+# rt proves what has changed and makes a program again that is gone, or is not what these sources gave. Then it runs it, on no input, and ends as the program
+# does: that it was proved is told by rt's line before that.
 prove() { # NAME
-    log=$root/target/$1.log status=0
-    # rt looks at the sources alone. Without its stamp it makes a program again: one that is gone, or is not what these sources gave
-    case $(cat "$record" 2>/dev/null) in "$now "*) rm -f "$root/target/stamp/$1" ;; esac
-    [ -x "$program" ] || rm -f "$root/target/stamp/$1"
-    check_shown "$1" "$log" || status=$?
-    [ "$status" -eq 0 ] || die "$1 is not proved ($(grep '^rt: ' "$log" | tail -n 1)); what the prover said is in $log"
+    log=$root/target/$1.log
+    run_shown "$1" "$log" || true
+    grep -q "^rt: running out/$1;" "$log" || die "$1 is not proved ($(reason "$log")); what the prover said is in $log"
     [ -x "$program" ] || die "$1 was proved and not built; what the prover said is in $log"
     printf '%s\n' "$now $(sum_of_program)" >"$record"
 }
 
-# `rt check NAME`: its lines go to LOG, how far it is to standard error. In a shell of its own, so that a command's traps stay as they are.
-check_shown() ( # NAME LOG
+# Why it is not proved: the library that fell, else the first function without a proof, else the last thing that rt or the prover said.
+reason() { # LOG
+    awk '
+        /^rt: (the library .* did not build|mend these first)/ { library = $0 }
+        /^(fn|impl|struct) .*: (no proof|not proved)/ && !fallen { fallen = $0; sub(/: (no proof|not proved).*/, ": no proof", fallen) }
+        /^rt: / && !/^rt: chose / && !/: begins with what a check kept/ { said = $0 }
+        NF { last = $0 }
+        END { print library ? library : fallen ? fallen : said ? said : last ? last : "it said nothing" }' "$1"
+}
+
+# `rt run` of NAME: its lines go to LOG, how far it is to standard error. In a shell of its own, so that a command's traps stay as they are.
+run_shown() ( # NAME LOG
     : >"$2"
     # shellcheck disable=SC2046
     show_progress "$1" "$2" $(needed_by "$1") 9>&- &
     shower=$! status=0
     trap 'kill "$shower" 2>/dev/null; exit 130' HUP INT TERM
-    (cd "$root" && rt check "$1") >"$2" 2>&1 || status=$?
+    (cd "$root/crates/$1" && rt run </dev/null) >"$2" 2>&1 || status=$?
     kill "$shower" 2>/dev/null
     wait "$shower" 2>/dev/null
     ! renews || printf '\r\033[K' >&2
@@ -123,19 +119,15 @@ show_progress() { # NAME LOG CRATE..
 }
 renews() { [ -t 2 ] && [ "${TERM:-dumb}" != dumb ]; }
 
-# `5 of 17: image`, the first crate of which rt has not yet said how it went.
+# `5 of 17: image`, the crate that rt has begun last. It says nothing of one that has not changed.
 being_proved() { # LOG CRATE..
     log=$1
     shift
     awk -v crates="$*" '
-        $1 == "rt:" { told[$2] = 1 }
+        /^rt: chose --jobs [0-9]+ for / { at = $6 }
         END {
             n = split(crates, crate, " ")
-            for (i = 1; i <= n; i++) if (crate[i] in told) done++
-            for (i = 1; i <= n; i++) if (!(crate[i] in told)) {
-                print done + 1 " of " n ": " crate[i]
-                exit
-            }
+            for (i = 1; i <= n; i++) if (crate[i] == at) print i " of " n ": " at
         }' "$log"
 }
 
