@@ -1,4 +1,4 @@
-use Rattle.std.proofs.Common.{◌≡◌, refl, ◌∙◌, length, arith, rules}
+use Rattle.std.proofs.Common.{refl, arith, rules}
 use Rattle.make_book.proofs.walk.take_part.Goals as goal
 
 pub loop-t-init : goal.loop-t-init
