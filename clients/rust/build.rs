@@ -1,5 +1,5 @@
 // Links libbindings.a of the folder that LUNDASPRO_LIB names, or its liblundaspro.so (dist/x86-64, dist/aarch64) where it has no archive. Without LUNDASPRO_LIB
-// the folder is the one that `rt lib` in crates/bindings writes to.
+// the folder is the one that `clients/archive` writes to.
 use std::env;
 use std::path::PathBuf;
 
@@ -9,7 +9,7 @@ fn main() {
         .map(PathBuf::from)
         .unwrap_or_else(|| {
             PathBuf::from(env::var_os("CARGO_MANIFEST_DIR").expect("cargo sets it"))
-                .join("../../crates/bindings/out")
+                .join("../../target/staticlib")
         });
     let archive = folder.join("libbindings.a");
     let shared = folder.join("liblundaspro.so");
@@ -23,7 +23,7 @@ fn main() {
     }
     if !archive.exists() {
         println!(
-            "cargo:warning=no {}: `rt lib` in the repository's crates/bindings makes it in out/ there; LUNDASPRO_LIB names another folder, as dist/x86-64",
+            "cargo:warning=no {}: `clients/archive` makes it in the repository's target/staticlib; LUNDASPRO_LIB names another folder, as dist/x86-64",
             archive.display()
         );
     }

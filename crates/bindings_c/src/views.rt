@@ -1,0 +1,105 @@
+// The calls on what an agent sees, may do and gets.
+ghost use Rattle.std.specs.Prelude.{◌≡◌, length};
+ghost use Rattle.rules.specs.Headings.{number_of, heading_of, action_of, turned};
+ghost use Rattle.rules.specs.Says.{says_space, gives};
+ghost use Rattle.rules.specs.Calls.{observe_says, actor_says, legal_says, key_says, truncation_says, reward_says, space_says, action_says};
+ghost use Rattle.flat.specs.Flat.{grid_in, weights_in, event_in, event_bytes};
+ghost use Rattle.bindings.specs.Exports.{one, whole, bit_number, key_numbers, action_numbers, Tells, Writes, FlatSpace};
+
+// How many numbers. Refusals 50 to 56, 26, 29.
+#[unsafe(no_mangle)]
+pub extern "C" fn lundaspro_flat_observe(
+    image: &[u16],
+    agent: u64,
+    obs: &mut [f32],
+    written: &mut [u64; 1],
+) -> u64
+    ensures { Writes whole (observe_says image.now agent (length obs.old)) obs.old obs.new written.old written.new result }
+{
+    bindings::lundaspro_flat_observe(image, agent, obs, written)
+}
+
+// Refusal 5.
+#[unsafe(no_mangle)]
+pub extern "C" fn lundaspro_flat_observation_space(
+    grid: u64,
+    sizes: &mut [u64; 5],
+    bounds: &mut [f32; 2],
+) -> u64
+    ensures { FlatSpace (space_says (grid_in grid)) sizes.old sizes.new bounds.old bounds.new result }
+{
+    bindings::lundaspro_flat_observation_space(grid, sizes, bounds)
+}
+
+// Never refused.
+#[unsafe(no_mangle)]
+pub extern "C" fn lundaspro_flat_action_space(sizes: &mut [u64; 5], bounds: &mut [f32; 2]) -> u64
+    ensures { FlatSpace action_says sizes.old sizes.new bounds.old bounds.new result }
+{
+    bindings::lundaspro_flat_action_space(sizes, bounds)
+}
+
+// Whether there is a key, and the key. Refusals 50 to 56.
+#[unsafe(no_mangle)]
+pub extern "C" fn lundaspro_flat_length_cell(image: &[u16], key: &mut [u64; 2]) -> u64
+    ensures { Tells key_numbers (key_says image.now) key.old key.new result }
+{
+    bindings::lundaspro_flat_length_cell(image, key)
+}
+
+// 1 where chance acts. Refusals 50 to 56.
+#[unsafe(no_mangle)]
+pub extern "C" fn lundaspro_flat_actor(image: &[u16], chance: &mut [u64; 1]) -> u64
+    ensures { Tells bit_number (actor_says image.now) chance.old chance.new result }
+{
+    bindings::lundaspro_flat_actor(image, chance)
+}
+
+// How many actions, from 0 on. Refusals 50 to 56, 26.
+#[unsafe(no_mangle)]
+pub extern "C" fn lundaspro_flat_legal_actions(
+    image: &[u16],
+    agent: u64,
+    actions: &mut [u64; 1],
+) -> u64
+    ensures { Tells action_numbers (legal_says image.now agent) actions.old actions.new result }
+{
+    bindings::lundaspro_flat_legal_actions(image, agent, actions)
+}
+
+// The marked event. Refusals 50 to 56, 26.
+#[unsafe(no_mangle)]
+pub extern "C" fn lundaspro_flat_truncation(
+    image: &[u16],
+    agent: u64,
+    event: &[u8; 8],
+    marked: &mut [u8; 8],
+) -> u64
+    ensures { Tells event_bytes (truncation_says image.now agent (event_in event.now)) marked.old marked.new result }
+{
+    bindings::lundaspro_flat_truncation(image, agent, event, marked)
+}
+
+// Refusal 31, for infinities and NaN.
+#[unsafe(no_mangle)]
+pub extern "C" fn lundaspro_flat_reward(
+    weights: &[f64; 7],
+    event: &[u8; 8],
+    sum: &mut [f64; 1],
+) -> u64
+    ensures { Tells one (reward_says (weights_in weights.now) (event_in event.now)) sum.old sum.new result }
+{
+    bindings::lundaspro_flat_reward(weights, event, sum)
+}
+
+// A heading above 3 is read as 3, an action above 2 as 2. Never refused.
+#[unsafe(no_mangle)]
+pub extern "C" fn lundaspro_flat_relative_to_absolute(
+    heading: u64,
+    action: u64,
+    after: &mut [u64; 1],
+) -> u64
+    ensures { Tells one (gives (number_of (turned (heading_of heading) (action_of action)))) after.old after.new result }
+{
+    bindings::lundaspro_flat_relative_to_absolute(heading, action, after)
+}
