@@ -1,4 +1,4 @@
--- What bounds a draw: the squares of the grid, the free cells, 64 bits; and what stays due after it. Assumes nothing.
+-- What bounds a draw: the squares of the grid, the free cells, 64 bits. Assumes nothing.
 use mathlib.Core.Path.{◌≡◌, sym, ap, ◌∙◌}
 use mathlib.Core.List.{List}
 use Prim.Native.Nat.{ℕ, ◌-◌, ◌≤◌, ◌<◌, ◌^◌}
