@@ -10,10 +10,6 @@ truncating_f64_to_u64-whole-requires-clause-lower_bound c = (product c.args.coun
 pub truncating_f64_to_u64-whole-requires-clause-upper_bound : goal.truncating_f64_to_u64-whole-requires-clause-upper_bound
 truncating_f64_to_u64-whole-requires-clause-upper_bound c = (product c.args.count c.args.u c.requires).below
 
-pub returns-then-whole-count : goal.returns-then-whole-count
+pub returns : goal.returns
 unfolding outcome_of
-returns-then-whole-count c = search rules
-
-pub returns-else-whole-count : goal.returns-else-whole-count
-unfolding outcome_of
-returns-else-whole-count c = search rules
+returns c = search rules
