@@ -50,10 +50,8 @@ fn records_fit(image: &[u16], area: usize, n: usize) -> bool
     ensures { result ≡ all_below n (record_fits image.now) }
 {
     let mut fit = true;
-    let mut i = 0;
-    while i < n {
-        fit = fit & record_fits(image, area, i);
-        i += 1;
+    for i in 0..n {
+        fit &= record_fits(image, area, i);
     }
     fit
 }
@@ -77,11 +75,9 @@ pub fn laid_out(image: &[u16]) -> Layout
     let n = image[0] as usize;
     let mut due = front(n);
     let mut fits = true;
-    let mut i = 0;
-    while i < n {
-        fits = fits & (image[start_at(i)] as usize == due);
+    for i in 0..n {
+        fits &= image[start_at(i)] as usize == due;
         due += image[length_at(i)] as usize;
-        i += 1;
     }
     Layout { fits, food: due }
 }

@@ -1,5 +1,5 @@
 -- `wellformed::laid_out` meets its contract. The invariant: `due` is where snake i is due, and the flag tells of the starts before it (`AddsTo`).
--- The measure is how many snakes are left. Assumes nothing.
+-- Assumes nothing.
 use Rattle.lists.proofs.Fits.{word_fits}
 use Rattle.wellformed.proofs.Loops.{adds_none, adds_fits, adds_next, adds_all}
 use Rattle.wellformed.proofs.contents.laid_out.Goals as goal

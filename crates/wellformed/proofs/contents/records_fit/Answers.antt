@@ -1,4 +1,4 @@
--- `wellformed::records_fit` meets its contract. The invariant: the flag tells of the first i records (`RecordsTo`). The measure is how many are left.
+-- `wellformed::records_fit` meets its contract. The invariant: the flag tells of the first i records (`RecordsTo`).
 -- Assumes nothing.
 use Rattle.wellformed.proofs.Loops.{records_none, records_next, records_all}
 use Rattle.wellformed.proofs.contents.records_fit.Goals as goal
