@@ -77,8 +77,8 @@ module _ (w : List ℕ) where
     pub record_on : not b ≡ false → RecordsTo w n true (i + 1)
     record_on t = rw (not-false b t) at (records_next w n true i v h b e)
 
-  pub record_none : (n i : ℕ) → RecordsTo w n true i → n ≤ i → i ≡ first_out n (record_fits w)
-  record_none n i v l = out_none (record_fits w) n i v.within l (sym v.so_far)
+  pub record_none : (n i : ℕ) → RecordsTo w n true i → n ≤ i → n ≡ first_out n (record_fits w)
+  record_none n i v l = let e : n ≡ i = omega (arith, v.within) in e ∙ out_none (record_fits w) n i v.within l (sym v.so_far)
 
   -- ---- `first_start`: the starts so far fit, and the next is due at `due`
 
@@ -93,10 +93,8 @@ module _ (w : List ℕ) where
       pub start_on : get_or w k 0 ≡ due → (m : ℕ) → m ≡ 6 + 4 * i → AddsTo w (due + get_or w m 0) true (i + 1)
       start_on z m q = rw (eq-eqb (get_or w k 0) due z) at (adds_next w due true i v h m q k e)
 
-    pub start_none : snakes_in w ≤ i → (r : ℕ) → r ≡ 5 + 4 * i → r ≡ start_word w
+    pub start_none : snakes_in w ≤ i → (r : ℕ) → r ≡ 5 + 4 * snakes_in w → r ≡ start_word w
     unfolding start_word
-    start_none l r q = q ∙ ap (λ (j : ℕ). 5 + 4 * j) (out_none (start_fits w) (snakes_in w) i v.within l (sym v.so_far))
-
-    -- the loop's end is a place too
-    pub start_small : snakes_in w < 65536 → i < 65536
-    start_small h = omega (arith, v.within)
+    start_none l r q =
+        let e : snakes_in w ≡ i = omega (arith, v.within) in
+        q ∙ ap (λ (j : ℕ). 5 + 4 * j) (e ∙ out_none (start_fits w) (snakes_in w) i v.within l (sym v.so_far))

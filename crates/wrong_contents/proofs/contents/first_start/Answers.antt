@@ -1,8 +1,8 @@
 -- `wrong_contents::first_start` meets its contract. The invariant: `due` is where snake i is due, and the starts before it fit (`AddsTo`).
--- The measure is how many snakes are left. Assumes nothing.
+-- Assumes nothing.
 use Rattle.lists.proofs.Fits.{word_fits, word_small}
 use Rattle.wellformed.proofs.Loops.{adds_none, adds_fits}
-use Rattle.wrong_contents.proofs.Finding.{start_here, start_on, start_small, start_none}
+use Rattle.wrong_contents.proofs.Finding.{start_here, start_on, start_none}
 use Rattle.wrong_contents.proofs.contents.first_start.Goals as goal
 
 pub loop-i-init : goal.loop-i-init
@@ -24,7 +24,7 @@ pub loop-i-preserved : goal.loop-i-preserved
 loop-i-preserved c = start_on _ _ _ (search) (search) _ c.start_at.ensures (search) _ c.length_at.ensures
 
 pub start_at-requires-2 : goal.start_at-requires-2
-start_at-requires-2 c = search (start_small, word_small)
+start_at-requires-2 c = search word_small
 
 pub returns : goal.returns
 returns c = search start_none
