@@ -58,18 +58,6 @@ fn rising(food: &[u16]) -> bool
     rises
 }
 
-// The bodies' own tests, then the food's.
-fn lists_fit(image: &[u16], food: usize) -> bool
-    requires on_board { OnBoard image.now }
-    requires food_value { food ≡ food_start image.now }
-    ensures { result ≡ every (bodies_fit image.now ∷ food_fits image.now ∷ []) }
-{
-    if !bodies_fit(image) {
-        return false;
-    }
-    rising(&image[food..])
-}
-
 pub fn cells_fit(image: &[u16]) -> bool
     requires { Ranged image.now }
     ensures { result ≡ cells_fit image.now }
@@ -85,8 +73,5 @@ pub(crate) fn parts_fit(image: &[u16], food: usize) -> bool
     requires food_value { food ≡ food_start image.now }
     ensures { result ≡ every (cells_fit image.now ∷ bodies_fit image.now ∷ food_fits image.now ∷ []) }
 {
-    if !cells_fit(image) {
-        return false;
-    }
-    lists_fit(image, food)
+    cells_fit(image) && bodies_fit(image) && rising(&image[food..])
 }

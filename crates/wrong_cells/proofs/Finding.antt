@@ -64,9 +64,6 @@ module _ (w : List ℕ) where
     unfolding twice_in
     twice_fits r z = omega (arith, lowest_le (λ j. member (get_or part j 0) (take j part)) 0 (length part), part_long, body_fits w o i h k m e q)
 
-    pub twice_by : (r : ℕ) → r ≡ twice_in part → get_or w k 0 + r ≡ start_at w i + twice_in (body_at w i)
-    twice_by r z = rw (z, body_is w o i h k m e q, e)
-
   -- ---- `first_fall`
 
   pub record Falls (k : ℕ) : Type 0 where
@@ -77,9 +74,6 @@ module _ (w : List ℕ) where
   pub falls_from : (food : ℕ) → food ≡ food_start w → Falls (food + 1)
   unfolding food_word
   falls_from food e = record { above = omega arith; within = omega arith; passing = rw e (pass_from _ (length w) (food_start w + 1)) }
-
-  pub food_fits_lem : Laid w → (food : ℕ) → food ≡ food_start w → Fits w64 (food + 1)
-  food_fits_lem l food e = omega (arith, l.ranged.food_early)
 
   module _ (k : ℕ) (q : Falls k) where
     pub falls_here : k < length w → get_or w k 0 ≤ get_or w (k - 1) 0 → k ≡ food_word w

@@ -1,10 +1,7 @@
 -- `wrong_cells::first_fall` meets its contract. The invariant: each word of the food up to k is above the one before it (`Falls`).
 -- Assumes nothing.
-use Rattle.wrong_cells.proofs.Finding.{falls_from, food_fits_lem, falls_here, falls_on, falls_none}
+use Rattle.wrong_cells.proofs.Finding.{falls_from, falls_here, falls_on, falls_none}
 use Rattle.wrong_cells.proofs.cells.first_fall.Goals as goal
-
-pub overflow_add-food : goal.overflow_add-food
-overflow_add-food c = search food_fits_lem
 
 pub loop-k-init : goal.loop-k-init
 loop-k-init c = search falls_from
