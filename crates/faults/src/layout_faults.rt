@@ -43,10 +43,9 @@ pub(crate) fn layout_fault(image: &[u16]) -> Refusal
     if !found.fits {
         return by_word(52, first_start(image));
     }
-    let food = found.food;
-    let total = food + image[4] as usize;
+    let total = found.food + image[4] as usize;
     if total != image.len() {
         return by_word(53, smaller(total, image.len()));
     }
-    cells_fault(image, food)
+    cells_fault(image, found.food)
 }
