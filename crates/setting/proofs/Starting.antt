@@ -1,6 +1,5 @@
 -- From the words of the initial state to the promise of the call. Assumes nothing.
-use Prim.Native.Nat.{ℕ, ◌+◌, ◌-◌, ◌*◌, ◌<◌, ◌≤◌}
-use native.Mathlib.Nat.{sub-zero}
+use Prim.Native.Nat.{ℕ, ◌+◌, ◌*◌, ◌<◌, ◌≤◌}
 use native.Mathlib.Omega.{arith}
 use mathlib.Core.Path.{◌≡◌, refl, sym, ap, ◌∙◌}
 use mathlib.Core.List.{List, [], ◌∷◌, ◌++◌}
@@ -59,10 +58,10 @@ module _ (s : Setting) (e : setting_check s ≡ 0) where
   total_most : s.num_snakes * s.initial_length ≤ 1024
   total_most = let a = accepts s e in omega (arith, a.food_free, square_le (side_of s.grid_size) a.side_max)
 
-  part_cells : (old new : List ℕ) → new ≡ write_at old 0 (start_cells s) → take (s.num_snakes * s.initial_length - 0) new ≡ start_cells s
+  part_cells : (old new : List ℕ) → new ≡ write_at old 0 (start_cells s) → take (s.num_snakes * s.initial_length) new ≡ start_cells s
   unfolding over_front
   part_cells old new q =
-      ap (λ (k : ℕ). take k new) (sub-zero (s.num_snakes * s.initial_length) ∙ sym total_is)
+      ap (λ (k : ℕ). take k new) (sym total_is)
       ∙ ap (take (length (start_cells s))) (q ∙ write_front old (start_cells s))
       ∙ take-append_seam (start_cells s) (drop (length (start_cells s)) old)
 
@@ -134,7 +133,10 @@ module _ (s : Setting) (k : ℕ) (old new : List ℕ) (t : Tested (setting_check
   pub total_in : length new ≡ 1024 → s.num_snakes * s.initial_length ≤ length new
   total_in l = omega (arith, total_most s none_found)
 
-  pub startable : Startable s (take (s.num_snakes * s.initial_length - 0) new)
+  pub total_part : s.num_snakes * s.initial_length ≡ length (take (s.num_snakes * s.initial_length) new)
+  total_part = sym (ap (λ (l : List ℕ). length l) (part_cells s none_found old new (t.words z)) ∙ total_is s none_found)
+
+  pub startable : Startable s (take (s.num_snakes * s.initial_length) new)
   startable =
       let q = part_cells s none_found old new (t.words z) in
       record {

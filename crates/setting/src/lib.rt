@@ -34,10 +34,10 @@ fn check(setting: Setting, cells: &mut [u16]) -> u8
 fn verdict(number: u8) -> Verdict
     ensures { Verdicts number result }
 {
-    if number == 0 {
-        return Verdict::Accepted;
+    match number {
+        0 => Verdict::Accepted,
+        _ => Verdict::Refused(refusals::by(number)),
     }
-    Verdict::Refused(refusals::by(number))
 }
 
 pub fn validate(setting: Setting) -> Verdict
@@ -75,5 +75,5 @@ pub fn initial_state(setting: Setting, out: &mut [u16]) -> Answer
         return Answer::Refused(refusals::by(number));
     }
     let total = setting.num_snakes as usize * setting.initial_length as usize;
-    write_state(setting, &cells[0..total], out)
+    write_state(setting, &cells[..total], out)
 }

@@ -15,17 +15,22 @@ use judge::{Move, find_other, find_rest, hit_at, judge, no_hit};
 use lists::Found;
 use rules::{Cause, Hit, Hits, Setting, Verdict};
 
+// Nobody is hit.
+const NO_HITS: [Hit; 8] = [Hit {
+    snake: 8,
+    position: 0,
+}; 8];
+
 // Whether snake i hit itself, and where: the first place of its head's cell in the rest of its body.
 fn own_hit(image: &[u16], all: [Move; 8], n: usize, i: usize) -> Hit
     requires { Judging image.now all n i }
     ensures { OwnHit image.now all i result }
 {
     let me = all[i];
-    let found = find_rest(image, i, me, me.cell);
-    let Found::At(k) = found else {
-        return no_hit();
-    };
-    hit_at(i, k)
+    match find_rest(image, i, me, me.cell) {
+        Found::At(k) => hit_at(i, k),
+        Found::Nothing => no_hit(),
+    }
 }
 
 // Whom snake i hit: itself, the lowest-numbered other, or nobody, by its cause.
@@ -34,12 +39,11 @@ fn hit_of(image: &[u16], all: [Move; 8], n: usize, i: usize, cause: Cause) -> Hi
     requires cause_value { cause ≡ cause_of (side_in image.now) n (world image.now all) i }
     ensures { result ≡ hit_of (side_in image.now) n (world image.now all) i }
 {
-    let me = all[i];
     match cause {
         Cause::NoCause => no_hit(),
         Cause::Wall => no_hit(),
         Cause::SelfBody => own_hit(image, all, n, i),
-        Cause::OppBody => find_other(image, all, n, i, me.cell),
+        Cause::OppBody => find_other(image, all, n, i, all[i].cell),
         Cause::HeadOn => no_hit(),
     }
 }
@@ -51,19 +55,10 @@ fn find_hits(image: &[u16], actions: &[u64]) -> [Hit; 8]
     ensures { result ≡ hits_in (state_of image.now) actions.now }
 {
     let judged = judge(image, actions);
-    let moves = judged.moves;
-    let fates = judged.fates;
     let n = actions.len();
-    let mut hits = [Hit {
-        snake: 8,
-        position: 0,
-    }; 8];
-    let mut i = 0;
-    while i < n {
-        let fate = fates[i];
-        let cause = fate.cause;
-        hits[i] = hit_of(image, moves, n, i, cause);
-        i += 1;
+    let mut hits = NO_HITS;
+    for i in 0..n {
+        hits[i] = hit_of(image, judged.moves, n, i, judged.fates[i].cause);
     }
     hits
 }
@@ -75,10 +70,7 @@ pub fn struck(setting: Setting, image: &[u16], actions: &[u64]) -> Hits
     let Verdict::Accepted = verdict else {
         return Hits {
             verdict,
-            hits: [Hit {
-                snake: 8,
-                position: 0,
-            }; 8],
+            hits: NO_HITS,
         };
     };
     Hits {

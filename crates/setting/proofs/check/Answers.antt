@@ -8,8 +8,8 @@ use Rattle.setting.proofs.check.Goals as goal
 pub returns-then-number-ne0 : goal.returns-then-number-ne0
 returns-then-number-ne0 c = search judge_first
 
-pub place_check-requires : goal.place_check-requires
-place_check-requires c = search (rules, limited_by)
+pub place_check-requires-clause-limited : goal.place_check-requires-clause-limited
+place_check-requires-clause-limited c = search (rules, limited_by)
 
 pub returns : goal.returns
 returns c = search judge_second
