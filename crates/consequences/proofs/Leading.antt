@@ -2,8 +2,8 @@
 use Prim.Native.Nat.{ℕ, zero, suc, ◌+◌, ◌-◌, ◌<◌, ◌≤◌}
 use native.Mathlib.Nat.{le_refl, add-zero, add-suc}
 use native.Mathlib.Omega.{arith}
-use mathlib.Core.Path.{◌≡◌, refl, sym, ap, ◌∙◌}
-use mathlib.Core.Bool.{Bool, true, false, not, ◌&&◌, ◌||◌, and-false}
+use mathlib.Core.Path.{◌≡◌, refl, sym, ap, subst, ◌∙◌}
+use mathlib.Core.Bool.{Bool, true, false, not, ◌&&◌, and-false}
 use mathlib.Core.List.{List}
 use lib.Dec.{eqb, ltb, leb}
 use lib.ListN.{get_or}
@@ -18,7 +18,7 @@ use Rattle.rules.specs.declared.Limit.{Limit}
 use Rattle.rules.specs.declared.Limit.TheVariants.{Unset, Is}
 use Rattle.consequences.specs.declared.after.After.{After}
 use Rattle.consequences.specs.After.{gone, living}
-use Rattle.consequences.specs.Leads.{Living, NoneLiving, NextLiving, TwoLive, Longer, leads_in, Leader, Leads, Ends}
+use Rattle.consequences.specs.Leads.{Living, NoneLiving, NextLiving, TwoLive, Longer, leads_in, Leader, Leads}
 
 -- ---- counts
 
@@ -55,8 +55,11 @@ module _ (all : List After) (n from : ℕ) where
     pub living_here : living all i ≡ true → NextLiving all n from i
     living_here e = record { past = q; lives = λ l. e }
 
-    pub living_end : n ≤ i → NextLiving all n from i
-    living_end h = record { past = q; lives = λ l. absurd (omega arith) }
+    pub living_end : n ≤ i → NextLiving all n from n
+    living_end h =
+        let e : i ≡ n = omega (arith, q.end) in
+        let past : NoneLiving all n from n = subst (NoneLiving all n from) e q in
+        record { past = past; lives = λ l. absurd (omega arith) }
 
 -- ---- the two that live
 
@@ -114,12 +117,6 @@ module _ (all : List After) (n alive : ℕ) (c : Living all n alive) (two : aliv
     }
 
 -- ---- who leads
-
-pub longer_not : (a b : After) (k : ℕ) → a.keep ≤ b.keep → Longer a b k false
-longer_not a b k h = record { is = rw (le-ltb b.keep a.keep h) }
-
-pub longer_by : (a b : After) (k : ℕ) → b.keep < a.keep → Longer a b k (leb k (a.keep - b.keep))
-longer_by a b k h = record { is = rw (lt-ltb b.keep a.keep h) }
 
 -- nobody
 nobody_leads : (all : List After) (n alive : ℕ) (lead : Limit) → ((x y : ℕ) → x < n → y < n → leads_in all alive lead x y ≡ false) → Leader all n alive lead n
@@ -242,12 +239,3 @@ module _ (all : List After) (n alive : ℕ) (lead : Limit) where
 
     pub leader_two : alive ≡ 2 → (r : ℕ) → Leads all n k r → Leader all n alive lead r
     leader_two h r q = rw (e, h) q.leader
-
--- ---- the end
-
-module _ (n alive : ℕ) (last : Bool) (leader : ℕ) where
-  pub ends_last : last ≡ true → Ends n alive last leader (leb alive 0 || ltb leader n)
-  ends_last e = record { is = rw e }
-
-  pub ends_else : last ≡ false → Ends n alive last leader (leb alive 1 || ltb leader n)
-  ends_else e = record { is = rw e }

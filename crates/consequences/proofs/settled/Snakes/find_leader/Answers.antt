@@ -1,8 +1,8 @@
--- `consequences::find_leader` meets its contract: without a lead, or unless two live, nobody leads; else the two are found and compared (`Leading`).
+-- `consequences::Snakes::find_leader` meets its contract: without a lead, or unless two live, nobody leads; else the two are found and compared (`Leading`).
 -- Assumes nothing.
 use borrow.Author.Rules.{rules}
 use Rattle.consequences.proofs.Leading.{leader_unset, leader_alone, next_fits, next_in_lem, two_live, leader_two}
-use Rattle.consequences.proofs.leads.find_leader.Goals as goal
+use Rattle.consequences.proofs.settled.Snakes.find_leader.Goals as goal
 
 pub returns-in_default : goal.returns-in_default
 returns-in_default c = search leader_unset
