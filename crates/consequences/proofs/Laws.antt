@@ -3,18 +3,16 @@ use Prim.Native.Nat.{ℕ, zero, suc, ◌+◌, ◌*◌, ◌<◌, ◌≤◌}
 use native.Mathlib.Numerals.{add-one}
 use native.Mathlib.Omega.{arith}
 use mathlib.Core.Path.{◌≡◌, sym, ap, ◌∙◌}
-use mathlib.Core.Bool.{Bool, true, false, not, ◌&&◌, ◌||◌}
+use mathlib.Core.Bool.{Bool, true, false, not, ◌||◌}
 use mathlib.Core.List.{List}
-use lib.Dec.{eqb, ltb}
+use lib.Dec.{eqb}
 use lib.ListN.{length, get_or, take, drop, set, replicate}
 use Rattle.std.specs.List.{list_any}
 use Rattle.std.proofs.lemmas.List.{get_or-take}
 use Rattle.std.proofs.lemmas.List.Folds.{list_any_more}
-use mir.Val.{Fits}
-use mir.Syntax.{w64}
-use borrow.Author.Tests.{not-true, not-false}
+use borrow.Author.Tests.{not-false}
 use Rattle.lists.specs.Choice.{bit}
-use Rattle.lists.specs.Below.{some_below, count_below, sum_below, lowest_from}
+use Rattle.lists.specs.Below.{some_below, count_below, lowest_from}
 use Rattle.lists.specs.Lists.{member}
 use Rattle.lists.specs.Search.{found_in, is_found}
 use Rattle.lists.specs.declared.Found.{Found}
@@ -22,8 +20,7 @@ use Rattle.lists.proofs.Tests.{bit_le}
 use Rattle.lists.proofs.Search.{found_member}
 use Rattle.lists.proofs.Below.{some_none, some_next, count_none, count_next, sum_none, sum_next}
 use Rattle.rules.specs.declared.Event.{Event}
-use Rattle.rules.specs.Events.{dies, by_body, blank}
-use Rattle.rules.specs.declared.Cause.{Cause}
+use Rattle.rules.specs.Events.{dies, blank}
 use Rattle.judge.specs.declared.Fate.{Fate}
 use Rattle.judge.specs.declared.Move.{Move}
 use Rattle.judge.specs.World.{still, unharmed}
@@ -32,13 +29,9 @@ use Rattle.judge.proofs.Loops.{fill_none, fill_next}
 use Rattle.lists.proofs.Lowest.{Passing, pass_here, pass_on, pass_all}
 use Rattle.consequences.specs.declared.after.After.{After}
 use Rattle.consequences.specs.declared.after.Tally.{Tally}
-use Rattle.consequences.specs.After.{settled, settled_at, gone, cells, living, causes, size_of, sizes, PartIn, InImage, Short, Counted, Counting, holds_at, holds_in, killer_in, credited_to, HasCell, Holder, KilledBy, Credited, event_by, event_at}
+use Rattle.consequences.specs.After.{settled, settled_at, gone, living, causes, size_of, sizes, PartIn, Short, Counting, holds_at, holds_in, killer_in, credited_to, HasCell, Holder, KilledBy, Credited, event_by, event_at}
 
--- ---- the settled snakes: d is whether the cause is a death
-
-pub settled_so : (m : Move) (c : Cause) (d : Bool) → d ≡ dies c
-    → record { heading = m.heading; lives = m.moves && not d; ate = m.eats && not d; cause = c; cell = m.cell; keep = m.keep } ≡ settled m c
-settled_so m c d e = λ k. record { heading = m.heading; lives = m.moves && not (e k); ate = m.eats && not (e k); cause = c; cell = m.cell; keep = m.keep }
+-- ---- the settled snakes
 
 module _ (ms : List Move) (fs : List Fate) (n : ℕ) where
   pub settled_none : n ≤ 8 → Filling (settled_at ms fs) gone n 0 (replicate 8 gone)
@@ -78,9 +71,6 @@ module _ (all : List After) (short : Short all) (n i alive deaths cells : ℕ) (
   ps : s ≡ size_of (get_or all i gone)
   ps = pz ∙ ap size_of pa
 
-  pub cells_fit_lem : Fits w64 (cells + s)
-  cells_fit_lem = omega (arith, ps, size_le all short i, q.size_small, q.along, q.few)
-
   -- l, d and s are the counts of one snake more
   pub count_on : i < n → (l : ℕ) → l ≡ alive + bit a.lives → (d : ℕ) (b : Bool) → d ≡ deaths + bit b → b ≡ dies a.cause
       → Counting all n (i + 1) l d (cells + s)
@@ -98,29 +88,10 @@ module _ (all : List After) (short : Short all) (n i alive deaths cells : ℕ) (
         size_small = omega (arith, ps, size_le all short i, q.size_small);
       }
 
-pub count_all : (all : List After) (n i alive deaths cells : ℕ) → Counting all n i alive deaths cells → n ≤ i → Counted all n (record { alive = alive; deaths = deaths; cells = cells })
-count_all all n i alive deaths cells q l =
-    let e : i ≡ n = omega (arith, q.along) in
-    record {
-      alive = q.lived ∙ ap (λ (k : ℕ). count_below k (living all)) e;
-      deaths = q.died ∙ ap (λ (k : ℕ). count_below k (λ i. dies (causes all i))) e;
-      cells = q.size ∙ ap (λ (k : ℕ). sum_below k (sizes all)) e;
-    }
-
 -- ---- who killed
 
--- a survivor's body is its cell and the rest; the dead are not searched
-pub cell_gone : (w : List ℕ) (i : ℕ) (a : After) (cell : ℕ) → not a.lives ≡ true → HasCell w i a cell false
-cell_gone w i a cell h = record { is = rw (not-true a.lives h) }
-
--- k is the place of the start
+-- a survivor's body is its cell and the rest; k is the place of the start
 module _ (w : List ℕ) (i : ℕ) (a : After) (q : PartIn w i a) (k : ℕ) (e : k ≡ 5 + 4 * i) where
-  pub start_word_lem : Fits w64 (get_or w k 0)
-  start_word_lem = rw e (omega (arith, q.small))
-
-  pub part_fits : get_or w k 0 + a.keep ≤ length w
-  part_fits = rw e q.fits
-
   -- f is where the cell is found, b whether it is
   pub cell_held : (cell : ℕ) → not a.lives ≡ false → (f : Found) → f ≡ found_in (take a.keep (drop (get_or w k 0) w)) cell → (b : Bool) → b ≡ is_found f
       → HasCell w i a cell (eqb cell a.cell || b)
@@ -128,9 +99,6 @@ module _ (w : List ℕ) (i : ℕ) (a : After) (q : PartIn w i a) (k : ℕ) (e : 
   cell_held cell h f p b q =
       let told = q ∙ ap is_found p ∙ found_member cell (take a.keep (drop (get_or w k 0) w)) in
       record { is = rw (not-false a.lives h) (ap (λ (b : Bool). eqb cell a.cell || b) (told ∙ ap (λ (k : ℕ). member cell (take a.keep (drop (get_or w k 0) w))) e)) }
-
-pub part_in : (w : List ℕ) (all : List After) (n : ℕ) → InImage w all n → (j : ℕ) → j < n → (a : After) → a ≡ get_or all j gone → PartIn w j a
-part_in w all n h j l a e = rw e (h.parts j l)
 
 -- none of the snakes before j holds the cell
 abbrev pub NoHolder : List ℕ → List After → ℕ → ℕ → ℕ → Type 0
@@ -153,13 +121,6 @@ module _ (w : List ℕ) (all : List After) (n cell j : ℕ) (q : NoHolder w all 
       let e : n ≡ j = omega arith in
       record { is = e ∙ pass_all (holds_in w all cell) n _ j q l }
 
-module _ (w : List ℕ) (all : List After) (n i : ℕ) (b : Bool) (e : b ≡ by_body (get_or all i gone).cause) where
-  pub killed_so : b ≡ true → (r : ℕ) → Holder w all n (get_or all i gone).cell r → KilledBy w all n i r
-  killed_so t r h = record { is = rw (sym e ∙ t) h.is }
-
-  pub killed_else : b ≡ false → KilledBy w all n i n
-  killed_else t = record { is = rw (sym e ∙ t) }
-
 pub killers_next : (w : List ℕ) (all : List After) (n i : ℕ) (to : List ℕ) → Filling (killer_in w all n) 0 n i to → i < n → (r : ℕ) → KilledBy w all n i r
     → Filling (killer_in w all n) 0 n (i + 1) (set to i r)
 killers_next w all n i to q l r k = fill_next (killer_in w all n) 0 n i to q l r k.is
@@ -173,29 +134,7 @@ taken_any to j (suc n) h =
 pub credited_so : (to : List ℕ) (n j : ℕ) → n ≤ length to → (r : Bool) → r ≡ list_any (λ x. eqb x j) (take n to) → Credited to n j r
 credited_so to n j h r e = record { is = e ∙ taken_any to j n h }
 
--- ---- events: d is whether the cause is a death, c whether a death is credited
-
-pub event_so : (a : After) (to : List ℕ) (n : ℕ) (counts : Tally) (leader i : ℕ) (d : Bool) → d ≡ dies a.cause → (c : Bool) → Credited to n i c
-    → record {
-      ate_food = a.ate;
-      died = d;
-      death_cause = a.cause;
-      killed_opponent = c;
-      won = a.lives && eqb counts.alive 1 && ltb 0 counts.deaths || eqb i leader;
-      lost = d && ltb 0 counts.alive || (a.lives && not (eqb i leader) && ltb leader n);
-      drew = d && eqb counts.alive 0 && ltb 1 counts.deaths;
-      survived_to_max_ticks = false;
-    } ≡ event_by a to n counts.alive counts.deaths leader i
-event_so a to n counts leader i d pd c pc = λ k. record {
-  ate_food = a.ate;
-  died = pd k;
-  death_cause = a.cause;
-  killed_opponent = pc.is k;
-  won = a.lives && eqb counts.alive 1 && ltb 0 counts.deaths || eqb i leader;
-  lost = pd k && ltb 0 counts.alive || (a.lives && not (eqb i leader) && ltb leader n);
-  drew = pd k && eqb counts.alive 0 && ltb 1 counts.deaths;
-  survived_to_max_ticks = false;
-}
+-- ---- events
 
 module _ (all : List After) (to : List ℕ) (n : ℕ) (counts : Tally) (leader : ℕ) where
   abbrev event : ℕ → Event

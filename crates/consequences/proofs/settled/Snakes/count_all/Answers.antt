@@ -2,24 +2,14 @@
 -- Assumes nothing.
 use Prim.Native.Nat.{◌<◌}
 use native.Mathlib.Omega.{arith}
-use borrow.Author.Rules.{rules}
-use Rattle.consequences.proofs.Laws.{each_one, count_start, short_at, cells_fit_lem, count_on, count_all}
+use Rattle.consequences.proofs.Laws.{each_one, count_start, count_on}
 use Rattle.consequences.proofs.settled.Snakes.count_all.Goals as goal
 
 pub loop-a-init : goal.loop-a-init
 loop-a-init c = search count_start
-
-pub size_of-cells-requires : goal.size_of-cells-requires
-size_of-cells-requires c = search (rules, short_at, each_one)
-
-pub overflow_add-cells : goal.overflow_add-cells
-overflow_add-cells c = search (rules, cells_fit_lem, each_one)
 
 pub loop-a-preserved : goal.loop-a-preserved
 loop-a-preserved c =
     let l : c.loop-a.a-index < c.args.self.now.count = omega arith in
     let e = each_one c.args.self.now.all c.each-a-items.result.now c.args.self.now.count c.each-a-items.ensures.snakes c.loop-a.a-index l in
     search count_on
-
-pub returns : goal.returns
-returns c = search (rules, count_all)

