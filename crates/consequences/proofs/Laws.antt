@@ -63,9 +63,6 @@ count_start all n h = record {
   size_small = omega arith;
 }
 
-pub short_at : (all : List After) → Short all → (i : ℕ) (a : After) → a ≡ get_or all i gone → a.keep ≤ 1024
-short_at all h i a e = rw e (h i)
-
 -- a is snake i, and s its size
 module _ (all : List After) (short : Short all) (n i alive deaths cells : ℕ) (q : Counting all n i alive deaths cells) (s : ℕ) (a : After) (pz : s ≡ size_of a) (pa : a ≡ get_or all i gone) where
   ps : s ≡ size_of (get_or all i gone)
