@@ -30,7 +30,7 @@ fn has_cell(image: &[u16], j: usize, a: After, cell: u16) -> bool
 }
 
 impl Snakes {
-    // The lowest-numbered survivor whose body holds a cell, or the count.
+    // The lowest-numbered survivor whose body holds a cell, or the count: the definition of a step (`killer_of`) has that number for nobody.
     fn find_killer(&self, image: &[u16], cell: u16) -> usize
         requires { InImage image.now self.now.all self.now.count }
         ensures { Holder image.now self.now.all self.now.count cell result }

@@ -19,6 +19,7 @@ impl Snakes {
         let a = self.all[i];
         let Tally { alive, deaths, .. } = counts;
         let died = is_death(a.cause);
+        // `&` and `|`: flags that are all known, with no branch; `&&` would be no plainer.
         Event {
             ate_food: a.ate,
             died,
