@@ -91,10 +91,9 @@ fn play_draw(
     requires { 462 ≤ length out.old }
     ensures { Plays (seen (drawn_turn m) (draw_says image.now index (length next.old) (length list.old))) m next.old next.new out.old out.new result }
 {
-    let d = arena::draw(image, index, next, list);
-    let answer = d.answer;
-    let Answer::Done(words) = answer else {
-        return stop(m, out, number_of(answer));
+    let drawn = arena::draw(image, index, next, list);
+    let Answer::Done(words) = drawn.answer else {
+        return stop(m, out, number_of(drawn.answer));
     };
     show(m, b'd', false, &next[0..words], no_events(), out)
 }
@@ -113,14 +112,11 @@ fn play_move(m: Match, image: &[u16], acts: &[u64], next: &mut [u16], out: &mut 
     requires { 462 ≤ length out.old }
     ensures { Plays (seen (moved_turn m) (step_says m.setting image.now acts.now (length next.old))) m next.old next.new out.old out.new result }
 {
-    let setting = m.setting;
-    let s = arena::step(setting, image, acts, next);
-    let answer = s.answer;
-    let Answer::Done(words) = answer else {
-        return stop(m, out, number_of(answer));
+    let stepped = arena::step(m.setting, image, acts, next);
+    let Answer::Done(words) = stepped.answer else {
+        return stop(m, out, number_of(stepped.answer));
     };
-    let events = s.events;
-    show_move(m, s.terminal, &next[0..words], events, out)
+    show_move(m, stepped.terminal, &next[0..words], stepped.events, out)
 }
 
 // A line after the first, as it was read.
@@ -136,14 +132,10 @@ fn play_entry(
     requires { (n ≡ snakes_of m) × (n ≤ 8) × (462 ≤ length out.old) }
     ensures { Plays (asked m image.now (length next.old) (length list.old) e) m next.old next.new out.old out.new result }
 {
-    let line = e.line;
-    match line {
+    match e.line {
         Line::NoLine => stop(m, out, 32),
         Line::DrawLine(index) => play_draw(m, image, index, next, list, out),
-        Line::MoveLine => {
-            let acts = e.acts;
-            play_move(m, image, &acts[0..n], next, out)
-        }
+        Line::MoveLine => play_move(m, image, &e.acts[0..n], next, out),
     }
 }
 
@@ -152,8 +144,7 @@ pub fn begin(m: Match, line: &[u8], next: &mut [u16], out: &mut [u8]) -> Turned
     requires { 462 ≤ length out.old }
     ensures { Plays (begin_says line.now (length next.old)) m next.old next.new out.old out.new result }
 {
-    let first = read_first(line);
-    let First::Opens(setting) = first else {
+    let First::Opens(setting) = read_first(line) else {
         return stop(m, out, 32);
     };
     open(m, setting, next, out)
@@ -175,6 +166,5 @@ pub fn turn(
         return stop(m, out, 33);
     }
     let n = snakes_of(m);
-    let e = read_later(line, n);
-    play_entry(m, e, n, image, next, list, out)
+    play_entry(m, read_later(line, n), n, image, next, list, out)
 }
