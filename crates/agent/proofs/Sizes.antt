@@ -16,10 +16,6 @@ use Rattle.rules.specs.Says.{refuses, gives, box, by_table}
 use Rattle.rules.specs.Calls.{space_says}
 use Rattle.rules.specs.declared.Refusal.{Refusal}
 
-plain : (g : ℤ) → lt_z g (pos 1) ≡ false → T (non_neg g)
-plain (pos g) l = tt
-plain (negsuc g) l = absurd (true≢false l)
-
 -- above a bound from 32 on, so above 32
 higher : (k : ℕ) (g : ℤ) → T (leb 32 k) → lt_z (pos k) g ≡ true → lt_z (pos 32) g ≡ true
 higher k (pos g) b h = lt-ltb 32 g (omega (arith, leb→le 32 k b, ltb-true k g h))
@@ -40,10 +36,6 @@ module _ (g : ℤ) (f : SFits w32 g) where
   unfolding space_says by_table
   space_low l x r = let u = rw (to_z-of_z f) at l in rw (r, u, or-true (lt_z (pos 32) g))
 
-  pub side_fits : Fits w64 (nat_abs (to_z w32 (of_z w32 g)))
-  side_fits = rw (to_z-of_z f) (record { fits = omega (arith, nat_abs-le g f.sfits) })
-
-  module _ (l : lt_z (to_z w32 (of_z w32 g)) (pos 1) ≡ false) where
-    pub space_box : lt_z (pos 32) (to_z w32 (of_z w32 g)) ≡ false
-        → gives (box 5 (nat_abs (to_z w32 (of_z w32 g))) (nat_abs (to_z w32 (of_z w32 g))) (lit false) (lit true)) ≡ space_says g
-    space_box h = boxed (to_z w32 (of_z w32 g)) h l ∙ ap space_says (to_z-of_z f)
+  pub space_box : lt_z (to_z w32 (of_z w32 g)) (pos 1) ≡ false → lt_z (pos 32) (to_z w32 (of_z w32 g)) ≡ false
+      → gives (box 5 (nat_abs (to_z w32 (of_z w32 g))) (nat_abs (to_z w32 (of_z w32 g))) (lit false) (lit true)) ≡ space_says g
+  space_box l h = boxed (to_z w32 (of_z w32 g)) h l ∙ ap space_says (to_z-of_z f)
