@@ -21,7 +21,7 @@ fn write_long(
         return NOWHERE;
     };
     let mut room = book_room();
-    let out = &mut room[0..cap as usize];
+    let out = &mut room[..cap as usize];
     let answer = book::write(setting, pages, row, out);
     put_written(text, at, answer, out)
 }
@@ -35,7 +35,7 @@ fn write(setting: &[u8], pages: u64, row: &[u16], cap: u64, text: &mut [u8], at:
         return NOWHERE;
     };
     let mut room = [PATTERN; 16384];
-    let out = &mut room[0..cap as usize];
+    let out = &mut room[..cap as usize];
     let answer = book::write(setting, pages, row, out);
     put_written(text, at, answer, out)
 }
@@ -54,7 +54,7 @@ pub fn write_line(
     if words.len() < n {
         return NOWHERE;
     }
-    write(setting, values[1], &words[0..n], values[0], text, at)
+    write(setting, values[1], &words[..n], values[0], text, at)
 }
 
 // The place by one call, the words by the other.
@@ -79,5 +79,5 @@ pub fn page_line(s: &[u8], words: &mut [u16], text: &mut [u8], at: usize) -> usi
     if words.len() < n {
         return NOWHERE;
     }
-    put_page(text, at, &words[0..n], values[0])
+    put_page(text, at, &words[..n], values[0])
 }

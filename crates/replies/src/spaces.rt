@@ -34,10 +34,11 @@ pub fn observation_space(s: &[u8]) -> Reply {
 
 // `q`, and no other letter.
 pub fn action_space(letter: u8) -> Reply {
-    if letter != b'q' {
-        return NO_CALL;
+    if letter == b'q' {
+        shape(arena::action_space())
+    } else {
+        NO_CALL
     }
-    shape(arena::action_space())
 }
 
 // `h HEADING ACTION`
@@ -47,12 +48,8 @@ pub fn turn(s: &[u8]) -> Reply {
     if next != s.len() + 1 {
         return NO_CALL;
     }
-    let heading = values[0];
-    let action = values[1];
-    if 3 < heading {
-        return NO_CALL;
-    }
-    if 2 < action {
+    let [heading, action] = values;
+    if 3 < heading || 2 < action {
         return NO_CALL;
     }
     let turned = arena::relative_to_absolute(heading_of(heading as u16), action_of(action));
