@@ -1,50 +1,28 @@
 // A page of the book, found by its contents and read from the file.
-ghost use Rattle.std.specs.Prelude.{◌≡◌, ◌≤◌, length};
+ghost use Rattle.std.specs.Prelude.{◌≤◌, length, IfOk};
 
 use crate::file::read_words;
 use contents::PageFound;
-use lists::smaller;
 use rules::{Refusal, Verdict};
 use std::io::{Read, Seek};
 
-// Whether the file could be read; why the page is refused, or the number 0 and how many words its image has.
+// Why a page is not loaded: the file cannot be read there, or the page is refused.
 #[derive(Clone, Copy)]
-pub struct Loaded {
-    pub read: bool,
-    pub why: Refusal,
-    pub len: usize,
+pub enum NotLoaded {
+    NotRead,
+    Refused(Refusal),
 }
 
-fn refused(why: Refusal) -> Loaded
-    ensures { result.len ≡ 0 }
-{
-    Loaded {
-        read: true,
-        why,
-        len: 0,
-    }
-}
-
-fn why_not_found(found: PageFound) -> Refusal {
-    match found {
-        PageFound::Part { start: _, len: _ } => refusals::by(0),
-        PageFound::Refused(k) => k,
-    }
-}
-
-// 50 to 56, 21, or 0. Contents in which a page was found have a setting.
-fn why_not(contents: &[u16], image: &[u16]) -> Refusal {
+// 50 to 56, 21, or accepted. Contents in which a page was found have a setting.
+fn check(contents: &[u16], image: &[u16]) -> Verdict {
     if contents.len() < 17 {
-        return refusals::by(40);
+        return Verdict::Refused(refusals::by(40));
     }
-    let verdict = book::check_page(contents::setting_in(contents), image);
-    match verdict {
-        Verdict::Accepted => refusals::by(0),
-        Verdict::Refused(k) => k,
-    }
+    book::check_page(contents::setting_in(contents), image)
 }
 
-// The page's image, at the front of a lent buffer that holds any and a word more: what is wrong with a longer part shows in so many words.
+// How many words the page's image has, at the front of a lent buffer that holds any and a word more: what is wrong with a longer part shows in so many
+// words.
 pub fn load<F: Read + Seek>(
     file: &mut F,
     contents: &[u16],
@@ -52,29 +30,20 @@ pub fn load<F: Read + Seek>(
     page: u64,
     image: &mut [u16],
     bytes: &mut [u8],
-) -> Loaded
-    ensures { result.len ≤ length image.new }
+) -> Result<usize, NotLoaded>
+    ensures { IfOk result (λ n. n ≤ length image.new) }
 {
-    let found = contents::find(contents, words, page);
-    let PageFound::Part { start, len } = found else {
-        return refused(why_not_found(found));
+    let (start, len) = match contents::find(contents, words, page) {
+        PageFound::Part { start, len } => (start, len),
+        PageFound::Refused(why) => return Err(NotLoaded::Refused(why)),
     };
-    let held = smaller(len, image.len());
-    if !read_words(file, start, &mut image[0..held], bytes) {
-        return Loaded {
-            read: false,
-            why: refusals::by(0),
-            len: 0,
-        };
+    let held = len.min(image.len());
+    if read_words(file, start, &mut image[..held], bytes).is_err() {
+        return Err(NotLoaded::NotRead);
     }
-    let why = why_not(contents, &image[0..held]);
-    if why.number != 0 {
-        return refused(why);
-    }
-    Loaded {
-        read: true,
-        why,
-        len: held,
+    match check(contents, &image[..held]) {
+        Verdict::Refused(why) => Err(NotLoaded::Refused(why)),
+        Verdict::Accepted => Ok(held),
     }
 }
 

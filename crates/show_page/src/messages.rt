@@ -13,10 +13,7 @@ const STDERR: i32 = 2;
 
 // Pages are numbered from 0.
 fn last_of(pages: u64) -> u64 {
-    if pages == 0 {
-        return 0;
-    }
-    pages - 1
+    pages.saturating_sub(1)
 }
 
 // ---- on standard output
@@ -118,34 +115,25 @@ fn say_damaged(why: Refusal, page: u64) {
     say_fault(why.number);
 }
 
-pub(crate) fn tell_refused(why: Refusal, page: u64, contents: &[u16]) {
-    let number = why.number;
-    if number == 40 {
-        say(b"r 40: this is no match book, or its contents are damaged\n");
-        return;
+fn tell_refused(why: Refusal, page: u64, pages: u64) {
+    match why.number {
+        40 => say(b"r 40: this is no match book, or its contents are damaged\n"),
+        41 => say_pages(pages),
+        50..=255 => say_damaged(why, page),
+        _ => say_page(
+            b"r 21: page ",
+            page,
+            b" has other snakes or another grid than its book\n",
+        ),
     }
-    if number == 41 {
-        say_pages(word_at(contents, 16));
-        return;
-    }
-    if 50 <= number {
-        say_damaged(why, page);
-        return;
-    }
-    say_page(
-        b"r 21: page ",
-        page,
-        b" has other snakes or another grid than its book\n",
-    );
 }
 
 pub(crate) fn tell(fault: Fault) {
     match fault {
-        Fault::NoFault => {}
-        Fault::Refused => {}
         Fault::NoPage => say(b"name one page by its number, counted from 0\n"),
         Fault::NoFile => say(b"standard input is no file\n"),
         Fault::OddFile => say(b"the file has an odd number of bytes: it is no match book\n"),
+        Fault::Refused { why, page, pages } => tell_refused(why, page, pages),
         Fault::NotRead => say(b"standard input cannot be read\n"),
         Fault::NotWritten => say(b"the page could not be written whole\n"),
     }
