@@ -21,11 +21,7 @@ pub enum Fault {
     OddFile,
     NotRead,
     // The page asked for, and how many the contents count.
-    Refused {
-        why: Refusal,
-        page: u64,
-        pages: u64,
-    },
+    Refused { why: Refusal, page: u64, pages: u64 },
     NotWritten,
 }
 
