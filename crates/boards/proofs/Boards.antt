@@ -89,9 +89,6 @@ pub record Stamping (l : List ℕ) (stamp : ℕ) (board : List ℕ) (i : ℕ) : 
   pub rest : fresh stamp board (drop i l) ≡ distinct l
   pub next : Board (stamp + 1) board
 
-pub square_in : (l : List ℕ) (i : ℕ) → Under 1024 l → get_or l i 0 < 1024
-square_in l i u = u i
-
 module _ (l : List ℕ) (s : ℕ) (b : List ℕ) where
   pub stamp_none : Under 1024 l → Board s b → Stamping l s b 0
   stamp_none u n = record { within = omega arith; rest = pass_new s b l u n; next = board_more n }

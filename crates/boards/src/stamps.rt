@@ -7,14 +7,12 @@ pub fn stamps_once(list: &[u16], board: &mut [u8; 1024], stamp: u8) -> bool
     requires board { Board stamp board.old }
     ensures { Stamped list.now stamp result board.new }
 {
-    let mut i = 0;
-    while i < list.len() {
-        let c = list[i] as usize;
-        if board[c] == stamp {
+    for cell in list {
+        let square = usize::from(*cell);
+        if board[square] == stamp {
             return false;
         }
-        board[c] = stamp;
-        i += 1;
+        board[square] = stamp;
     }
     true
 }

@@ -1,8 +1,8 @@
 -- A number kept to 64 bits, and what the product's loop goes by. Assumes nothing.
 use mathlib.Core.Path.{◌≡◌, refl, subst}
 use mathlib.Core.Bool.{true, false, ◌||◌}
-use Prim.Native.Nat.{ℕ, ◌+◌, ◌-◌, ◌*◌, ◌/◌, ◌≤◌, ◌<◌, ◌^◌}
-use native.Mathlib.Nat.{div-lt_iff_lt-mul, le_trans, not-le_of_lt, lt_of_not-le, lt_irrefl}
+use Prim.Native.Nat.{ℕ, ◌+◌, ◌-◌, ◌*◌, ◌≤◌, ◌<◌, ◌^◌}
+use native.Mathlib.Nat.{le_trans, lt_irrefl}
 use native.Mathlib.Omega.{arith}
 use lib.Dec.{eqb, ltb}
 use borrow.Author.Tests.{lt-ltb, le-ltb, ne_eqb}
@@ -36,18 +36,9 @@ module _ (n k j p : ℕ) (h : j < k) (g : k ≤ n) (e : p ≡ falling n j) where
   product_le = rw (e, ← (falling_next n j)) (falling_mono n (j + 1) k (omega arith) g)
 
   -- it passes the limit: so does the whole
-  pub product_over : (2 ^ 64 - 1) / (n - j) < p → 0 ≡ fitted (falling n k)
+  pub product_over : 2 ^ 64 ≤ p * (n - j) → 0 ≡ fitted (falling n k)
   unfolding fitted
-  product_over o =
-      let f : 0 < n - j = omega arith in
-      let q : 2 ^ 64 - 1 < p * (n - j) = (div-lt_iff_lt-mul f).0 o in
-      rw (lt-ltb (2 ^ 64 - 1) (falling n k) (le_trans q product_le))
-
-  -- it does not
-  pub product_fits : p ≤ (2 ^ 64 - 1) / (n - j) → p * (n - j) < 2 ^ 64
-  product_fits o =
-      let f : 0 < n - j = omega arith in
-      lt_of_not-le (λ z. not-le_of_lt ((div-lt_iff_lt-mul f).1 (le_trans (omega arith) z)) o)
+  product_over o = rw (lt-ltb (2 ^ 64 - 1) (falling n k) (le_trans (omega arith) product_le))
 
 pub product_done : (n k p : ℕ) → p ≡ falling n k → p < 2 ^ 64 → p ≡ fitted (falling n k)
 unfolding fitted

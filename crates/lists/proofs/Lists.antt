@@ -9,7 +9,7 @@ use native.Mathlib.Omega.{arith}
 use lib.Dec.{eqb}
 use lib.ListN.{length, get_or, take, drop, drop_of_length-le, length-drop, length-append, take-append-drop}
 use lib.Seq.{drop-cons, take-suc, take_all, length-take-le}
-use borrow.Author.Tests.{eq-eqb, ne_eqb}
+use borrow.Author.Tests.{eq-eqb}
 use Rattle.lists.specs.Lists.{all, keep, member}
 use Rattle.lists.proofs.Tests.{and_left, and_right, both}
 
@@ -66,9 +66,6 @@ module _ (x : ℕ) (l : List ℕ) (i : ℕ) where
   pub member_left : i < length l → member x (drop i l) ≡ (eqb x (get_or l i 0) || member x (drop (i + 1) l))
   unfolding member
   member_left h = rw (add-one, drop-cons l i 0 h)
-
-  pub member_next : i < length l → (x ≡ get_or l i 0 → ⊥) → member x (drop i l) ≡ member x (drop (i + 1) l)
-  member_next h e = rw (member_left h, ne_eqb x (get_or l i 0) e)
 
 pub member_append : (x : ℕ) (xs ys : List ℕ) → member x (xs ++ ys) ≡ (member x xs || member x ys)
 unfolding member

@@ -3,8 +3,8 @@
 
 mod numbers;
 
-ghost use Rattle.std.specs.Prelude.{◌≡◌, true, ◌+◌, ◌≤◌, length, get_or};
-ghost use Rattle.lists.specs.Lists.{write_at, member, place};
+ghost use Rattle.std.specs.Prelude.{◌≡◌, ◌==◌, ◌+◌, ◌≤◌, length, get_or, position};
+ghost use Rattle.lists.specs.Lists.{write_at, member};
 ghost use Rattle.lists.specs.Search.{found_in, is_found};
 
 pub use numbers::{more_if, product, smaller};
@@ -20,10 +20,10 @@ pub enum Found {
 pub fn word_at(list: &[u16], k: usize) -> u64
     ensures { result ≡ get_or list.now k 0 }
 {
-    if k < list.len() {
-        return list[k] as u64;
+    match list.get(k) {
+        Some(word) => u64::from(*word),
+        None => 0,
     }
-    0
 }
 
 // The words of src, written from index `at` on.
@@ -31,11 +31,7 @@ pub fn write_at(out: &mut [u16], at: usize, src: &[u16])
     requires { at + length src.now ≤ length out.old }
     ensures { out.new ≡ write_at out.old at src.now }
 {
-    let mut j = 0;
-    while j < src.len() {
-        out[at + j] = src[j];
-        j += 1;
-    }
+    out[at..at + src.len()].copy_from_slice(src);
 }
 
 // Whether the word stands in the list. It reads all words, since without an exit the loop runs on vectors.
@@ -43,44 +39,34 @@ pub fn holds(list: &[u16], x: u16) -> bool
     ensures { result ≡ member x list.now }
 {
     let mut found = false;
-    let mut i = 0;
-    while i < list.len() {
-        found = found | (list[i] == x);
-        i += 1;
+    for word in list {
+        found |= *word == x;
     }
     found
 }
 
-// The first place of the word in a list that holds it.
-fn place_of(list: &[u16], x: u16) -> usize
-    requires { member x list.now ≡ true }
-    ensures { result ≡ place x list.now }
+// The library's search, which stops at the word.
+fn place_of(list: &[u16], x: u16) -> Option<usize>
+    ensures { result ≡ position (λ y. y == x) list.now }
 {
-    let mut i = 0;
-    while i < list.len() {
-        if list[i] == x {
-            return i;
-        }
-        i += 1;
-    }
-    0
+    list.iter().position(|word| *word == x)
 }
 
-// The first place of the word in a list, or none.
+// The first place of the word in a list, or none. Most lists that are asked do not hold it, and `holds` tells that sooner.
 pub fn find(list: &[u16], x: u16) -> Found
     ensures { result ≡ found_in list.now x }
 {
     if !holds(list, x) {
         return Found::Nothing;
     }
-    Found::At(place_of(list, x))
+    match place_of(list, x) {
+        Some(place) => Found::At(place),
+        None => Found::Nothing,
+    }
 }
 
 pub fn is_found(f: Found) -> bool
     ensures { result ≡ is_found f }
 {
-    match f {
-        Found::At(_) => true,
-        Found::Nothing => false,
-    }
+    matches!(f, Found::At(_))
 }

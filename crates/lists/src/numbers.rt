@@ -8,13 +8,13 @@ pub fn more_if(k: usize, b: bool) -> usize
     requires { k < 18446744073709551615 }
     ensures { result ≡ k + bit b }
 {
-    k + b as usize
+    k + usize::from(b)
 }
 
 pub fn smaller(a: usize, b: usize) -> usize
     ensures { result ≡ min a b }
 {
-    if a < b { a } else { b }
+    a.min(b)
 }
 
 // The product of k factors from n downward. It is never 0: 0 stands for one above 2^64 - 1.
@@ -23,14 +23,11 @@ pub fn product(n: usize, k: usize) -> u64
     ensures { result ≡ fitted (falling n k) }
 {
     let mut p: u64 = 1;
-    let mut j = 0;
-    while j < k {
-        let factor = (n - j) as u64;
-        if 18446744073709551615 / factor < p {
-            return 0;
+    for j in 0..k {
+        match p.checked_mul((n - j) as u64) {
+            Some(next) => p = next,
+            None => return 0,
         }
-        p *= factor;
-        j += 1;
     }
     p
 }

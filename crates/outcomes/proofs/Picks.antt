@@ -64,27 +64,31 @@ pub picking_none : (old : List ℕ) (area : ℕ) (start tally : List ℕ) → Pi
 picking_none old area start tally p = record { within = omega arith; long = refl; counted = p.counted; left = omega arith; done = refl; rest = refl }
 
 module _ (old : List ℕ) (area : ℕ) (start list strips tally : List ℕ) (j : ℕ) (v : Picking old area start list strips tally j) where
-  pub picking_all : length list ≤ j → list ≡ pick (unmarked start area) old
-  picking_all h = sym (pick_done list old (unmarked strips area) j v.long h) ∙ v.done
+  pub picking_all : length old ≤ j → list ≡ pick (unmarked start area) old
+  picking_all h = sym (pick_done list old (unmarked strips area) j v.long (omega (arith, v.long))) ∙ v.done
 
-  module _ (h : j < length list) (first : List ℕ) (p : Pickable old area start first) where
-    -- the cell that a digit picks is there
-    pub picking_asks : Numbered area strips tally (get_or list j 0)
-    picking_asks = record {
-      counted = v.counted;
-      room = omega (arith, p.below j (omega (arith, v.long)), v.left, digit_at list old j v.rest);
-    }
+  -- the digit that stands next
+  module _ (g : j < length old) (d : ℕ) (z : d ≡ get_or list j 0) (first : List ℕ) (p : Pickable old area start first) where
+    h : j < length list
+    h = omega (arith, v.long)
 
-    module _ (x : ℕ) (e : x ≡ get_or (unmarked strips area) (get_or list j 0) 0) where
+    old_digit : d ≡ get_or old j 0
+    old_digit = z ∙ digit_at list old j v.rest
+
+    -- the cell that it picks is there
+    pub picking_asks : Numbered area strips tally d
+    picking_asks = record { counted = v.counted; room = omega (arith, p.below j (omega (arith, v.long)), v.left, old_digit) }
+
+    module _ (x : ℕ) (e : x ≡ get_or (unmarked strips area) d 0) where
       pub picking_free : Free area strips tally x
-      picking_free = numbered_free strips area tally (get_or list j 0) x picking_asks e
+      picking_free = numbered_free strips area tally d x picking_asks e
 
       pub picking_fits : Fits w16 x
       picking_fits = omega (arith, picking_free.inside, v.counted.area_max)
 
       pub picking_next : (new after : List ℕ) → Took area x strips new after → Picking old area start (set list j x) new after (j + 1)
       picking_next new after t =
-          let q : x ≡ get_or (unmarked strips area) (get_or old j 0) 0 = e ∙ ap (λ (d : ℕ). get_or (unmarked strips area) d 0) (digit_at list old j v.rest) in
+          let q : x ≡ get_or (unmarked strips area) (get_or old j 0) 0 = e ∙ ap (λ (k : ℕ). get_or (unmarked strips area) k 0) old_digit in
           let here = open_member strips area x picking_free.inside picking_free.clear in
           record {
             within = simp length-set (omega arith);

@@ -10,9 +10,7 @@ pub fn split(list: &mut [u16], n: usize, index: u64)
     ensures { list.new ≡ digits n (length list.old) index }
 {
     let mut rest = index;
-    let mut j = list.len();
-    while 0 < j {
-        j -= 1;
+    for j in (0..list.len()).rev() {
         let base = (n - j) as u64;
         list[j] = (rest % base) as u16;
         rest /= base;
@@ -24,11 +22,9 @@ pub fn pick_cells(list: &mut [u16], area: usize, strips: &mut [u64; 16], tally: 
     requires { Pickable list.old area strips.old tally.old }
     ensures { list.new ≡ pick (unmarked strips.old area) list.old }
 {
-    let mut j = 0;
-    while j < list.len() {
-        let cell = strips::nth_free(strips, tally, area, list[j] as usize);
+    for digit in list.iter_mut() {
+        let cell = strips::nth_free(strips, tally, area, usize::from(*digit));
         strips::take(strips, tally, area, cell);
-        list[j] = cell as u16;
-        j += 1;
+        *digit = cell as u16;
     }
 }

@@ -7,7 +7,7 @@ ghost use Rattle.rules.specs.Promises.{Counts};
 ghost use Rattle.outcomes.specs.Odds.{Stands};
 
 use layout::front;
-use lists::{product, smaller};
+use lists::product;
 use rules::Number;
 use strips::{count_open, mark_all};
 
@@ -24,9 +24,10 @@ fn draw_size(due: usize, birth: u16, free: usize) -> usize
     ensures { result ≡ min (1 if eqb birth 1 else due) free }
 {
     if birth == 1 {
-        return smaller(1, free);
+        free.min(1)
+    } else {
+        due.min(free)
     }
-    smaller(due, free)
 }
 
 // Every word past the records is a taken cell, so one pass marks them all.

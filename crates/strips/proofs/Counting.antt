@@ -8,8 +8,8 @@ use native.Mathlib.Omega.{arith}
 use lib.Arith.{lt_of_le-ne}
 use mir.Syntax.{w8, w64}
 use mir.Val.{Fits}
-use lib.ListN.{length, get_or, set, replicate, length-append, length-set, length-replicate, get_or-append}
-use lib.Seq.{get_or-set_same, get_or-set_other}
+use lib.ListN.{length, get_or, set, take, replicate, length-append, length-set, length-replicate, get_or-append}
+use lib.Seq.{get_or-set_same, get_or-set_other, get_or-take, length-take-le}
 use Rattle.lists.proofs.Tests.{compared, same, other, ordered, less, more}
 use Rattle.boards.specs.Free.{free_from}
 use Rattle.boards.proofs.Free.{from_few, from_split}
@@ -57,16 +57,28 @@ pub counting_none : (strips : List ℕ) (area : ℕ) → Counting strips area 0 
 unfolding unmarked free_from
 counting_none strips area = record { count = refl; few = omega arith; near = omega arith }
 
-module _ (strips : List ℕ) (area n s : ℕ) (v : Counting strips area n s) (h : s * 64 < area) (r : ℕ) (e : r ≡ length (clear_from 0 (get_or strips s 0))) where
+-- how many strips the area reaches into
+abbrev pub Reach : ℕ → ℕ → Type 0
+Reach area last = (area ≤ last * 64) × (last * 64 < area + 64)
+
+-- the strips that it reaches into are there
+pub reach_long : (strips : List ℕ) (area last : ℕ) → Reach area last → Inside area strips → length (take last strips) ≡ last
+reach_long strips area last q p = length-take-le last strips (omega (arith, q, p.area_max, p.size))
+
+module _ (strips : List ℕ) (area last n s : ℕ) (v : Counting strips area n s) (q : Reach area last) (h : s < last) (r : ℕ)
+    (e : r ≡ length (clear_from 0 (get_or (take last strips) s 0))) where
+  strip_is : r ≡ length (clear_from 0 (get_or strips s 0))
+  strip_is = e ∙ ap (λ (x : ℕ). length (clear_from 0 x)) (get_or-take last strips s 0 h)
+
   pub counting_next : Counting strips area (n + r) (s + 1)
   counting_next = record {
-    count = omega (arith, v.count, open_more strips s, strip_open strips s);
-    few = omega (arith, v.few, strip_open strips s, strip_few strips s);
-    near = omega arith;
+    count = omega (arith, v.count, strip_is, open_more strips s, strip_open strips s);
+    few = omega (arith, v.few, strip_is, strip_open strips s, strip_few strips s);
+    near = omega (arith, q);
   }
 
   pub counting_fits : area ≤ 1024 → Fits w64 (n + r)
-  counting_fits m = omega (arith, v.few, strip_open strips s, strip_few strips s)
+  counting_fits m = omega (arith, v.few, q, strip_is, strip_open strips s, strip_few strips s)
 
 -- where no square has a mark, all are counted
 pub all_free : (used : ℕ → Bool) (n a : ℕ) → ((c : ℕ) → a ≤ c → c < a + n → used c ≡ false) → length (free_from used a n) ≡ n
@@ -83,17 +95,20 @@ past_all strips area m p =
     ∙ ap (λ (k : ℕ). length (free_from (marked strips) 0 area) + k)
     (ap (λ (k : ℕ). length (free_from (marked strips) k m)) (zero-add area) ∙ all_free (marked strips) m area (λ c l _. p.past c l))
 
-module _ (strips : List ℕ) (area n s : ℕ) (v : Counting strips area n s) (h : area ≤ s * 64) (p : Inside area strips) where
+module _ (strips : List ℕ) (area last n s : ℕ) (v : Counting strips area n s) (a : area ≤ last * 64) (z : last ≡ s) (p : Inside area strips) where
+  h : area ≤ s * 64
+  h = rw (← z) a
+
   whole : n ≡ length (unmarked strips area) + (s * 64 - area)
   whole =
       let e : s * 64 ≡ area + (s * 64 - area) = omega arith in
       v.count ∙ ap (λ (k : ℕ). length (unmarked strips k)) e ∙ past_all strips area (s * 64 - area) p
 
-  pub counting_over : s * 64 ≤ n + area
-  counting_over = omega (arith, whole)
+  pub counting_over : last * 64 ≤ n + area
+  counting_over = rw z (omega (arith, whole))
 
-  pub counting_all : n + area - s * 64 ≡ length (unmarked strips area)
-  counting_all = omega (arith, whole)
+  pub counting_all : n + area - last * 64 ≡ length (unmarked strips area)
+  counting_all = rw z (omega (arith, whole))
 
 -- ---- a count a strip
 
@@ -110,19 +125,19 @@ pub tally_none : (strips : List ℕ) (area : ℕ) (tally : List ℕ) → length 
 tally_none strips area tally e = record { long = e; near = omega arith; counts = λ k l. absurd (lt_irrefl 0 (omega arith)) }
 
 module _ (strips : List ℕ) (area : ℕ) (tally : List ℕ) (s : ℕ) (v : Tallying strips area tally s) where
-  module _ (h : s * 64 < area) (r : ℕ) (e : r ≡ length (clear_from 0 (get_or strips s 0))) where
+  module _ (r : ℕ) (e : r ≡ length (clear_from 0 (get_or strips s 0))) where
     pub tally_fits : Fits w8 r
     tally_fits = omega (arith, strip_open strips s, strip_few strips s)
 
-    pub tally_next : area ≤ 1024 → Tallying strips area (set tally s r) (s + 1)
-    tally_next m = record {
+    pub tally_next : area ≤ 1024 → (last : ℕ) → Reach area last → s < last → Tallying strips area (set tally s r) (s + 1)
+    tally_next m last z h = record {
       long = simp length-set v.long;
-      near = omega arith;
+      near = omega (arith, z);
       counts = λ k l. elim (compared k s) [
         | same q t ↦ rw (q, get_or-set_same tally s r 0 (omega (arith, v.long))) (e ∙ sym (strip_open strips s))
         | other d t ↦ rw (get_or-set_other tally s k r 0 d) (v.counts k (lt_of_le-ne (omega arith) d))
       ];
     }
 
-  pub tally_all : area ≤ s * 64 → area ≤ 1024 → length strips ≡ 16 → Counted area strips tally
-  tally_all h m e = record { area_max = m; size = e; long = v.long; counts = λ k l. v.counts k (omega arith) }
+  pub tally_all : (last : ℕ) → Reach area last → last ≤ s → area ≤ 1024 → length strips ≡ 16 → Counted area strips tally
+  tally_all last z h m e = record { area_max = m; size = e; long = v.long; counts = λ k l. v.counts k (omega (arith, z)) }

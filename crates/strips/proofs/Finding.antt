@@ -9,9 +9,9 @@ use mir.Syntax.{w64}
 use mir.Val.{Fits}
 use lib.Count.{ones, ones-le}
 use lib.Dec.{eqb}
-use lib.ListN.{length, get_or, set, length-append, length-set}
+use lib.ListN.{length, get_or, set, take, length-append, length-set}
 use lib.Pow.{pow_pos, shl_exact}
-use lib.Seq.{get_or-append-add, get_or-set_same, get_or-set_other}
+use lib.Seq.{get_or-append-add, get_or-set_same, get_or-set_other, get_or-take, length-take-le}
 use borrow.Author.Tests.{ne_eqb}
 use Rattle.lists.specs.Lists.{member, without, place}
 use Rattle.lists.proofs.Tests.{compared, same, other, ordered, less, more}
@@ -27,7 +27,6 @@ use Rattle.strips.proofs.Counting.{run_same, run_more, open_more}
 -- ---- from strip to strip: l more are to be passed from strip s on
 
 pub record Scanning (strips : List ℕ) (area i l s : ℕ) : Type 0 where
-  pub near : s * 64 < area + 64
   pub room : l < length (free_from (marked strips) (s * 64) (area - s * 64))
   pub rest : get_or (free_from (marked strips) (s * 64) (area - s * 64)) l 0 ≡ get_or (unmarked strips area) i 0
 
@@ -35,32 +34,31 @@ pub scan_none : (strips : List ℕ) (area i : ℕ) → i < length (unmarked stri
 unfolding unmarked
 scan_none strips area i h =
     let e : area - 0 ≡ area = omega arith in
-    record { near = omega arith; room = rw e h; rest = rw e }
+    record { room = rw e h; rest = rw e }
 
-module _ (strips : List ℕ) (area i l s : ℕ) (v : Scanning strips area i l s) where
-  pub scan_end : area ≤ s * 64 → 0 ≡ get_or (unmarked strips area) i 0
-  unfolding free_from
-  scan_end h =
-      let e : area - s * 64 ≡ 0 = omega arith in
-      absurd (lt_irrefl 0 (let r : l < 0 = rw e at v.room in omega arith))
+module _ (strips : List ℕ) (area i l s : ℕ) (v : Scanning strips area i l s) (tally : List ℕ) (p : Counted area strips tally) where
+  -- what is still to be passed lies in the area
+  h : s * 64 < area
+  h = let f = from_few (marked strips) (area - s * 64) (s * 64) in omega (arith, v.room)
 
-  module _ (tally : List ℕ) (p : Counted area strips tally) (h : s * 64 < area) where
-    here : get_or tally s 0 ≡ length (free_from (marked strips) (s * 64) 64)
-    here = p.counts s h
+  pub scan_end : length tally ≤ s → 0 ≡ get_or (unmarked strips area) i 0
+  scan_end g = absurd (lt_irrefl 0 (omega (arith, h, p.long, p.area_max)))
 
-    pub scan_word : Fits w64 (get_or tally s 0)
-    scan_word = omega (arith, here, from_few (marked strips) 64 (s * 64))
+  -- the strip's count
+  module _ (here : ℕ) (z : here ≡ get_or tally s 0) where
+    count : here ≡ length (free_from (marked strips) (s * 64) 64)
+    count = z ∙ p.counts s h
 
-    pub scan_room : l < get_or tally s 0 → Among (get_or strips s 0) (s * 64) l
-    scan_room g = record { room = omega (arith, here, ap length (strip_clear strips s)); low = omega (arith, p.area_max) }
+    pub scan_room : l < here → Among (get_or strips s 0) (s * 64) l
+    scan_room g = record { room = omega (arith, count, ap length (strip_clear strips s)); low = omega (arith, h, p.area_max) }
 
-    pub scan_hit : (r : ℕ) → l < get_or tally s 0 → r ≡ get_or (clear_from (s * 64) (get_or strips s 0)) l 0 → r ≡ get_or (unmarked strips area) i 0
+    pub scan_hit : (r : ℕ) → l < here → r ≡ get_or (clear_from (s * 64) (get_or strips s 0)) l 0 → r ≡ get_or (unmarked strips area) i 0
     scan_hit r g e =
         e ∙ sym (ap (λ (k : List ℕ). get_or k l 0) (strip_clear strips s))
-        ∙ run_same (marked strips) (s * 64) 64 (area - s * 64) l (omega (arith, here)) v.room
+        ∙ run_same (marked strips) (s * 64) 64 (area - s * 64) l (omega (arith, count)) v.room
         ∙ v.rest
 
-    module _ (g : get_or tally s 0 ≤ l) where
+    module _ (g : here ≤ l) where
       -- the area goes on past this strip
       on : 64 ≤ area - s * 64
       on = elim (ordered (area - s * 64) 64) [
@@ -69,7 +67,7 @@ module _ (strips : List ℕ) (area i l s : ℕ) (v : Scanning strips area i l s)
             let e' : 64 ≡ area - s * 64 + suc d = omega arith in
             let m = run_more (marked strips) (s * 64) (area - s * 64) (suc d) in
             let k = ap (λ (j : ℕ). length (free_from (marked strips) (s * 64) j)) e' in
-            absurd (lt_irrefl l (omega (arith, v.room, here, m, k)))
+            absurd (lt_irrefl l (omega (arith, v.room, count, m, k)))
         | more q t ↦ q
       ]
 
@@ -85,15 +83,14 @@ module _ (strips : List ℕ) (area i l s : ℕ) (v : Scanning strips area i l s)
           ∙ from_split (marked strips) 64 (area - (s + 1) * 64) (s * 64)
           ∙ ap (λ (k : ℕ). free_from (marked strips) (s * 64) 64 ++ free_from (marked strips) k (area - (s + 1) * 64)) q
 
-      pub scan_on : Scanning strips area i (l - get_or tally s 0) (s + 1)
+      pub scan_on : Scanning strips area i (l - here) (s + 1)
       scan_on =
           let n = length-append (free_from (marked strips) (s * 64) 64) rest in
-          let j : l ≡ length (free_from (marked strips) (s * 64) 64) + (l - get_or tally s 0) = omega (arith, here) in
+          let j : l ≡ length (free_from (marked strips) (s * 64) 64) + (l - here) = omega (arith, count) in
           record {
-            near = omega arith;
-            room = omega (arith, v.room, ap length parts, n, here);
+            room = omega (arith, v.room, ap length parts, n, count);
             rest =
-                sym (get_or-append-add (free_from (marked strips) (s * 64) 64) rest (l - get_or tally s 0) 0)
+                sym (get_or-append-add (free_from (marked strips) (s * 64) 64) rest (l - here) 0)
                 ∙ sym (ap₂ (λ (k : List ℕ) (m : ℕ). get_or k m 0) parts j)
                 ∙ v.rest;
           }
@@ -110,21 +107,23 @@ pub summing_none : (strips : List ℕ) (c : ℕ) → Summing strips c 0 0
 unfolding unmarked free_from
 summing_none strips c = record { count = refl; few = omega arith; within = omega arith }
 
-module _ (strips : List ℕ) (area : ℕ) (tally : List ℕ) (c n s : ℕ) (v : Summing strips c n s) (p : Counted area strips tally) (h : c < area) (l : s < c / 64) where
-  strip_here : get_or tally s 0 ≡ length (free_from (marked strips) (s * 64) 64)
-  strip_here = p.counts s (omega (arith, cell_is 64 c))
+-- the strips before a square are there
+pub strips_long : (strips tally : List ℕ) (area c : ℕ) → Counted area strips tally → c < area → length (take (c / 64) tally) ≡ c / 64
+strips_long strips tally area c p h = length-take-le (c / 64) tally (omega (arith, p.long, p.area_max, cell_is 64 c))
 
-  pub summing_next : Summing strips c (n + get_or tally s 0) (s + 1)
+module _ (strips : List ℕ) (area : ℕ) (tally : List ℕ) (c n s : ℕ) (v : Summing strips c n s) (p : Counted area strips tally) (h : c < area) (l : s < c / 64)
+    (here : ℕ) (z : here ≡ get_or (take (c / 64) tally) s 0) where
+  strip_here : here ≡ length (free_from (marked strips) (s * 64) 64)
+  strip_here = z ∙ get_or-take (c / 64) tally s 0 l ∙ p.counts s (omega (arith, cell_is 64 c))
+
+  pub summing_next : Summing strips c (n + here) (s + 1)
   summing_next = record {
     count = omega (arith, v.count, open_more strips s, strip_here);
     few = omega (arith, v.few, strip_here, from_few (marked strips) 64 (s * 64));
     within = omega arith;
   }
 
-  pub summing_word : Fits w64 (get_or tally s 0)
-  summing_word = omega (arith, strip_here, from_few (marked strips) 64 (s * 64))
-
-  pub summing_fits : Fits w64 (n + get_or tally s 0)
+  pub summing_fits : Fits w64 (n + here)
   summing_fits = omega (arith, v.few, strip_here, from_few (marked strips) 64 (s * 64), cell_is 64 c, p.area_max)
 
 sixty_four : 0 < 64
@@ -141,14 +140,8 @@ module _ (strips : List ℕ) (c : ℕ) where
   bit_of_lem : 1 * 2 ^ b % 2 ^ 64 ≡ 2 ^ b
   bit_of_lem = bit_is b (mod-lt c sixty_four)
 
-  pub bit_some : 0 < 1 * 2 ^ (c % 64) % 2 ^ 64
-  bit_some = rw bit_of_lem (pow_pos b)
-
   part_few : ones (get_or strips (c / 64) 0 % 2 ^ b) ≤ b
   part_few = ones-le b (get_or strips (c / 64) 0 % 2 ^ b) (mod-lt (get_or strips (c / 64) 0) (pow_pos b))
-
-  pub part_fits : Fits w64 (ones (get_or strips (c / 64) 0 % (1 * 2 ^ (c % 64) % 2 ^ 64)))
-  part_fits = rw bit_of_lem (omega (arith, part_few, mod-lt c sixty_four))
 
   module _ (n s : ℕ) (v : Summing strips c n s) where
     pub part_less : ones (get_or strips (c / 64) 0 % (1 * 2 ^ (c % 64) % 2 ^ 64)) ≤ n + c % 64

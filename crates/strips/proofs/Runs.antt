@@ -7,7 +7,7 @@ use native.Mathlib.Nat.{add-zero, le_trans, lt_irrefl, le_dest, div-one, zero-lt
 use native.Mathlib.Omega.{arith}
 use mir.Syntax.{w64}
 use mir.Val.{Fits}
-use lib.Count.{count_trailing_zeros, trailing_le}
+use lib.Count.{count_trailing_zeros}
 use lib.Dec.{eqb}
 use lib.ListN.{length, get_or, length-append}
 use lib.Pow.{pow_mono, shr-shr, shr_lt}
@@ -165,9 +165,6 @@ module _ (strip first i rest at left : ℕ) (v : Passing strip first i rest at l
   pub marks_low : count_trailing_zeros 64 (rest + 1) < 64
   marks_low = omega (arith, marks_few, v.begun)
 
-  pub marks_fit : Fits w64 (at + count_trailing_zeros 64 (rest + 1))
-  marks_fit = omega (arith, marks_few, v.low)
-
   marks_passed : Passing strip first i (rest / 2 ^ marks) (at + marks) left
   marks_passed =
       let m = marks_few in
@@ -235,18 +232,12 @@ module _ (strip first i rest at left : ℕ) (v : Passing strip first i rest at l
   within : left < first + 64 - (at + o)
   within = few strip first i (rest / 2 ^ o) (at + o) left p
 
-  pub found_fits : Fits w64 (at + count_trailing_zeros 64 (rest + 1) + left)
-  found_fits = omega (arith, within, v.low)
-
   pub found : left < count_trailing_zeros 64 (rest / 2 ^ count_trailing_zeros 64 (rest + 1)) → at + count_trailing_zeros 64 (rest + 1) + left ≡ get_or (clear_from first strip) i 0
   found = found_here strip first i (rest / 2 ^ o) (at + o) left p
 
   module _ (h : count_trailing_zeros 64 (rest / 2 ^ count_trailing_zeros 64 (rest + 1)) ≤ left) where
     pub clear_low : count_trailing_zeros 64 (rest / 2 ^ count_trailing_zeros 64 (rest + 1)) < 64
     clear_low = omega (arith, within, v.begun)
-
-    pub clear_fits : Fits w64 (at + count_trailing_zeros 64 (rest + 1) + count_trailing_zeros 64 (rest / 2 ^ count_trailing_zeros 64 (rest + 1)))
-    clear_fits = omega (arith, within, v.low)
 
     pub passing_next : Passing strip first i (rest / 2 ^ count_trailing_zeros 64 (rest + 1) / 2 ^ count_trailing_zeros 64 (rest / 2 ^ count_trailing_zeros 64 (rest + 1)))
         (at + count_trailing_zeros 64 (rest + 1) + count_trailing_zeros 64 (rest / 2 ^ count_trailing_zeros 64 (rest + 1)))
@@ -258,6 +249,3 @@ module _ (strip first i rest at left : ℕ) (v : Passing strip first i rest at l
 
   pub passing_end : first + 64 ≤ at → 0 ≡ get_or (clear_from first strip) i 0
   passing_end h = absurd (lt_irrefl 0 (omega (arith, few strip first i rest at left v)))
-
-pub trailing_fits : (x : ℕ) → Fits w64 (count_trailing_zeros 64 x)
-trailing_fits x = omega (arith, trailing_le 64 x)

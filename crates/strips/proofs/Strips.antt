@@ -1,25 +1,27 @@
 -- The strips as one board: what one more mark changes, what a list of marks leaves, and the squares of a strip. Assumes nothing.
 use mathlib.Core.Path.{◌≡◌, refl, sym, ap, ap₂, ◌∙◌, subst}
-use mathlib.Core.Bool.{Bool, true, false, ◌||◌, or_assoc}
+use mathlib.Core.Bool.{Bool, true, false, ◌||◌, or-false}
 use mathlib.Core.List.{List, [], ◌∷◌, ◌++◌}
 use Prim.Native.Nat.{ℕ, zero, suc, ◌+◌, ◌-◌, ◌*◌, ◌/◌, ◌%◌, ◌^◌, ◌<◌, ◌≤◌}
-use native.Mathlib.Nat.{one-mul, div-lt_iff_lt-mul, mod-lt, mod-eq_of_lt, lt_irrefl, zero-div}
+use native.Mathlib.Nat.{div-mul-le_self, one-mul, div-lt_iff_lt-mul, mod-lt, mod-eq_of_lt, lt_irrefl, zero-div}
 use native.Mathlib.Omega.{arith}
 use mir.Syntax.{w64}
 use mir.Val.{Fits}
+use Rattle.std.specs.Simd.{first_chunks}
 use lib.Bits.{bit_or}
-use lib.Count.{ones, ones-le}
+use lib.Count.{ones}
 use lib.Dec.{eqb}
 use lib.ListN.{length, get_or, set, take, drop, replicate, length-set, length-replicate, take-append-drop}
 use lib.Pow.{shl_exact}
-use lib.Seq.{get_or-set_same, get_or-set_other, drop-drop}
+use lib.Seq.{get_or-set_same, get_or-set_other, take-suc, take_all, take-add, drop-drop}
+use native.Mathlib.Numerals.{add-one}
 use borrow.Author.Tests.{eq-eqb, ne_eqb}
 use Rattle.lists.specs.Lists.{member}
 use Rattle.lists.proofs.Tests.{compared, same, other}
-use Rattle.lists.proofs.Lists.{member_left, member_end, member_append, part_is, part_long}
+use Rattle.lists.proofs.Lists.{member_append, part_long}
 use Rattle.boards.specs.Boards.{Under}
 use Rattle.boards.specs.Free.{free_from}
-use Rattle.boards.proofs.Boards.{part_under}
+use Rattle.boards.proofs.Boards.{part_under, rest_under}
 use Rattle.boards.proofs.Free.{free_ext}
 use Rattle.boards.proofs.Squares.{cell_is, row_of, col_of_lem}
 use Rattle.strips.specs.Marks.{bit_of, marked, unmarked, clear_from, Blank, Marked, Adds, Inside}
@@ -36,12 +38,6 @@ clear_count a x = count_clear (λ c. bit_of x (c - a)) 64 a x (clear_shows a x)
 
 -- a word has at most 64 bits set, and the others are clear
 module _ (x : ℕ) (h : Fits w64 x) where
-  pub ones_few : ones x ≤ 64
-  ones_few = ones-le 64 x h.fits
-
-  pub ones_fit : Fits w64 (ones x)
-  ones_fit = record { fits = omega (arith, ones_few) }
-
   pub clear_many : 64 - ones x ≡ length (clear_from 0 x)
   clear_many =
       let e : ones (x % 2 ^ 64) ≡ ones x = ap ones (mod-eq_of_lt h.fits) in
@@ -108,75 +104,89 @@ module _ (strips : List ℕ) (x : ℕ) (size : length strips ≡ 16) (h : x < 10
   pub marks : Marked x strips (set strips (x / 64) (bit_or (get_or strips (x / 64) 0) (1 * 2 ^ (x % 64) % 2 ^ 64)))
   marks = rw bit_is (record { size = simp length-set size; shows = shown })
 
--- ---- the marks of a list, from its end on
+-- ---- the marks of a list
 
-module _ (cells old : List ℕ) where
-  pub adds_none : (i : ℕ) → length cells ≤ i → length old ≡ 16 → Adds (drop i cells) old old
-  adds_none i l e = record { size = e; shows = λ c. sym (ap (λ (t : Bool). t || marked old c) (member_end c cells i l)) }
-
-  module _ (i : ℕ) (mid new : List ℕ) (a : Adds (drop (i + 1) cells) old mid) (m : Marked (get_or cells i 0) mid new) where
-    pub adds_next : i < length cells → Adds (drop i cells) old new
-    adds_next l = record {
-      size = m.size;
-      shows = λ c.
-          m.shows c
-          ∙ ap (λ (t : Bool). eqb c (get_or cells i 0) || t) (a.shows c)
-          ∙ sym (ap (λ (t : Bool). t || marked old c) (member_left c cells i l) ∙ or_assoc (eqb c (get_or cells i 0)) (member c (drop (i + 1) cells)) (marked old c));
-    }
-
-  module _ (i : ℕ) (l : 0 < i) (h : i ≤ length cells) (mid new : List ℕ) (a : Adds (drop i cells) old mid) (m : Marked (get_or cells (i - 1) 0) mid new) where
-    pub adds_down : Adds (drop (i - 1) cells) old new
-    adds_down =
-        let e : i ≡ i - 1 + 1 = omega arith in
-        adds_next (i - 1) mid new (subst (λ (k : ℕ). Adds (drop k cells) old mid) e a) m (omega arith)
-
-  pub adds_whole : (i : ℕ) (new : List ℕ) → Adds (drop i cells) old new → i ≤ 0 → Adds cells old new
-  adds_whole i new a l = let e : i ≡ 0 = omega arith in subst (λ (k : ℕ). Adds (drop k cells) old new) e a
-
-  pub four_marked : (s t u new : List ℕ) → length cells ≡ 4 → length old ≡ 16 → Marked (get_or cells 3 0) old s → Marked (get_or cells 2 0) s t → Marked (get_or cells 1 0) t u
-      → Marked (get_or cells 0 0) u new → Adds cells old new
-  four_marked s t u new n e p q r v =
-      let a = adds_next 3 old s (adds_none 4 (omega arith) e) p (omega arith) in
-      let b = adds_next 2 s t a q (omega arith) in
-      let d = adds_next 1 t u b r (omega arith) in
-      adds_next 0 u new d v (omega arith)
+or_turned : (x y z : Bool) → (x || (y || z)) ≡ ((y || x) || z)
+or_turned true true z = refl
+or_turned true false z = refl
+or_turned false true z = refl
+or_turned false false z = refl
 
 -- two lists, one after the other
-adds_both : (front back old mid new : List ℕ) → Adds back old mid → Adds front mid new → Adds (front ++ back) old new
+pub adds_both : (front back old mid new : List ℕ) → Adds front old mid → Adds back mid new → Adds (front ++ back) old new
 adds_both front back old mid new a b = record {
   size = b.size;
   shows = λ c.
       b.shows c
-      ∙ ap (λ (t : Bool). member c front || t) (a.shows c)
-      ∙ sym (ap (λ (t : Bool). t || marked old c) (member_append c front back) ∙ or_assoc (member c front) (member c back) (marked old c));
+      ∙ ap (λ (t : Bool). member c back || t) (a.shows c)
+      ∙ or_turned (member c back) (member c front) (marked old c)
+      ∙ sym (ap (λ (t : Bool). t || marked old c) (member_append c front back));
 }
 
-module _ (cells old mid new : List ℕ) (i : ℕ) where
-  pub adds_four : 4 ≤ i → Adds (drop i cells) old mid → Adds (take (i - 4 + 4 - (i - 4)) (drop (i - 4) cells)) mid new → Adds (drop (i - 4) cells) old new
-  adds_four h a b =
-      let n : i - 4 + 4 - (i - 4) ≡ 4 = omega arith in
-      let q : i - 4 + 4 ≡ i = omega arith in
-      let rest : drop 4 (drop (i - 4) cells) ≡ drop i cells = drop-drop 4 (i - 4) cells ∙ ap (λ (k : ℕ). drop k cells) q in
-      let e : take (i - 4 + 4 - (i - 4)) (drop (i - 4) cells) ++ drop i cells ≡ drop (i - 4) cells =
-      ap₂ (λ (k : ℕ) (l : List ℕ). take k (drop (i - 4) cells) ++ l) n (sym rest) ∙ take-append-drop 4 (drop (i - 4) cells) in
-      subst (λ (l : List ℕ). Adds l old new) e (adds_both (take (i - 4 + 4 - (i - 4)) (drop (i - 4) cells)) (drop i cells) old mid new a b)
+adds_one : (x : ℕ) (old new : List ℕ) → Marked x old new → Adds (x ∷ []) old new
+unfolding member
+adds_one x old new m = record { size = m.size; shows = λ c. m.shows c ∙ sym (ap (λ (t : Bool). t || marked old c) (or-false (eqb c x))) }
 
-  pub adds_all : Adds (drop i cells) old mid → Adds (take (i - 0) (drop 0 cells)) mid new → Adds cells old new
-  adds_all a b =
-      let n : i - 0 ≡ i = omega arith in
-      let e : take (i - 0) cells ++ drop i cells ≡ cells = ap (λ (k : ℕ). take k cells ++ drop i cells) n ∙ take-append-drop i cells in
-      subst (λ (l : List ℕ). Adds l old new) e (adds_both (take (i - 0) cells) (drop i cells) old mid new a b)
+module _ (cells old : List ℕ) where
+  pub adds_none : length old ≡ 16 → Adds (take 0 cells) old old
+  unfolding member
+  adds_none e = record { size = e; shows = λ c. refl }
+
+  -- x is the cell that stands next
+  pub adds_next : (i x : ℕ) (mid new : List ℕ) → i < length cells → x ≡ get_or cells i 0 → Adds (take i cells) old mid → Marked x mid new → Adds (take (i + 1) cells) old new
+  adds_next i x mid new l e a m =
+      rw (add-one i, take-suc cells i 0 l, ← e) (adds_both (take i cells) (x ∷ []) old mid new a (adds_one x mid new m))
+
+  pub adds_whole : (i : ℕ) (new : List ℕ) → length cells ≤ i → Adds (take i cells) old new → Adds cells old new
+  adds_whole i new l a = subst (λ (k : List ℕ). Adds k old new) (take_all i cells l) a
+
+  module _ (n : length cells ≡ 4) (e : length old ≡ 16) (x y z w : ℕ) where
+    pub four_marked : (s t u new : List ℕ) → x ≡ get_or cells 0 0 → y ≡ get_or cells 1 0 → z ≡ get_or cells 2 0 → w ≡ get_or cells 3 0
+        → Marked x old s → Marked y s t → Marked z t u → Marked w u new → Adds cells old new
+    four_marked s t u new a b c d p q r v =
+        let f = adds_next 0 x old s (omega arith) a (adds_none e) p in
+        let g = adds_next 1 y s t (omega arith) b f q in
+        let h = adds_next 2 z t u (omega arith) c g r in
+        adds_whole 4 new (omega arith) (adds_next 3 w u new (omega arith) d h v)
+
+-- ---- the fours of a list
+
+module _ (cells : List ℕ) where
+  four_at : (k i : ℕ) (xs : List ℕ) → i < k → get_or (first_chunks 4 k xs) i [] ≡ take 4 (drop (i * 4) xs)
+  four_at zero i xs l = absurd (lt_irrefl 0 (omega arith))
+  four_at (suc k) zero xs l = refl
+  four_at (suc k) (suc i) xs l =
+      let e : 4 + i * 4 ≡ suc i * 4 = omega arith in
+      four_at k i (drop 4 xs) (omega arith) ∙ ap (take 4) (drop-drop (i * 4) 4 xs ∙ ap (λ (j : ℕ). drop j xs) e)
+
+  module _ (fours : List (List ℕ)) (f : fours ≡ first_chunks 4 (length cells / 4) cells) (i : ℕ) (h : i < length cells / 4) where
+    four_is : get_or fours i [] ≡ take 4 (drop (i * 4) cells)
+    four_is = ap (λ (l : List (List ℕ)). get_or l i []) f ∙ four_at (length cells / 4) i cells h
+
+    pub four_in : Under 1024 cells → Under 1024 (get_or fours i [])
+    four_in u = rw four_is (part_under cells 1024 (i * 4) 4 (let p : 0 < 1024 = omega arith in p) (λ k _ _. u k))
+
+    pub four_long : length (get_or fours i []) ≡ 4
+    four_long = rw four_is (part_long cells (i * 4) 4 (omega (arith, div-mul-le_self (length cells) 4)))
+
+    pub fours_next : (old mid new : List ℕ) → Adds (take (i * 4) cells) old mid → Adds (get_or fours i []) mid new → Adds (take ((i + 1) * 4) cells) old new
+    fours_next old mid new a b =
+        let e : (i + 1) * 4 ≡ i * 4 + 4 = omega arith in
+        rw (e, take-add (i * 4) 4 cells, ← four_is) (adds_both (take (i * 4) cells) (get_or fours i []) old mid new a b)
+
+  pub fours_all : (i : ℕ) (rest old mid new : List ℕ) → length cells / 4 ≡ i → rest ≡ drop (length cells / 4 * 4) cells
+      → Adds (take (i * 4) cells) old mid → Adds rest mid new → Adds cells old new
+  fours_all i rest old mid new e r a b =
+      let q : take (i * 4) cells ++ rest ≡ cells = rw (r, e) (take-append-drop (i * 4) cells) in
+      subst (λ (l : List ℕ). Adds l old new) q (adds_both (take (i * 4) cells) rest old mid new a b)
 
 -- the parts that are marked
 module _ (cells : List ℕ) (u : Under 1024 cells) where
   pub cell_in : (i : ℕ) → get_or cells i 0 < 1024
   cell_in i = u i
 
-  pub part_in : (a n : ℕ) → Under 1024 (take n (drop a cells))
-  part_in a n = part_under cells 1024 a n (let p : 0 < 1024 = omega arith in p) (λ k _ _. u k)
-
-  pub four_long : (i : ℕ) → 4 ≤ i → i ≤ length cells → length (take (i - 4 + 4 - (i - 4)) (drop (i - 4) cells)) ≡ 4
-  four_long i h l = ap length (part_is cells (i - 4) 4) ∙ part_long cells (i - 4) 4 (omega arith)
+  pub rest_in : (a : ℕ) → Under 1024 (drop a cells)
+  rest_in a = rest_under cells 1024 a (let p : 0 < 1024 = omega arith in p) (λ k _ _. u k)
 
 -- ---- strips without a mark, and without one past the area
 

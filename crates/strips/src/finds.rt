@@ -5,6 +5,7 @@ ghost use Rattle.strips.specs.Marks.{unmarked, clear_from, Among, Numbered, Free
 use crate::marks::mark;
 
 // The i-th square without a mark of a strip that begins at square `first`, run by run: squares that have a mark are passed, then those that have none.
+// A run is as long as the word's bits say: no count of squares one by one.
 fn nth_in(strip: u64, first: usize, i: usize) -> usize
     requires { Among strip first i }
     ensures { result ≡ get_or (clear_from first strip) i 0 }
@@ -13,10 +14,10 @@ fn nth_in(strip: u64, first: usize, i: usize) -> usize
     let mut at = first;
     let mut left = i;
     while at < first + 64 {
-        let marks = u64::trailing_zeros(rest + 1) as usize;
+        let marks = (rest + 1).trailing_zeros() as usize;
         rest >>= marks;
         at += marks;
-        let clear = u64::trailing_zeros(rest) as usize;
+        let clear = rest.trailing_zeros() as usize;
         if left < clear {
             return at + left;
         }
@@ -33,14 +34,12 @@ pub fn nth_free(strips: &[u64; 16], tally: &[u8; 16], area: usize, i: usize) -> 
     ensures { result ≡ get_or (unmarked strips.now area) i 0 }
 {
     let mut left = i;
-    let mut s = 0;
-    while s * 64 < area {
-        let here = tally[s] as usize;
+    for (s, count) in tally.iter().enumerate() {
+        let here = usize::from(*count);
         if left < here {
             return nth_in(strips[s], s * 64, left);
         }
         left -= here;
-        s += 1;
     }
     0
 }
@@ -51,14 +50,12 @@ pub fn free_below(strips: &[u64; 16], tally: &[u8; 16], area: usize, c: usize) -
     ensures { result ≡ length (unmarked strips.now c) }
 {
     let last = c / 64;
-    let mut n = 0;
-    let mut s = 0;
-    while s < last {
-        n += tally[s] as usize;
-        s += 1;
+    let mut open = 0;
+    for count in &tally[..last] {
+        open += usize::from(*count);
     }
     let part = strips[last] % (1u64 << (c % 64));
-    n + c % 64 - u64::count_ones(part) as usize
+    open + c % 64 - part.count_ones() as usize
 }
 
 // A free square gets its mark, and its strip has one less.

@@ -17,28 +17,24 @@ pub fn mark(strips: &mut [u64; 16], c: usize)
     strips[c / 64] |= 1u64 << (c % 64);
 }
 
-// Four cells, from the last to the first.
-fn mark_four(cells: &[u16], strips: &mut [u64; 16])
+fn mark_four(cells: &[u16; 4], strips: &mut [u64; 16])
     requires under { (Under 1024 cells.now) × (length cells.now ≡ 4) }
     requires strips_len { length strips.old ≡ 16 }
     ensures { Adds cells.now strips.old strips.new }
 {
-    mark(strips, cells[3] as usize);
-    mark(strips, cells[2] as usize);
-    mark(strips, cells[1] as usize);
-    mark(strips, cells[0] as usize);
+    mark(strips, usize::from(cells[0]));
+    mark(strips, usize::from(cells[1]));
+    mark(strips, usize::from(cells[2]));
+    mark(strips, usize::from(cells[3]));
 }
 
-// Each cell, from the last to the first.
 fn mark_each(cells: &[u16], strips: &mut [u64; 16])
     requires under { Under 1024 cells.now }
     requires strips_len { length strips.old ≡ 16 }
     ensures { Adds cells.now strips.old strips.new }
 {
-    let mut i = cells.len();
-    while 0 < i {
-        i -= 1;
-        mark(strips, cells[i] as usize);
+    for cell in cells {
+        mark(strips, usize::from(*cell));
     }
 }
 
@@ -48,10 +44,9 @@ pub fn mark_all(cells: &[u16], strips: &mut [u64; 16])
     requires strips_len { length strips.old ≡ 16 }
     ensures { Adds cells.now strips.old strips.new }
 {
-    let mut i = cells.len();
-    while 4 <= i {
-        i -= 4;
-        mark_four(&cells[i..i + 4], strips);
+    let (fours, rest) = cells.as_chunks::<4>();
+    for four in fours {
+        mark_four(four, strips);
     }
-    mark_each(&cells[0..i], strips);
+    mark_each(rest, strips);
 }

@@ -1,10 +1,7 @@
 -- `outcomes::split` meets its contract. The invariant: the digits from j on are written, and what is left of the index has the others (`Splitting`).
--- The measure is j. Assumes nothing.
+-- Assumes nothing.
 use Rattle.outcomes.proofs.Radix.{Splitting}
 use Rattle.outcomes.proofs.index.split.Given as goal
 
 abbrev pub invariant-loop-j : goal.invariant-loop-j
 invariant-loop-j l = Splitting l.initial.list l.n l.index l.list l.rest l.j
-
-abbrev pub decreases-loop-j : goal.decreases-loop-j
-decreases-loop-j l = l.j

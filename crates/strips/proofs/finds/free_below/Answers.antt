@@ -1,28 +1,33 @@
--- `strips::free_below` meets its contract. The invariant: n squares of the first s strips have no mark (`Summing`); the part of the last strip comes after the
--- loop. The measure is how many strips are left. Assumes nothing.
-use Rattle.strips.proofs.Finding.{summing_none, summing_word, summing_fits, summing_next, bit_some, part_fits, part_less, summing_all}
+-- `strips::free_below` meets its contract. The invariant: so many squares of the strips that are passed have no mark (`Summing`); the part of the last strip
+-- comes after the loop. Assumes nothing.
+use native.Mathlib.Omega.{arith}
+use Prim.Native.Nat.{◌<◌, ◌≤◌, ◌/◌}
+use Rattle.strips.proofs.Finding.{summing_none, strips_long, summing_fits, summing_next, part_less, summing_all}
 use Rattle.strips.proofs.finds.free_below.Goals as goal
 
-pub loop-s-init : goal.loop-s-init
-loop-s-init c = search summing_none
+pub loop-count-init : goal.loop-count-init
+loop-count-init c = summing_none _ _
 
-pub overflow_cast-n : goal.overflow_cast-n
-overflow_cast-n c = search summing_word
+pub overflow_add-open : goal.overflow_add-open
+overflow_add-open c =
+    let a = c.args in
+    let r = c.requires in
+    let h : c.loop-count.count-index < a.c / 64 = omega (arith, c.loop-count-test.true, strips_long a.strips.now a.tally.now a.area a.c r.counted r.inside) in
+    summing_fits _ _ _ _ _ _ c.loop-count.invariant r.counted r.inside h _ c.from-open.ensures
 
-pub overflow_add-n : goal.overflow_add-n
-overflow_add-n c = search summing_fits
-
-pub loop-s-preserved : goal.loop-s-preserved
-loop-s-preserved c = search summing_next
-
-pub nonzero_rem-part-2 : goal.nonzero_rem-part-2
-nonzero_rem-part-2 c = search bit_some
-
-pub overflow_cast-result : goal.overflow_cast-result
-overflow_cast-result c = search part_fits
+pub loop-count-preserved : goal.loop-count-preserved
+loop-count-preserved c =
+    let a = c.args in
+    let r = c.requires in
+    let h : c.loop-count.count-index < a.c / 64 = omega (arith, c.loop-count-test.true, strips_long a.strips.now a.tally.now a.area a.c r.counted r.inside) in
+    summing_next _ _ _ _ _ _ c.loop-count.invariant r.counted r.inside h _ c.from-open.ensures
 
 pub overflow_sub-result : goal.overflow_sub-result
-overflow_sub-result c = search part_less
+overflow_sub-result c = part_less _ _ _ _ c.loop-count.invariant
 
 pub returns : goal.returns
-returns c = search summing_all
+returns c =
+    let a = c.args in
+    let r = c.requires in
+    let h : a.c / 64 ≤ c.loop-count.count-index = omega (arith, c.loop-count-test.false, strips_long a.strips.now a.tally.now a.area a.c r.counted r.inside) in
+    summing_all _ _ _ _ c.loop-count.invariant h

@@ -1,11 +1,7 @@
--- `strips::free_below` meets its contract. The invariant: n squares of the first s strips have no mark (`Summing`); the part of the last strip comes after the
--- loop. The measure is how many strips are left. Assumes nothing.
-use Prim.Native.Nat.{◌-◌, ◌/◌}
+-- `strips::free_below` meets its contract. The invariant: so many squares of the strips that are passed have no mark (`Summing`); the part of the last strip
+-- comes after the loop. Assumes nothing.
 use Rattle.strips.proofs.Finding.{Summing}
 use Rattle.strips.proofs.finds.free_below.Given as goal
 
-abbrev pub invariant-loop-s : goal.invariant-loop-s
-invariant-loop-s l = Summing l.strips l.c l.n l.s
-
-abbrev pub decreases-loop-s : goal.decreases-loop-s
-decreases-loop-s l = l.c / 64 - l.s
+abbrev pub invariant-loop-count : goal.invariant-loop-count
+invariant-loop-count l = Summing l.strips l.c l.open l.count-index

@@ -1,12 +1,8 @@
--- `strips::mark_all` meets its contract. The invariant: the cells from i on have their marks (`Adds`); the fewer than four before them come last. The measure
--- is i. Assumes nothing.
-use Prim.Native.Nat.{◌≤◌}
-use lib.ListN.{length, drop}
+-- `strips::mark_all` meets its contract. The invariant: the fours that are passed have their marks (`Adds`). Assumes nothing.
+use Prim.Native.Nat.{◌*◌}
+use lib.ListN.{take}
 use Rattle.strips.specs.Marks.{Adds}
 use Rattle.strips.proofs.marks.mark_all.Given as goal
 
-abbrev pub invariant-loop-i : goal.invariant-loop-i
-invariant-loop-i l = (l.i ≤ length l.cells) × Adds (drop l.i l.cells) l.initial.strips l.strips
-
-abbrev pub decreases-loop-i : goal.decreases-loop-i
-decreases-loop-i l = l.i
+abbrev pub invariant-loop-four : goal.invariant-loop-four
+invariant-loop-four l = Adds (take (l.four-index * 4) l.cells) l.initial.strips l.strips

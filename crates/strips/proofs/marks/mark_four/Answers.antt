@@ -1,32 +1,8 @@
--- `strips::mark_four` meets its contract: the cells from the fourth on, from the third, the second and the first have their marks (`Adds`). Assumes nothing.
-use borrow.Author.Rules.{rules}
-use Rattle.lists.proofs.Fits.{word_fits}
-use Rattle.strips.proofs.Strips.{cell_in, four_marked}
+-- `strips::mark_four` meets its contract: the cells up to the first, the second, the third and the fourth have their marks (`Adds`). Assumes nothing.
+use Rattle.strips.proofs.Strips.{four_marked}
 use Rattle.strips.proofs.marks.mark_four.Goals as goal
 
-pub overflow_cast-cells : goal.overflow_cast-cells
-overflow_cast-cells c = search word_fits
-
-pub mark-requires : goal.mark-requires
-mark-requires c = search (rules, cell_in)
-
-pub overflow_cast-cells-2 : goal.overflow_cast-cells-2
-overflow_cast-cells-2 c = search word_fits
-
-pub mark-requires-2 : goal.mark-requires-2
-mark-requires-2 c = search (rules, cell_in)
-
-pub overflow_cast-cells-3 : goal.overflow_cast-cells-3
-overflow_cast-cells-3 c = search word_fits
-
-pub mark-requires-3 : goal.mark-requires-3
-mark-requires-3 c = search (rules, cell_in)
-
-pub overflow_cast-cells-4 : goal.overflow_cast-cells-4
-overflow_cast-cells-4 c = search word_fits
-
-pub mark-requires-4 : goal.mark-requires-4
-mark-requires-4 c = search (rules, cell_in)
-
 pub returns : goal.returns
-returns c = search four_marked
+returns c =
+    four_marked c.args.cells.now c.args.strips.now c.requires.under.1 c.requires.strips_len _ _ _ _ _ _ _ _ c.from.ensures c.from-2.ensures c.from-3.ensures c.from-4.ensures
+    c.mark.ensures c.mark-2.ensures c.mark-3.ensures c.mark-4.ensures
