@@ -7,16 +7,10 @@ ghost use Rattle.cells.specs.Writers.{left};
 pub fn count_left(food: &[u16], eaten: &[u16]) -> usize
     ensures { result ≡ length (left eaten.now food.now) }
 {
-    if eaten.len() == 0 {
+    if eaten.is_empty() {
         return food.len();
     }
-    let mut k = 0;
-    let mut j = 0;
-    while j < food.len() {
-        k += !lists::holds(eaten, food[j]) as usize;
-        j += 1;
-    }
-    k
+    food.iter().filter(|x| !lists::holds(eaten, **x)).count()
 }
 
 // The apples that are left, written from index `from` on; all of them at once where none was eaten.
@@ -24,19 +18,15 @@ pub fn write_left(out: &mut [u16], from: usize, food: &[u16], eaten: &[u16])
     requires { from + length (left eaten.now food.now) ≤ length out.old }
     ensures { out.new ≡ write_at out.old from (left eaten.now food.now) }
 {
-    if eaten.len() == 0 {
+    if eaten.is_empty() {
         lists::write_at(out, from, food);
         return;
     }
     let mut at = from;
-    let mut j = 0;
-    while j < food.len() {
-        let x = food[j];
-        j += 1;
-        if lists::holds(eaten, x) {
-            continue;
+    for x in food {
+        if !lists::holds(eaten, *x) {
+            out[at] = *x;
+            at += 1;
         }
-        out[at] = x;
-        at += 1;
     }
 }

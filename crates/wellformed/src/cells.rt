@@ -12,10 +12,8 @@ fn cells_below(cells: &[u16], area: u16) -> bool
     ensures { Below cells.now area result }
 {
     let mut below = true;
-    let mut k = 0;
-    while k < cells.len() {
-        below = below & (cells[k] < area);
-        k += 1;
+    for c in cells {
+        below &= *c < area;
     }
     below
 }
@@ -38,12 +36,10 @@ fn bodies_fit(image: &[u16]) -> bool
 {
     let n = image[0] as usize;
     let mut board = [0u8; 1024];
-    let mut i = 0;
-    while i < n {
+    for i in 0..n {
         if !body_once(image, i, &mut board) {
             return false;
         }
-        i += 1;
     }
     true
 }
@@ -54,26 +50,12 @@ fn rising(food: &[u16]) -> bool
 {
     let mut rises = true;
     let mut low = 0;
-    let mut k = 0;
-    while k < food.len() {
-        let c = food[k] as usize;
-        rises = rises & (low <= c);
+    for cell in food {
+        let c = *cell as usize;
+        rises &= low <= c;
         low = c + 1;
-        k += 1;
     }
     rises
-}
-
-// The bodies' own tests, then the food's.
-fn lists_fit(image: &[u16], food: usize) -> bool
-    requires on_board { OnBoard image.now }
-    requires food_value { food ≡ food_start image.now }
-    ensures { result ≡ every (bodies_fit image.now ∷ food_fits image.now ∷ []) }
-{
-    if !bodies_fit(image) {
-        return false;
-    }
-    rising(&image[food..])
 }
 
 pub fn cells_fit(image: &[u16]) -> bool
@@ -91,8 +73,5 @@ pub(crate) fn parts_fit(image: &[u16], food: usize) -> bool
     requires food_value { food ≡ food_start image.now }
     ensures { result ≡ every (cells_fit image.now ∷ bodies_fit image.now ∷ food_fits image.now ∷ []) }
 {
-    if !cells_fit(image) {
-        return false;
-    }
-    lists_fit(image, food)
+    cells_fit(image) && bodies_fit(image) && rising(&image[food..])
 }

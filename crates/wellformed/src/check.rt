@@ -14,24 +14,11 @@ fn layout_fits(image: &[u16]) -> bool
     ensures { result ≡ every (starts_fit image.now ∷ total_fits image.now ∷ cells_fit image.now ∷ bodies_fit image.now ∷ food_fits image.now ∷ []) }
 {
     let found = laid_out(image);
-    if !found.fits {
-        return false;
-    }
-    let food = found.food;
-    if food + image[4] as usize != image.len() {
-        return false;
-    }
-    parts_fit(image, food)
+    found.fits && found.food + image[4] as usize == image.len() && parts_fit(image, found.food)
 }
 
 pub fn well_formed(image: &[u16]) -> bool
     ensures { Checks image.now result }
 {
-    if !long_enough(image) {
-        return false;
-    }
-    if !ranges_fit(image) {
-        return false;
-    }
-    layout_fits(image)
+    long_enough(image) && ranges_fit(image) && layout_fits(image)
 }

@@ -6,7 +6,7 @@ ghost use Rattle.wellformed.specs.Checked.{Long, Ranged, Adds};
 
 use layout::{alive_at, front, heading_at, length_at, start_at};
 
-// Whether every body starts where it is due, and where the food is due.
+// Whether every body starts where it is due, and where the food is due. No Option: `Adds` promises the food's place also where a start is out of line.
 #[derive(Clone, Copy)]
 pub struct Layout {
     pub fits: bool,
@@ -16,10 +16,7 @@ pub struct Layout {
 pub(crate) fn long_enough(image: &[u16]) -> bool
     ensures { result ≡ long_enough image.now }
 {
-    if image.len() < 5 {
-        return false;
-    }
-    front(image[0] as usize) <= image.len()
+    5 <= image.len() && front(image[0] as usize) <= image.len()
 }
 
 pub fn contents_fit(image: &[u16]) -> bool
@@ -50,10 +47,8 @@ fn records_fit(image: &[u16], area: usize, n: usize) -> bool
     ensures { result ≡ all_below n (record_fits image.now) }
 {
     let mut fit = true;
-    let mut i = 0;
-    while i < n {
-        fit = fit & record_fits(image, area, i);
-        i += 1;
+    for i in 0..n {
+        fit &= record_fits(image, area, i);
     }
     fit
 }
@@ -62,11 +57,8 @@ pub(crate) fn ranges_fit(image: &[u16]) -> bool
     requires { Long image.now }
     ensures { result ≡ ranges_fit image.now }
 {
-    if !contents_fit(image) {
-        return false;
-    }
     let g = image[1] as usize;
-    records_fit(image, g * g, image[0] as usize)
+    contents_fit(image) && records_fit(image, g * g, image[0] as usize)
 }
 
 // A running sum: each start is held against the lengths before it.
@@ -77,11 +69,9 @@ pub fn laid_out(image: &[u16]) -> Layout
     let n = image[0] as usize;
     let mut due = front(n);
     let mut fits = true;
-    let mut i = 0;
-    while i < n {
-        fits = fits & (image[start_at(i)] as usize == due);
+    for i in 0..n {
+        fits &= image[start_at(i)] as usize == due;
         due += image[length_at(i)] as usize;
-        i += 1;
     }
     Layout { fits, food: due }
 }

@@ -1,9 +1,8 @@
 -- Which word each search finds: a law for each return and each turn of a loop. Assumes nothing.
-use Prim.Native.Nat.{ℕ, ◌+◌, ◌-◌, ◌*◌, ◌<◌, ◌≤◌}
-use native.Mathlib.Nat.{sub-zero}
+use Prim.Native.Nat.{ℕ, ◌+◌, ◌-◌, ◌*◌, ◌<◌, ◌≤◌, max}
 use native.Mathlib.Omega.{arith}
 use mathlib.Core.Path.{◌≡◌, sym, ap, ◌∙◌}
-use mathlib.Core.Bool.{Bool, true, not}
+use mathlib.Core.Bool.{Bool, true, false, not}
 use mathlib.Core.List.{List}
 use mir.Syntax.{w64}
 use mir.Val.{Fits}
@@ -12,10 +11,6 @@ use lib.ListN.{length, get_or, take, drop, length-drop}
 use lib.Seq.{length-take-le}
 use borrow.Author.Tests.{le-leb, lt-leb, not-true}
 use Rattle.lists.specs.Lists.{member, distinct}
-use Rattle.lists.specs.Search.{found_in, is_found}
-use Rattle.lists.specs.declared.Found.{Found}
-use Rattle.lists.specs.declared.Found.TheVariants.{At, Nothing}
-use Rattle.lists.proofs.Search.{found_member}
 use Rattle.lists.proofs.Lowest.{lowest_le, Passing, pass_none, pass_from, pass_here, pass_on, pass_all, out_here, out_none}
 use Rattle.lists.proofs.Lists.{part_is}
 use Rattle.boards.specs.Boards.{Stamped}
@@ -41,8 +36,8 @@ module _ (w : List ℕ) where
     pub beyond_on : k < length w → get_or w k 0 < area_in w → Beyond (k + 1)
     beyond_on h l = pass_on _ (length w) _ k q h (lt-leb (area_in w) (get_or w k 0) l)
 
-    pub beyond_none : length w ≤ k → k ≡ cell_word w
-    beyond_none h = pass_all _ (length w) _ k q h
+    pub beyond_none : length w ≤ k → k ≤ length w → length w ≡ cell_word w
+    beyond_none h l = let e : length w ≡ k = omega arith in e ∙ pass_all _ (length w) _ k q h
 
   -- ---- `first_twice`: the bodies so far have no cell twice
 
@@ -53,8 +48,8 @@ module _ (w : List ℕ) where
     pub twice_here : i < snakes_in w → (b : Bool) (next : List ℕ) → Stamped (body_at w i) (i + 1) b next → not b ≡ true → i ≡ first_twice
     twice_here h b next s t = out_here _ (snakes_in w) i h v.so_far (sym s.says ∙ not-true b t)
 
-    pub twice_none : snakes_in w ≤ i → i ≡ first_twice
-    twice_none l = out_none _ (snakes_in w) i v.within l v.so_far
+    pub twice_none : snakes_in w ≤ i → snakes_in w ≡ first_twice
+    twice_none l = let e : snakes_in w ≡ i = omega (arith, v.within) in e ∙ out_none _ (snakes_in w) i v.within l v.so_far
 
   -- ---- `twice_at`: the start and the length stand at words k and m
 
@@ -69,31 +64,26 @@ module _ (w : List ℕ) where
     unfolding twice_in
     twice_fits r z = omega (arith, lowest_le (λ j. member (get_or part j 0) (take j part)) 0 (length part), part_long, body_fits w o i h k m e q)
 
-    pub twice_by : (r : ℕ) → r ≡ twice_in part → get_or w k 0 + r ≡ start_at w i + twice_in (body_at w i)
-    twice_by r z = rw (z, body_is w o i h k m e q, e)
-
   -- ---- `first_fall`
 
   pub record Falls (k : ℕ) : Type 0 where
-    pub above : 1 ≤ k
+    pub above : food_start w + 1 ≤ k
+    pub within : k ≤ max (length w) (food_start w + 1)
     pub passing : Passing (λ j. leb (word w j) (word w (j - 1))) (food_word w) (length w) k
 
   pub falls_from : (food : ℕ) → food ≡ food_start w → Falls (food + 1)
   unfolding food_word
-  falls_from food e = record { above = omega arith; passing = rw e (pass_from _ (length w) (food_start w + 1)) }
-
-  pub food_fits_lem : Laid w → (food : ℕ) → food ≡ food_start w → Fits w64 (food + 1)
-  food_fits_lem l food e = omega (arith, l.ranged.food_early)
+  falls_from food e = record { above = omega arith; within = omega arith; passing = rw e (pass_from _ (length w) (food_start w + 1)) }
 
   module _ (k : ℕ) (q : Falls k) where
     pub falls_here : k < length w → get_or w k 0 ≤ get_or w (k - 1) 0 → k ≡ food_word w
     falls_here h l = pass_here _ (length w) _ k q.passing h (le-leb (get_or w k 0) (get_or w (k - 1) 0) l)
 
     pub falls_on : k < length w → get_or w (k - 1) 0 < get_or w k 0 → Falls (k + 1)
-    falls_on h l = record { above = omega arith; passing = pass_on _ (length w) _ k q.passing h (lt-leb (get_or w k 0) (get_or w (k - 1) 0) l) }
+    falls_on h l = record { above = omega (arith, q.above); within = omega arith; passing = pass_on _ (length w) _ k q.passing h (lt-leb (get_or w k 0) (get_or w (k - 1) 0) l) }
 
-    pub falls_none : length w ≤ k → k ≡ food_word w
-    falls_none h = pass_all _ (length w) _ k q.passing h
+    pub falls_none : length w ≤ k → (food : ℕ) → food ≡ food_start w → (r : ℕ) → r ≡ max (length w) (food + 1) → r ≡ food_word w
+    falls_none h food f r e = let same : r ≡ k = omega (arith, q.above, q.within) in same ∙ pass_all _ (length w) _ k q.passing h
 
 -- ---- `twice_in`
 
@@ -106,15 +96,12 @@ module _ (l : List ℕ) where
   once_none = pass_none _ (length l)
 
   module _ (k : ℕ) (q : Twice k) where
-    module _ (h : k < length l) (f : Found) (e : f ≡ found_in (take (k - 0) (drop 0 l)) (get_or l k 0)) where
-      told : is_found f ≡ member (get_or l k 0) (take k l)
-      told = ap is_found e ∙ found_member (get_or l k 0) (take (k - 0) (drop 0 l)) ∙ ap (λ (j : ℕ). member (get_or l k 0) (take j l)) (sub-zero k)
+    module _ (h : k < length l) (b : Bool) (e : b ≡ member (get_or l k 0) (take k l)) where
+      pub once_here : b ≡ true → k ≡ twice_in l
+      once_here t = pass_here _ (length l) _ k q h (sym e ∙ t)
 
-      pub once_here : (p : ℕ) → f ≡ At p → k ≡ twice_in l
-      once_here p t = pass_here _ (length l) _ k q h (sym told ∙ ap is_found t)
+      pub once_on : b ≡ false → Twice (k + 1)
+      once_on t = pass_on _ (length l) _ k q h (sym e ∙ t)
 
-      pub once_on : f ≡ Nothing → Twice (k + 1)
-      once_on t = pass_on _ (length l) _ k q h (sym told ∙ ap is_found t)
-
-    pub once_all : length l ≤ k → k ≡ twice_in l
-    once_all h = pass_all _ (length l) _ k q h
+    pub once_all : length l ≤ k → k ≤ length l → length l ≡ twice_in l
+    once_all h m = let e : length l ≡ k = omega arith in e ∙ pass_all _ (length l) _ k q h

@@ -6,7 +6,6 @@ ghost use Rattle.rules.specs.Faults.{first_out, cell_word, twice_in, food_word};
 ghost use Rattle.wellformed.specs.Checked.{Ranged, Laid, OnBoard};
 
 use layout::{front, length_at, start_at};
-use lists::Found;
 use wellformed::body_once;
 
 // 54: the first word past the records that is g² or more.
@@ -15,14 +14,12 @@ pub fn first_beyond(image: &[u16]) -> usize
     ensures { result ≡ cell_word image.now }
 {
     let g = image[1];
-    let mut k = front(image[0] as usize);
-    while k < image.len() {
+    for k in front(image[0] as usize)..image.len() {
         if g * g <= image[k] {
             return k;
         }
-        k += 1;
     }
-    k
+    image.len()
 }
 
 // 55: the first snake with a cell twice in its body, or n. One board for all bodies, as in the check.
@@ -32,28 +29,24 @@ pub fn first_twice(image: &[u16]) -> usize
 {
     let n = image[0] as usize;
     let mut board = [0u8; 1024];
-    let mut i = 0;
-    while i < n {
+    for i in 0..n {
         if !body_once(image, i, &mut board) {
             return i;
         }
-        i += 1;
     }
-    i
+    n
 }
 
 // The first place whose cell stood earlier in the body.
 fn twice_in(body: &[u16]) -> usize
     ensures { result ≡ twice_in body.now }
 {
-    let mut k = 0;
-    while k < body.len() {
-        match lists::find(&body[0..k], body[k]) {
-            Found::At(_) => return k,
-            Found::Nothing => k += 1,
+    for (k, cell) in body.iter().enumerate() {
+        if lists::holds(&body[..k], *cell) {
+            return k;
         }
     }
-    k
+    body.len()
 }
 
 pub fn twice_at(image: &[u16], i: usize) -> usize
@@ -70,12 +63,10 @@ pub fn first_fall(image: &[u16], food: usize) -> usize
     requires { Laid image.now × (food ≡ food_start image.now) }
     ensures { result ≡ food_word image.now }
 {
-    let mut k = food + 1;
-    while k < image.len() {
+    for k in food + 1..image.len() {
         if image[k] <= image[k - 1] {
             return k;
         }
-        k += 1;
     }
-    k
+    image.len().max(food + 1)
 }

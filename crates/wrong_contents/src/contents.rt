@@ -60,14 +60,12 @@ pub fn first_record(image: &[u16], area: usize, n: usize) -> usize
     requires { (n < 65536) × (front n ≤ length image.now) × (area ≡ area_in image.now) }
     ensures { result ≡ first_out n (record_fits image.now) }
 {
-    let mut i = 0;
-    while i < n {
+    for i in 0..n {
         if !record_fits(image, area, i) {
             return i;
         }
-        i += 1;
     }
-    i
+    n
 }
 
 // 52: the first start that is not where the part before it ends.
@@ -77,13 +75,11 @@ pub fn first_start(image: &[u16]) -> usize
 {
     let n = image[0] as usize;
     let mut due = front(n);
-    let mut i = 0;
-    while i < n {
+    for i in 0..n {
         if image[start_at(i)] as usize != due {
             return start_at(i);
         }
         due += image[length_at(i)] as usize;
-        i += 1;
     }
-    start_at(i)
+    start_at(n)
 }

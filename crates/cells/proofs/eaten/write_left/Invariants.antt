@@ -1,13 +1,7 @@
--- The invariant: those left of the first j apples are written, and `at` is the index after them.
-use Prim.Native.Nat.{◌+◌, ◌-◌, ◌≤◌}
-use mathlib.Core.Path.{◌≡◌}
-use lib.ListN.{length, take}
-use Rattle.lists.specs.Lists.{write_at}
-use Rattle.cells.specs.Writers.{left}
+-- `cells::write_left` meets its contract. The invariant: those left of the apples so far are written, and `at` is the index after them (`LeftTo`).
+-- Assumes nothing.
+use Rattle.cells.proofs.Left.{LeftTo}
 use Rattle.cells.proofs.eaten.write_left.Given as goal
 
-abbrev pub invariant-loop-j : goal.invariant-loop-j
-invariant-loop-j l = (l.j ≤ length l.food) × (length l.out ≡ length l.initial.out) × (l.at ≡ l.from + length (left l.eaten (take l.j l.food))) × (l.out ≡ write_at l.initial.out l.from (left l.eaten (take l.j l.food)))
-
-abbrev pub decreases-loop-j : goal.decreases-loop-j
-decreases-loop-j l = length l.food - l.j
+abbrev pub invariant-loop-x : goal.invariant-loop-x
+invariant-loop-x l = LeftTo l.eaten l.food l.initial.out l.from l.out l.at l.x-index

@@ -1,5 +1,5 @@
 -- `wellformed::bodies_fit` meets its contract. The invariant: the bodies so far have no cell twice, and the next stamp is new to the board (`BodiesTo`).
--- The measure is how many bodies are left. Assumes nothing.
+-- Assumes nothing.
 use Rattle.wellformed.proofs.Loops.{bodies_none, bodies_fail, bodies_next, bodies_all}
 use Rattle.wellformed.proofs.cells.bodies_fit.Goals as goal
 

@@ -1,6 +1,9 @@
--- `wellformed::cells_fit` meets its contract: the words past the records are the cells (`cells_by`). Assumes nothing.
-use Rattle.wellformed.proofs.Answers.{cells_by}
+-- `wellformed::cells_fit` meets its contract: the words past the records are the cells. Assumes nothing.
+use Rattle.std.proofs.Common.{arith}
+use Rattle.lists.proofs.Lists.{rest_is}
+use Rattle.rules.specs.Image.{cells_fit}
 use Rattle.wellformed.proofs.cells.cells_fit.Goals as goal
 
 pub returns : goal.returns
-returns c = search cells_by
+unfolding cells_fit
+returns c = grind (arith, rest_is, c.cells_below.ensures.says)

@@ -1,13 +1,18 @@
--- `wellformed::parts_fit` meets its contract: cells below g² have a square of the board, which the tests after them ask. Assumes nothing.
-use borrow.Author.Rules.{rules}
-use Rattle.wellformed.proofs.Answers.{parts_out, parts_board, parts_by}
+-- `wellformed::parts_fit` meets its contract: cells below g² have a square of the board, which the bodies' tests ask. Assumes nothing.
+use Rattle.std.proofs.Common.{◌≡◌, arith, true}
+use Rattle.lists.specs.Lists.{every}
+use Rattle.lists.proofs.Lists.{rest_is}
+use Rattle.rules.specs.Image.{cells_fit, food_fits}
+use Rattle.wellformed.proofs.Checked.{board_of}
 use Rattle.wellformed.proofs.cells.parts_fit.Goals as goal
 
-pub returns-then-not-cells_fit : goal.returns-then-not-cells_fit
-returns-then-not-cells_fit c = search parts_out
+pub bodies_fit-requires : goal.bodies_fit-requires
+bodies_fit-requires c = let t : cells_fit c.args.image.now ≡ true = grind arith in search board_of
 
-pub lists_fit-requires : goal.lists_fit-requires
-lists_fit-requires c = search (rules, parts_board)
+pub returns-then-bodies_fit : goal.returns-then-bodies_fit
+unfolding every food_fits
+returns-then-bodies_fit c = grind (arith, rest_is)
 
-pub returns : goal.returns
-returns c = search parts_by
+pub returns-else-bodies_fit : goal.returns-else-bodies_fit
+unfolding every
+returns-else-bodies_fit c = grind arith

@@ -1,23 +1,22 @@
 -- `wellformed::layout_fits` meets its contract: the starts, then the total; with both, each part is where it is due. Assumes nothing.
-use borrow.Author.Rules.{rules}
-use Rattle.lists.proofs.Fits.{word_fits}
-use Rattle.wellformed.proofs.Answers.{starts_out, total_fits_lem, total_out, laid, layout_by}
+use Rattle.std.proofs.Common.{◌≡◌, ◌+◌, length, arith, true}
+use Rattle.std.proofs.lemmas.Bool.Decides.{nat_tests}
+use Rattle.lists.specs.Lists.{every}
+use Rattle.rules.specs.Image.{starts_fit, total_fits, food_start, food_count_in}
+use Rattle.wellformed.proofs.Checked.{laid_of}
 use Rattle.wellformed.proofs.check.layout_fits.Goals as goal
 
-pub returns-then-not-found : goal.returns-then-not-found
-returns-then-not-found c = search starts_out
+pub parts_fit-requires-clause-laid : goal.parts_fit-requires-clause-laid
+parts_fit-requires-clause-laid c =
+    let w = c.args.image.now in
+    let s : starts_fit w ≡ true = grind arith in
+    let t : food_start w + food_count_in w ≡ length w = grind (arith, nat_tests) in
+    laid_of w c.requires s t
 
-pub overflow_cast-image : goal.overflow_cast-image
-overflow_cast-image c = search word_fits
+pub returns-then-found-image : goal.returns-then-found-image
+unfolding every total_fits
+returns-then-found-image c = grind (arith, nat_tests)
 
-pub overflow_add-food : goal.overflow_add-food
-overflow_add-food c = search total_fits_lem
-
-pub returns-then-food-image : goal.returns-then-food-image
-returns-then-food-image c = search total_out
-
-pub parts_fit-requires : goal.parts_fit-requires
-parts_fit-requires c = search (rules, laid)
-
-pub returns : goal.returns
-returns c = search layout_by
+pub returns-else-found-image : goal.returns-else-found-image
+unfolding every total_fits
+returns-else-found-image c = grind (arith, nat_tests)

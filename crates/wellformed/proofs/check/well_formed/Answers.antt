@@ -1,18 +1,24 @@
 -- `wellformed::well_formed` meets its contract: each test that holds gives the facts that the next one requires. Assumes nothing.
-use Rattle.wellformed.proofs.Answers.{check_short, check_long, check_range, check_ranged, check_rest}
+use Rattle.std.proofs.Common.{◌≡◌, arith, true}
+use Rattle.lists.specs.Lists.{every}
+use Rattle.rules.specs.Image.{long_enough, ranges_fit, well_formed}
+use Rattle.wellformed.proofs.Checked.{long_of, ranged_of}
 use Rattle.wellformed.proofs.check.well_formed.Goals as goal
 
-pub returns-then-not-long_enough : goal.returns-then-not-long_enough
-returns-then-not-long_enough c = search check_short
-
 pub ranges_fit-requires : goal.ranges_fit-requires
-ranges_fit-requires c = search check_long
-
-pub returns-then-not-ranges_fit : goal.returns-then-not-ranges_fit
-returns-then-not-ranges_fit c = search check_range
+ranges_fit-requires c = let t : long_enough c.args.image.now ≡ true = grind arith in search long_of
 
 pub layout_fits-requires : goal.layout_fits-requires
-layout_fits-requires c = check_ranged _ _ c.ranges_fit.ensures (search) (search check_long)
+layout_fits-requires c =
+    let w = c.args.image.now in
+    let t : long_enough w ≡ true = grind arith in
+    let r : ranges_fit w ≡ true = grind arith in
+    ranged_of w (long_of w t) r
 
-pub returns : goal.returns
-returns c = search check_rest
+pub returns-then-ranges_fit : goal.returns-then-ranges_fit
+unfolding every well_formed
+returns-then-ranges_fit c = record { answer = grind arith }
+
+pub returns-else-ranges_fit : goal.returns-else-ranges_fit
+unfolding every well_formed
+returns-else-ranges_fit c = record { answer = grind arith }

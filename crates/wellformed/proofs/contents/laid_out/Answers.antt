@@ -1,17 +1,10 @@
 -- `wellformed::laid_out` meets its contract. The invariant: `due` is where snake i is due, and the flag tells of the starts before it (`AddsTo`).
--- The measure is how many snakes are left. Assumes nothing.
-use Rattle.lists.proofs.Fits.{word_fits}
+-- Assumes nothing.
 use Rattle.wellformed.proofs.Loops.{adds_none, adds_fits, adds_next, adds_all}
 use Rattle.wellformed.proofs.contents.laid_out.Goals as goal
 
 pub loop-i-init : goal.loop-i-init
 loop-i-init c = search adds_none
-
-pub overflow_cast-fits : goal.overflow_cast-fits
-overflow_cast-fits c = search word_fits
-
-pub overflow_cast-due : goal.overflow_cast-due
-overflow_cast-due c = search word_fits
 
 pub overflow_add-due : goal.overflow_add-due
 overflow_add-due c = search adds_fits

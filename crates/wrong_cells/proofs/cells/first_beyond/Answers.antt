@@ -1,5 +1,8 @@
 -- `wrong_cells::first_beyond` meets its contract. The invariant: no word from the records' end up to k is g² or more (`Beyond`).
--- The measure is how many words are left. Assumes nothing.
+-- Assumes nothing.
+use Prim.Native.Nat.{◌≤◌}
+use native.Mathlib.Omega.{arith}
+use lib.ListN.{length}
 use Rattle.wrong_cells.proofs.Finding.{beyond_from, beyond_here, beyond_on, beyond_none}
 use Rattle.wrong_cells.proofs.cells.first_beyond.Goals as goal
 
@@ -13,4 +16,6 @@ pub loop-k-preserved : goal.loop-k-preserved
 loop-k-preserved c = search beyond_on
 
 pub returns : goal.returns
-returns c = search beyond_none
+returns c =
+    let within : c.loop-k.k ≤ length c.args.image.now = omega (arith, c.requires.long.records_in) in
+    search beyond_none

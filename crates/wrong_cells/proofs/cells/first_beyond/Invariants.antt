@@ -1,12 +1,7 @@
 -- `wrong_cells::first_beyond` meets its contract. The invariant: no word from the records' end up to k is g² or more (`Beyond`).
--- The measure is how many words are left. Assumes nothing.
-use Prim.Native.Nat.{◌-◌}
-use lib.ListN.{length}
+-- Assumes nothing.
 use Rattle.wrong_cells.proofs.Finding.{Beyond}
 use Rattle.wrong_cells.proofs.cells.first_beyond.Given as goal
 
 abbrev pub invariant-loop-k : goal.invariant-loop-k
 invariant-loop-k l = Beyond l.image l.k
-
-abbrev pub decreases-loop-k : goal.decreases-loop-k
-decreases-loop-k l = length l.image - l.k

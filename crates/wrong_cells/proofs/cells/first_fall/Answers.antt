@@ -1,10 +1,7 @@
 -- `wrong_cells::first_fall` meets its contract. The invariant: each word of the food up to k is above the one before it (`Falls`).
--- The measure is how many words are left. Assumes nothing.
-use Rattle.wrong_cells.proofs.Finding.{falls_from, food_fits_lem, falls_here, falls_on, falls_none}
+-- Assumes nothing.
+use Rattle.wrong_cells.proofs.Finding.{falls_from, falls_here, falls_on, falls_none}
 use Rattle.wrong_cells.proofs.cells.first_fall.Goals as goal
-
-pub overflow_add-k : goal.overflow_add-k
-overflow_add-k c = search food_fits_lem
 
 pub loop-k-init : goal.loop-k-init
 loop-k-init c = search falls_from

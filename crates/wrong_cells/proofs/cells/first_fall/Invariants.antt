@@ -1,12 +1,7 @@
 -- `wrong_cells::first_fall` meets its contract. The invariant: each word of the food up to k is above the one before it (`Falls`).
--- The measure is how many words are left. Assumes nothing.
-use Prim.Native.Nat.{◌-◌}
-use lib.ListN.{length}
+-- Assumes nothing.
 use Rattle.wrong_cells.proofs.Finding.{Falls}
 use Rattle.wrong_cells.proofs.cells.first_fall.Given as goal
 
 abbrev pub invariant-loop-k : goal.invariant-loop-k
 invariant-loop-k l = Falls l.image l.k
-
-abbrev pub decreases-loop-k : goal.decreases-loop-k
-decreases-loop-k l = length l.image - l.k

@@ -1,5 +1,5 @@
 -- `wrong_cells::first_twice` meets its contract. The invariant: the bodies so far have no cell twice, and the next stamp is new to the board (`BodiesTo`).
--- The measure is how many bodies are left. Assumes nothing.
+-- Assumes nothing.
 use Rattle.wellformed.proofs.Loops.{bodies_none, bodies_next}
 use Rattle.wrong_cells.proofs.Finding.{twice_here, twice_none}
 use Rattle.wrong_cells.proofs.cells.first_twice.Goals as goal

@@ -1,11 +1,7 @@
 -- `wrong_cells::first_twice` meets its contract. The invariant: the bodies so far have no cell twice, and the next stamp is new to the board (`BodiesTo`).
--- The measure is how many bodies are left. Assumes nothing.
-use Prim.Native.Nat.{◌-◌}
+-- Assumes nothing.
 use Rattle.wellformed.proofs.Loops.{BodiesTo}
 use Rattle.wrong_cells.proofs.cells.first_twice.Given as goal
 
 abbrev pub invariant-loop-i : goal.invariant-loop-i
 invariant-loop-i l = BodiesTo l.image l.board l.i
-
-abbrev pub decreases-loop-i : goal.decreases-loop-i
-decreases-loop-i l = l.n - l.i

@@ -1,4 +1,4 @@
--- `wrong_cells::twice_in` meets its contract. The invariant: no cell before k stood earlier in the body (`Twice`). The measure is how many are left.
+-- `wrong_cells::twice_in` meets its contract. The invariant: no cell before k stood earlier in the body (`Twice`).
 -- Assumes nothing.
 use Rattle.wrong_cells.proofs.Finding.{once_none, once_here, once_on, once_all}
 use Rattle.wrong_cells.proofs.cells.twice_in.Goals as goal
@@ -6,8 +6,8 @@ use Rattle.wrong_cells.proofs.cells.twice_in.Goals as goal
 pub loop-k-init : goal.loop-k-init
 loop-k-init c = search once_none
 
-pub returns-in-At : goal.returns-in-At
-returns-in-At c = search once_here
+pub returns-then-holds : goal.returns-then-holds
+returns-then-holds c = search once_here
 
 pub loop-k-preserved : goal.loop-k-preserved
 loop-k-preserved c = search once_on

@@ -1,4 +1,4 @@
--- `wrong_contents::first_record` meets its contract. The invariant: the first i records fit (`RecordsTo`). The measure is how many are left.
+-- `wrong_contents::first_record` meets its contract. The invariant: the first i records fit (`RecordsTo`).
 -- Assumes nothing.
 use Rattle.wellformed.proofs.Loops.{records_none}
 use Rattle.wrong_contents.proofs.Finding.{record_here, record_on, record_none}

@@ -1,16 +1,17 @@
 -- `wrong_contents::record_out` meets its contract: the length's own tests, the heading's, and else the flag. Assumes nothing.
-use Rattle.lists.proofs.Fits.{word_fits}
-use Rattle.wrong_contents.proofs.Finding.{out_length, out_heading, out_alive}
+use Rattle.std.proofs.Common.{arith}
+use Rattle.std.proofs.lemmas.Bool.Decides.{nat_tests}
+use Rattle.rules.specs.Faults.{record_out}
 use Rattle.wrong_contents.proofs.contents.record_out.Goals as goal
 
-pub overflow_cast-len : goal.overflow_cast-len
-overflow_cast-len c = search word_fits
-
 pub returns-then-area-len : goal.returns-then-area-len
-returns-then-area-len c = search out_length
+unfolding record_out
+returns-then-area-len c = grind (arith, nat_tests)
 
 pub returns-then-image-heading_at-gt3 : goal.returns-then-image-heading_at-gt3
-returns-then-image-heading_at-gt3 c = search out_heading
+unfolding record_out
+returns-then-image-heading_at-gt3 c = grind (arith, nat_tests)
 
 pub returns : goal.returns
-returns c = search out_alive
+unfolding record_out
+returns c = grind (arith, nat_tests)
