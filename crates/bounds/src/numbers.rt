@@ -10,29 +10,20 @@ use rules::{Limit, Setting};
 fn is_zero(lead: Limit) -> bool
     ensures { result ≡ is_zero lead }
 {
-    match lead {
-        Limit::Unset => false,
-        Limit::Is(k) => k == 0,
-    }
+    matches!(lead, Limit::Is(0))
 }
 
 fn is_set(lead: Limit) -> bool
     ensures { result ≡ is_set lead }
 {
-    match lead {
-        Limit::Unset => false,
-        Limit::Is(_) => true,
-    }
+    matches!(lead, Limit::Is(_))
 }
 
 // The grid's side; 0 where the grid is negative.
 pub fn side_of(grid: i32) -> u64
     ensures { result ≡ side_of grid }
 {
-    if grid < 0 {
-        return 0;
-    }
-    grid as u64
+    grid.max(0) as u64
 }
 
 // Whether the product of k factors from `area` downward is above 2^53; a product that is 0 is one above 2^64 - 1.
@@ -41,10 +32,11 @@ fn too_many(area: usize, k: usize) -> bool
     ensures { result ≡ ltb (2 ^ 53) (falling area k) }
 {
     let product = lists::product(area, k);
-    (product == 0) | (9007199254740992 < product)
+    product == 0 || 9007199254740992 < product
 }
 
 // Refusals 6 and 8.
+#[tactic(auto, unfolding(rules::specs::Tables::fault))]
 fn crowded(n: u64, side: u64, food: u64) -> u8
     requires { side ≤ 32 }
     ensures { result ≡ crowd_check n side food }
@@ -53,34 +45,31 @@ fn crowded(n: u64, side: u64, food: u64) -> u8
     if area < food {
         return 6;
     }
-    if too_many(area as usize, lists::smaller(n as usize, food as usize)) {
+    if too_many(area as usize, n.min(food) as usize) {
         return 8;
     }
     0
 }
 
+#[tactic(auto, unfolding(rules::specs::SettingParts::limits_check, rules::specs::Tables::fault))]
 pub fn limits(setting: Setting) -> u8
     ensures { result ≡ limits_check setting }
 {
     let n = setting.num_snakes;
-    let size = setting.initial_length;
-    let lead = setting.win_food_lead;
-    let grid = setting.grid_size;
-    let food = setting.initial_food_count;
-    if (n < 2) | (8 < n) {
+    if n < 2 || 8 < n {
         return 1;
     }
-    if size == 0 {
+    if setting.initial_length == 0 {
         return 2;
     }
-    if is_zero(lead) {
+    if is_zero(setting.win_food_lead) {
         return 3;
     }
-    if is_set(lead) & (n != 2) {
+    if is_set(setting.win_food_lead) && n != 2 {
         return 4;
     }
-    if 32 < grid {
+    if 32 < setting.grid_size {
         return 5;
     }
-    crowded(n, side_of(grid), food)
+    crowded(n, side_of(setting.grid_size), setting.initial_food_count)
 }

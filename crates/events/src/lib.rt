@@ -11,13 +11,7 @@ use rules::{Cause, Event};
 pub fn is_death(cause: Cause) -> bool
     ensures { result ≡ dies cause }
 {
-    match cause {
-        Cause::NoCause => false,
-        Cause::Wall => true,
-        Cause::SelfBody => true,
-        Cause::OppBody => true,
-        Cause::HeadOn => true,
-    }
+    !matches!(cause, Cause::NoCause)
 }
 
 pub fn cause_number(cause: Cause) -> u16
@@ -36,7 +30,6 @@ pub fn cause_in(number: u16) -> Cause
     ensures { result ≡ cause_in number }
 {
     match number {
-        0 => Cause::NoCause,
         1 => Cause::Wall,
         2 => Cause::SelfBody,
         3 => Cause::OppBody,
@@ -65,7 +58,8 @@ pub fn no_events() -> [Event; 8]
 pub fn mark(event: Event, alive: bool) -> Event
     ensures { result ≡ truncated event alive }
 {
-    let mut marked = event;
-    marked.survived_to_max_ticks = alive;
-    marked
+    Event {
+        survived_to_max_ticks: alive,
+        ..event
+    }
 }

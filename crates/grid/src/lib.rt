@@ -1,29 +1,13 @@
 // Headings, actions by number, and places: a row and a column, perhaps off the grid. Of the rules' code, rows and columns are signed here and where snakes are placed alone.
 #![tactic(auto)]
 
-ghost use Rattle.std.specs.Prelude.{◌≡◌, ◌<◌, ◌≤◌, pos, nat_abs};
-ghost use Rattle.std.proofs.Math.IntN.{suc_ℤ, pred_ℤ};
-ghost use Rattle.std.specs.Int.Signed.{mag};
+ghost use Rattle.std.specs.Prelude.{◌≡◌, ◌≤◌, pos, nat_abs};
 ghost use Rattle.rules.specs.Headings.{clockwise, counterclockwise, action_of};
 ghost use Rattle.rules.specs.Grid.{ahead, inside, same_z, same, cell_of, place_of};
 ghost use Rattle.rules.specs.Promises.{Turns};
 ghost use Rattle.grid.specs.Near.{Near, Plain};
 
 use rules::{Heading, Place, RelativeAction};
-
-fn more(x: i32) -> i32
-    requires { mag x < 1048576 }
-    ensures { result ≡ suc_ℤ x }
-{
-    x + 1
-}
-
-fn less(x: i32) -> i32
-    requires { mag x < 1048576 }
-    ensures { result ≡ pred_ℤ x }
-{
-    x - 1
-}
 
 // cw of the Rust.
 fn clockwise(heading: Heading) -> Heading
@@ -76,24 +60,22 @@ pub fn ahead(heading: Heading, p: Place) -> Place
     requires { Near p }
     ensures { result ≡ ahead heading p }
 {
-    let row = p.row;
-    let col = p.col;
     match heading {
         Heading::Up => Place {
-            row: less(row),
-            col,
+            row: p.row - 1,
+            ..p
         },
         Heading::Right => Place {
-            row,
-            col: more(col),
+            col: p.col + 1,
+            ..p
         },
         Heading::Down => Place {
-            row: more(row),
-            col,
+            row: p.row + 1,
+            ..p
         },
         Heading::Left => Place {
-            row,
-            col: less(col),
+            col: p.col - 1,
+            ..p
         },
     }
 }
@@ -102,18 +84,7 @@ pub fn ahead(heading: Heading, p: Place) -> Place
 fn is_inside(g: i32, p: Place) -> bool
     ensures { result ≡ inside g p }
 {
-    let row = p.row;
-    let col = p.col;
-    if row < 0 {
-        return false;
-    }
-    if row < g {
-        if col < 0 {
-            return false;
-        }
-        return col < g;
-    }
-    false
+    0 <= p.row && p.row < g && 0 <= p.col && p.col < g
 }
 
 pub fn equal(a: i32, b: i32) -> bool
@@ -125,10 +96,7 @@ pub fn equal(a: i32, b: i32) -> bool
 pub fn same(p: Place, q: Place) -> bool
     ensures { result ≡ same p q }
 {
-    if equal(p.row, q.row) {
-        return equal(p.col, q.col);
-    }
-    false
+    equal(p.row, q.row) && equal(p.col, q.col)
 }
 
 // A number that is not negative, without its sign.
@@ -143,7 +111,7 @@ pub fn plain(x: i32) -> u16
 pub fn signed(x: u16) -> i32
     ensures { result ≡ pos x }
 {
-    x as i32
+    i32::from(x)
 }
 
 // Whether a place is inside a grid whose side has 16 bits.
@@ -158,12 +126,10 @@ pub fn cell_of(g: u16, p: Place) -> u16
     requires { g ≤ 32 }
     ensures { result ≡ cell_of g p }
 {
-    let row = p.row;
-    let col = p.col;
-    if on_grid(g, p) {
-        return plain(row) * g + plain(col);
+    if !on_grid(g, p) {
+        return 0;
     }
-    0
+    plain(p.row) * g + plain(p.col)
 }
 
 pub fn place_of(g: u16, cell: u16) -> Place

@@ -26,10 +26,7 @@ fn find_on(image: &[u16], i: usize, j: usize, you: Move, cell: u16) -> Found
     requires { RestIn image.now j you }
     ensures { Stops image.now i j you cell result }
 {
-    if i == j {
-        return Found::Nothing;
-    }
-    if !you.moves {
+    if i == j || !you.moves {
         return Found::Nothing;
     }
     find_rest(image, j, you, cell)
@@ -40,15 +37,10 @@ pub fn find_other(image: &[u16], all: [Move; 8], n: usize, i: usize, cell: u16) 
     requires { Judging image.now all n i }
     ensures { Stopped image.now all n i cell result }
 {
-    let mut j = 0;
-    while j < n {
-        let you = all[j];
-        let found = find_on(image, i, j, you, cell);
-        let Found::At(k) = found else {
-            j += 1;
-            continue;
-        };
-        return hit_at(j, k);
+    for j in 0..n {
+        if let Found::At(k) = find_on(image, i, j, all[j], cell) {
+            return hit_at(j, k);
+        }
     }
     no_hit()
 }
@@ -58,13 +50,10 @@ fn body_cause(image: &[u16], all: [Move; 8], n: usize, i: usize, cell: u16) -> C
     requires { Judging image.now all n i }
     ensures { OnBody image.now all n i cell result }
 {
-    let me = all[i];
-    let own = find_rest(image, i, me, cell);
-    if is_found(own) {
+    if is_found(find_rest(image, i, all[i], cell)) {
         return Cause::SelfBody;
     }
-    let other = find_other(image, all, n, i, cell);
-    if other.snake < 8 {
+    if find_other(image, all, n, i, cell).snake < 8 {
         return Cause::OppBody;
     }
     Cause::NoCause
@@ -79,13 +68,10 @@ fn cause_of(image: &[u16], all: [Move; 8], n: usize, i: usize) -> Cause
     if !me.moves {
         return Cause::NoCause;
     }
-    let head = me.head;
     let mut met = false;
-    let mut j = 0;
-    while j < n {
+    for j in 0..n {
         let you = all[j];
-        met = met | (i != j) & you.moves & grid::same(head, you.head);
-        j += 1;
+        met |= (i != j) & you.moves & grid::same(me.head, you.head);
     }
     if met {
         return Cause::HeadOn;
@@ -111,12 +97,10 @@ pub fn judge(image: &[u16], actions: &[u64]) -> Judged
     let mut fates = [Fate {
         cause: Cause::NoCause,
     }; 8];
-    let mut i = 0;
-    while i < n {
+    for i in 0..n {
         fates[i] = Fate {
             cause: cause_of(image, moves, n, i),
         };
-        i += 1;
     }
     Judged { moves, fates }
 }

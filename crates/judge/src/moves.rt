@@ -9,15 +9,23 @@ ghost use Rattle.judge.specs.Moving.{LivingAt, OnFood, Kept, going, move_by, mov
 use crate::Move;
 use rules::{Heading, Place};
 
+// A place of the array that no snake has.
+const STILL: Move = Move {
+    moves: false,
+    heading: Heading::Up,
+    eats: false,
+    inside: false,
+    head: Place { row: 0, col: 0 },
+    cell: 0,
+    keep: 0,
+};
+
 // Whether there is food at the cell of a head, which may be off the grid.
 fn on_food(image: &[u16], inside: bool, cell: u16) -> bool
     requires { Sound image.now }
     ensures { OnFood image.now inside cell result }
 {
-    if !inside {
-        return false;
-    }
-    lists::holds(image::food_of(image), cell)
+    inside && lists::holds(image::food_of(image), cell)
 }
 
 // 'Tails stay only if the new head is on food': how many words of the body are kept.
@@ -57,19 +65,14 @@ fn moved(image: &[u16], i: usize, action: u64) -> Move
     ensures { result ≡ move_by image.now i action }
 {
     let snake = image::record_at(image, i);
-    let heading = snake.heading;
     if snake.alive {
-        let turned = grid::relative_to_absolute(heading, grid::action_of(action));
+        let turned = grid::relative_to_absolute(snake.heading, grid::action_of(action));
         return goes_on(image, snake.start, snake.len, turned);
     }
     Move {
-        moves: false,
-        heading,
-        eats: false,
-        inside: false,
-        head: Place { row: 0, col: 0 },
-        cell: 0,
+        heading: snake.heading,
         keep: snake.len,
+        ..STILL
     }
 }
 
@@ -78,19 +81,9 @@ pub fn move_all(image: &[u16], actions: &[u64]) -> [Move; 8]
     requires actions_len { length actions.now ≡ snakes_in image.now }
     ensures { result ≡ filled (move_at image.now actions.now) (snakes_in image.now) 8 still }
 {
-    let mut all = [Move {
-        moves: false,
-        heading: Heading::Up,
-        eats: false,
-        inside: false,
-        head: Place { row: 0, col: 0 },
-        cell: 0,
-        keep: 0,
-    }; 8];
-    let mut i = 0;
-    while i < actions.len() {
-        all[i] = moved(image, i, actions[i]);
-        i += 1;
+    let mut all = [STILL; 8];
+    for (i, action) in actions.iter().enumerate() {
+        all[i] = moved(image, i, *action);
     }
     all
 }

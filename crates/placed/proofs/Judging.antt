@@ -1,9 +1,9 @@
 -- From placed bodies to the number that is given: 9, 11, 12 or none. Assumes nothing.
 use Prim.Native.Nat.{ℕ, ◌+◌, ◌-◌, ◌*◌, ◌≤◌}
-use native.Mathlib.Nat.{mul-le-mul, sub-zero}
+use native.Mathlib.Nat.{mul-le-mul}
 use native.Mathlib.Omega.{arith}
 use mathlib.Core.Path.{◌≡◌, sym, ap, ◌∙◌}
-use mathlib.Core.Bool.{Bool, true, false, not, ◌&&◌}
+use mathlib.Core.Bool.{Bool, true, false, ◌&&◌}
 use mathlib.Core.List.{List}
 use lib.Dec.{ltb}
 use lib.IntN.{ℤ, pos}
@@ -35,17 +35,17 @@ free_less a t f = elim (ordered (a - t) f) [
 ]
 
 module _ (g n size f : ℕ) (old : List ℕ) (ready : Traceable g n size old) (new : List ℕ) (b : Bool) (p : Placed g n size old new b) where
-  pub judge_short : not b ≡ true → Tested (place_check (pos g) n size f) (concat_below n (cells_of g n size)) old new 9
+  pub judge_short : b ≡ false → Tested (place_check (pos g) n size f) (concat_below n (cells_of g n size)) old new 9
   judge_short t =
-      let s : some_short (pos g) n size ≡ true = not-false (some_short (pos g) n size) (sym p.says ∙ not-true b t) in
+      let s : some_short (pos g) n size ≡ true = not-false (some_short (pos g) n size) (sym p.says ∙ t) in
       record {
         says = sym (check_cells g n size ready.side_min ready.side_max ready.size_min f ∙ rw s);
         words = λ z. let y : ◌≡◌ {A = ℕ} 9 0 = z in absurd (omega arith);
       }
 
-  module _ (t : not b ≡ false) where
+  module _ (t : b ≡ true) where
     none : some_short (pos g) n size ≡ false
-    none = not-true (some_short (pos g) n size) (sym p.says ∙ not-false b t)
+    none = not-true (some_short (pos g) n size) (sym p.says ∙ t)
 
     size_most : size ≤ 125
     size_most =
@@ -61,30 +61,30 @@ module _ (g n size f : ℕ) (old : List ℕ) (ready : Traceable g n size old) (n
         ∙ all_long g n size ready.side_min ready.side_max ready.size_min none
 
     words_are : new ≡ write_at old 0 (concat_below n (cells_of g n size))
-    words_are = p.words (not-false b t)
+    words_are = p.words t
 
-    pub part_cells : take (n * size - 0) new ≡ concat_below n (cells_of g n size)
+    pub part_cells : take (n * size) new ≡ concat_below n (cells_of g n size)
     unfolding over_front
     part_cells =
-        ap (λ (k : ℕ). take k new) (sub-zero (n * size) ∙ sym total_is)
+        ap (λ (k : ℕ). take k new) (sym total_is)
         ∙ ap (take (length (concat_below n (cells_of g n size)))) (words_are ∙ write_front old (concat_below n (cells_of g n size)))
         ∙ take-append_seam (concat_below n (cells_of g n size)) (drop (length (concat_below n (cells_of g n size))) old)
 
-    pub part_under : Under 1024 (take (n * size - 0) new)
+    pub part_under : Under 1024 (take (n * size) new)
     part_under = rw part_cells (cells_under g n size ready.side_min ready.side_max ready.size_min)
 
-    module _ (d : Bool) (e : d ≡ distinct (take (n * size - 0) new)) where
+    module _ (d : Bool) (e : d ≡ distinct (take (n * size) new)) where
       told : distinct (concat_below n (cells_of g n size)) ≡ d
       told = ap distinct (sym part_cells) ∙ sym e
 
-      pub judge_twice : not d ≡ true → Tested (place_check (pos g) n size f) (concat_below n (cells_of g n size)) old new 11
+      pub judge_twice : d ≡ false → Tested (place_check (pos g) n size f) (concat_below n (cells_of g n size)) old new 11
       judge_twice h =
           record {
             says = sym (check_cells g n size ready.side_min ready.side_max ready.size_min f ∙ rw (none, told, h));
             words = λ z. let y : ◌≡◌ {A = ℕ} 11 0 = z in absurd (omega arith);
           }
 
-      pub judge_last : not d ≡ false → (r : ℕ) → r ≡ (12 if ltb (g * g - n * size) f else 0) → Tested (place_check (pos g) n size f) (concat_below n (cells_of g n size)) old new r
+      pub judge_last : d ≡ true → (r : ℕ) → r ≡ (12 if ltb (g * g - n * size) f else 0) → Tested (place_check (pos g) n size f) (concat_below n (cells_of g n size)) old new r
       judge_last h r q =
           record {
             says =

@@ -13,6 +13,7 @@ use placement::{place_snakes, span};
 use rules::Setting;
 
 // No cell twice, by a board of all squares.
+#[tactic(auto, using(boards::proofs::Boards::board_blank))]
 fn all_new(cells: &[u16]) -> bool
     requires { Under 1024 cells.now }
     ensures { result ≡ distinct cells.now }
@@ -26,10 +27,11 @@ fn full(area: u64, total: u64, food: u64) -> u8
     requires { (total ≤ 1024) × (food ≤ 1024) }
     ensures { result ≡ (12 if ltb (area - total) food else 0) }
 {
-    if (0 < food) & (area < food + total) {
-        return 12;
+    if 0 < food && area < food + total {
+        12
+    } else {
+        0
     }
-    0
 }
 
 // On a grid of 3 and more every start is inside, so that no cell is outside: 9, 11 or 12.
@@ -42,7 +44,7 @@ fn judge(cells: &mut [u16], g: u16, n: u16, size: usize, food: usize) -> u8
         return 9;
     }
     let total = n as usize * size;
-    if !all_new(&cells[0..total]) {
+    if !all_new(&cells[..total]) {
         return 11;
     }
     full(g as u64 * g as u64, total as u64, food as u64)
@@ -52,10 +54,7 @@ fn judge(cells: &mut [u16], g: u16, n: u16, size: usize, food: usize) -> u8
 fn beyond(reach: u64, size: u64) -> u8
     ensures { result ≡ (9 if ltb reach size else 10) }
 {
-    if reach < size {
-        return 9;
-    }
-    10
+    if reach < size { 9 } else { 10 }
 }
 
 // On grids below 3 column g - g/3 is off the grid, so that none is accepted: a trace reaches 3 places on grid 2, else 1.

@@ -1,5 +1,5 @@
 -- The four directions by their turns, and what is still to come of a trace. Assumes nothing.
-use Prim.Native.Nat.{ℕ, zero, suc, ◌+◌, ◌-◌, ◌<◌, ◌≤◌}
+use Prim.Native.Nat.{ℕ, suc, ◌+◌, ◌-◌, ◌<◌, ◌≤◌}
 use native.Mathlib.Numerals.{add-one}
 use native.Mathlib.Omega.{arith}
 use mathlib.Core.Path.{◌≡◌, sym, ap, ◌∙◌}
@@ -11,7 +11,7 @@ use lib.Seq.{drop-cons, paste}
 use Rattle.lists.specs.Lists.{write_at}
 use Rattle.lists.proofs.Writes.{paste_more, paste_all}
 use Rattle.rules.specs.Grid.{ahead, inside}
-use Rattle.rules.specs.Placement.{tracing, unblocked, trail, traced}
+use Rattle.rules.specs.Placement.{tracing, unblocked, trail}
 use Rattle.rules.specs.declared.Heading.{Heading}
 use Rattle.rules.specs.declared.Heading.TheVariants.{Up}
 use Rattle.rules.specs.declared.Place.{Place}
@@ -39,65 +39,52 @@ module _ (g : ℤ) (e : Bool) (p : Place) where
 
 -- ---- what is still to come
 
--- k places from p on
-unfoldable pub coming : ℕ → ℤ → List Heading → Place → List Place
-coming zero g ds p = []
-coming (suc k) g ds p = p ∷ trail k g (unblocked g ds p) p
-
-pub coming_all : (k : ℕ) (g : ℤ) (ds : List Heading) (p : Place) → 1 ≤ k → coming k g ds p ≡ traced g ds k p
-unfolding coming
-coming_all k g ds p h = let e : k ≡ suc (k - 1) = omega arith in ap (λ (j : ℕ). coming j g ds p) e
-
-trail_coming : (j : ℕ) (g : ℤ) (d : Heading) (ds : List Heading) (p : Place) → trail j g (d ∷ ds) p ≡ coming j g (d ∷ ds) (ahead d p)
-unfolding coming
-trail_coming zero g d ds p = trail_done g (d ∷ ds) p
-trail_coming (suc j) g d ds p = trail_next g j d ds p
-
 ended : {A : Type 0} (k : ℕ) (w : List A) → drop k w ≡ [] → length w ≤ k
 ended k w e = omega (arith, length-drop k w, ap length e)
 
 started : {A : Type 0} (k : ℕ) (w : List A) (x : A) (r : List A) → drop k w ≡ x ∷ r → k < length w
 started k w x r e = omega (arith, length-drop k w, ap length e)
 
--- a trace of `whole` that has come to its k-th place, p, by the turn t
-module _ (g : ℤ) (e : Bool) (whole : List Place) (size k t : ℕ) (p : Place) (h : k < size) (i : coming (size - k) g (drop t (tracing e)) p ≡ drop k whole) where
-  parted : drop k whole ≡ p ∷ trail (size - (k + 1)) g (unblocked g (drop t (tracing e)) p) p
-  unfolding coming
-  parted = let n : size - k ≡ suc (size - (k + 1)) = omega arith in sym i ∙ ap (λ (j : ℕ). coming j g (drop t (tracing e)) p) n
-
-  pub place_in : k < length whole
-  place_in = started k whole p (trail (size - (k + 1)) g (unblocked g (drop t (tracing e)) p) p) parted
-
-  both_parts : get_or whole k p ∷ drop (k + 1) whole ≡ p ∷ trail (size - (k + 1)) g (unblocked g (drop t (tracing e)) p) p
-  both_parts = ap (λ (n : ℕ). get_or whole k p ∷ drop n whole) (add-one k) ∙ sym (drop-cons whole k p place_in) ∙ parted
-
-  pub place_is : get_or whole k p ≡ p
-  place_is = let q = both_parts in cc
-
-  rest_is : drop (k + 1) whole ≡ trail (size - (k + 1)) g (unblocked g (drop t (tracing e)) p) p
-  rest_is = let q = both_parts in cc
-
-  -- the last place was asked for, or no direction is left, or the trace goes on
-  pub full : k + 1 ≡ size → length whole ≡ k + 1
+-- a trace of which k places are known, the last of them p, by the turn t: `whole` from its k-th place on is what is left of it
+module _ (g : ℤ) (e : Bool) (whole : List Place) (size k t : ℕ) (p : Place) (r : k ≤ length whole) (i : trail (size - k) g (unblocked g (drop t (tracing e)) p) p ≡ drop k whole) where
+  -- as many places as were asked for, or no direction is left
+  pub full : size ≤ k → length whole ≡ k
   full f =
-      let z : size - (k + 1) ≡ 0 = omega arith in
-      let n = ended (k + 1) whole (rest_is ∙ ap (λ (j : ℕ). trail j g (unblocked g (drop t (tracing e)) p) p) z ∙ trail_done g (unblocked g (drop t (tracing e)) p) p) in
-      omega (arith, place_in)
+      let z : size - k ≡ 0 = omega arith in
+      let n = ended k whole (sym i ∙ ap (λ (j : ℕ). trail j g (unblocked g (drop t (tracing e)) p) p) z ∙ trail_done g (unblocked g (drop t (tracing e)) p) p) in
+      omega arith
 
-  pub stuck : (u : ℕ) → 4 ≤ u → unblocked g (drop t (tracing e)) p ≡ drop u (tracing e) → length whole ≡ k + 1
-  stuck u f l =
-      let n = ended (k + 1) whole (rest_is ∙ ap (λ (ds : List Heading). trail (size - (k + 1)) g ds p) (l ∙ none_after g e p u f) ∙ trail_shut g (size - (k + 1)) p) in
-      omega (arith, place_in)
+  pub stuck : unblocked g (drop t (tracing e)) p ≡ drop 4 (tracing e) → length whole ≡ k
+  stuck l =
+      let n = ended k whole (sym i ∙ ap (λ (ds : List Heading). trail (size - k) g ds p) (l ∙ none_after g e p 4 (omega arith)) ∙ trail_shut g (size - k) p) in
+      omega arith
 
-  pub goes_on : (u : ℕ) (q : Place) → u < 4 → unblocked g (drop t (tracing e)) p ≡ drop u (tracing e) → q ≡ ahead (get_or (tracing e) u Up) p
-      → coming (size - (k + 1)) g (drop u (tracing e)) q ≡ drop (k + 1) whole
-  goes_on u q f l a =
-      let j = size - (k + 1) in
-      ap (λ (x : Place). coming j g (drop u (tracing e)) x) a
-      ∙ ap (λ (ds : List Heading). coming j g ds (ahead (get_or (tracing e) u Up) p)) (turn_first g e p u f)
-      ∙ sym (trail_coming j g (get_or (tracing e) u Up) (drop (u + 1) (tracing e)) p)
-      ∙ ap (λ (ds : List Heading). trail j g ds p) (sym (turn_first g e p u f) ∙ sym l)
-      ∙ sym rest_is
+  -- the trace goes on to the place q, by the turn u
+  module _ (h : k < size) (u : ℕ) (q : Place) (f : u < 4) (l : unblocked g (drop t (tracing e)) p ≡ drop u (tracing e)) (a : q ≡ ahead (get_or (tracing e) u Up) p) where
+    parted : drop k whole ≡ q ∷ trail (size - (k + 1)) g (unblocked g (drop u (tracing e)) q) q
+    parted =
+        let d = get_or (tracing e) u Up in
+        let j = size - (k + 1) in
+        let n : size - k ≡ suc (size - (k + 1)) = omega arith in
+        let first = turn_first g e p u f in
+        sym i
+        ∙ ap (λ (j : ℕ). trail j g (unblocked g (drop t (tracing e)) p) p) n
+        ∙ ap (λ (ds : List Heading). trail (suc j) g ds p) (l ∙ first)
+        ∙ trail_next g j d (drop (u + 1) (tracing e)) p
+        ∙ ap (λ (ds : List Heading). ahead d p ∷ trail j g (unblocked g ds (ahead d p)) (ahead d p)) (sym first)
+        ∙ ap (λ (x : Place). x ∷ trail j g (unblocked g (drop u (tracing e)) x) x) (sym a)
+
+    pub place_in : k < length whole
+    place_in = started k whole q (trail (size - (k + 1)) g (unblocked g (drop u (tracing e)) q) q) parted
+
+    both_parts : get_or whole k q ∷ drop (k + 1) whole ≡ q ∷ trail (size - (k + 1)) g (unblocked g (drop u (tracing e)) q) q
+    both_parts = ap (λ (n : ℕ). get_or whole k q ∷ drop n whole) (add-one k) ∙ sym (drop-cons whole k q place_in) ∙ parted
+
+    pub place_is : get_or whole k q ≡ q
+    place_is = let q = both_parts in cc
+
+    pub goes_on : trail (size - (k + 1)) g (unblocked g (drop u (tracing e)) q) q ≡ drop (k + 1) whole
+    goes_on = let q = both_parts in cc
 
 -- ---- the cells, written one after the other
 

@@ -1,5 +1,5 @@
 // Placement: initial_snakes_checked and trace_body of the Rust, on grids of 3 and more, where every start is inside.
-ghost use Rattle.std.specs.Prelude.{◌≡◌, true, map, ◌+◌, ◌<◌, ◌≤◌, pos, length, get_or};
+ghost use Rattle.std.specs.Prelude.{◌≡◌, true, map, ◌+◌, ◌<◌, ◌≤◌, pos, length, get_or, MatchOption};
 ghost use Rattle.rules.specs.Grid.{inside, cell_of};
 ghost use Rattle.rules.specs.Placement.{start_place, tracing, row_of, col_of, traced};
 ghost use Rattle.rules.specs.declared.Heading.TheVariants.{Up};
@@ -19,31 +19,23 @@ fn start_row(g: u16, n: u16, i: u16) -> u16
     requires { Start g n i }
     ensures { pos result ≡ row_of (pos g) n i }
 {
-    if n == 2 {
-        return g / 2;
-    }
-    (i + 1) * g / (n + 1)
+    if n == 2 { g / 2 } else { (i + 1) * g / (n + 1) }
 }
 
 fn start_col(g: u16, i: u16) -> u16
     ensures { pos result ≡ col_of (pos g) i }
 {
     let third = g / 3;
-    if i % 2 == 0 {
-        return third;
-    }
-    g - third
+    if i % 2 == 0 { third } else { g - third }
 }
 
 fn start_place(g: u16, n: u16, i: u16) -> Place
     requires { Start g n i }
     ensures { result ≡ start_place (pos g) n i }
 {
-    let row = start_row(g, n, i);
-    let col = start_col(g, i);
     Place {
-        row: grid::signed(row),
-        col: grid::signed(col),
+        row: grid::signed(start_row(g, n, i)),
+        col: grid::signed(start_col(g, i)),
     }
 }
 
@@ -68,22 +60,21 @@ fn direction(even: bool, turn: usize) -> Heading
     }
 }
 
-// One place on, in the first direction that is open; turn 4 where none is.
-fn walk_on(g: u16, even: bool, from: Walk) -> Walk
+// One place on, in the first direction that is open; none where none is.
+fn walk_on(g: u16, even: bool, from: Walk) -> Option<Walk>
     requires near { Near from.place }
     requires turn_bound { from.turn ≤ 4 }
-    ensures { Walked (pos g) (tracing even) from.place from.turn result.place result.turn }
+    ensures { MatchOption result
+        (Walked (pos g) (tracing even) from.place from.turn from.place 4)
+        (λ w. (w.turn < 4) × Walked (pos g) (tracing even) from.place from.turn w.place w.turn) }
 {
-    let place = from.place;
-    let mut turn = from.turn;
-    while turn < 4 {
-        let next = grid::ahead(direction(even, turn), place);
+    for turn in from.turn..4 {
+        let next = grid::ahead(direction(even, turn), from.place);
         if grid::on_grid(g, next) {
-            return Walk { place: next, turn };
+            return Some(Walk { place: next, turn });
         }
-        turn += 1;
     }
-    Walk { place, turn: 4 }
+    None
 }
 
 // The cells of a body of `size` places from `start` on, or fewer where the directions are used up; how many.
@@ -96,20 +87,15 @@ fn trace_body(cells: &mut [u16], at: usize, g: u16, start: Place, even: bool, si
         place: start,
         turn: 0,
     };
-    let mut k = 0;
-    loop {
-        let place = walk.place;
-        cells[at + k] = grid::cell_of(g, place);
-        k += 1;
-        if k == size {
+    cells[at] = grid::cell_of(g, start);
+    for k in 1..size {
+        let Some(next) = walk_on(g, even, walk) else {
             return k;
-        }
-        walk = walk_on(g, even, walk);
-        let turn = walk.turn;
-        if turn == 4 {
-            return k;
-        }
+        };
+        cells[at + k] = grid::cell_of(g, next.place);
+        walk = next;
     }
+    size
 }
 
 // Every body, one after the other; false where some body cannot be traced to its length.
@@ -118,15 +104,13 @@ pub fn place_snakes(cells: &mut [u16], g: u16, n: u16, size: usize) -> bool
     ensures { Placed g n size cells.old cells.new result }
 {
     let mut at = 0;
-    let mut i = 0;
-    while i < n {
+    for i in 0..n {
         let start = start_place(g, n, i);
         let k = trace_body(cells, at, g, start, i % 2 == 0, size);
         if k < size {
             return false;
         }
         at += k;
-        i += 1;
     }
     true
 }

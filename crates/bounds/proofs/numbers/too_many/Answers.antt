@@ -1,15 +1,16 @@
-use Prim.Native.Nat.{ℕ}
-use native.Mathlib.Omega.{arith}
-use mathlib.Core.Path.{ap, ◌∙◌}
-use mathlib.Core.Bool.{◌||◌}
-use lib.Dec.{eqb, ltb}
-use Rattle.lists.specs.Products.{falling}
+use Rattle.std.proofs.Common.{ℕ, ◌≡◌, ◌≤◌, ◌||◌, ltb, eqb, arith}
+use Rattle.std.proofs.lemmas.Grind.{common_steps}
+use Rattle.lists.specs.Products.{falling, fitted}
 use Rattle.lists.proofs.Products.{falling_pos}
 use Rattle.lists.proofs.Fitted.{fitted_above}
 use Rattle.bounds.proofs.numbers.too_many.Goals as goal
 
-pub returns : goal.returns
-returns c =
-    let a = c.args in
-    ap (λ (x : ℕ). eqb x 0 || ltb 9007199254740992 x) c.product-product.ensures
-    ∙ fitted_above 9007199254740992 (falling a.area a.k) (omega arith) (falling_pos a.area a.k c.requires)
+-- it does not fit, or is above the limit
+above : (area k : ℕ) → k ≤ area → (eqb (fitted (falling area k)) 0 || ltb 9007199254740992 (fitted (falling area k))) ≡ ltb 9007199254740992 (falling area k)
+above area k h = fitted_above 9007199254740992 (falling area k) (omega arith) (falling_pos area k h)
+
+pub returns-then-product-eq0 : goal.returns-then-product-eq0
+returns-then-product-eq0 c = let h = above _ _ c.requires in grind (arith, common_steps)
+
+pub returns-else-product-eq0 : goal.returns-else-product-eq0
+returns-else-product-eq0 c = let h = above _ _ c.requires in grind (arith, common_steps)

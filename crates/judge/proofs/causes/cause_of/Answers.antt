@@ -1,5 +1,3 @@
--- `judge::cause_of` meets its contract: the invariant says whether one of the snakes passed moved to the same place; each return is the definition's choice by
--- the tests made so far (`Judging`). Assumes nothing.
 use Rattle.judge.proofs.Loops.{seek_none}
 use Rattle.judge.proofs.Judging.{meets_next, cause_stays, cause_meets, cause_wall, cause_clear, cause_body}
 use Rattle.judge.proofs.causes.cause_of.Goals as goal

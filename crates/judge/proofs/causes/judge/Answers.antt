@@ -1,5 +1,3 @@
--- `judge::judge` meets its contract: the invariant says that the snakes passed are judged on the world of all moves, and that those after them are unharmed (`Judging`).
--- Assumes nothing.
 use Rattle.judge.proofs.Judging.{judging_at, fates_none, fates_next, judges}
 use Rattle.judge.proofs.causes.judge.Goals as goal
 

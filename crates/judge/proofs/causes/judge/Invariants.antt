@@ -1,6 +1,4 @@
--- `judge::judge` meets its contract: the invariant says that the snakes passed are judged on the world of all moves, and that those after them are unharmed (`Judging`).
--- Assumes nothing.
-use Prim.Native.Nat.{◌-◌}
+-- The snakes passed are judged on the world of all moves, and those after them are unharmed.
 use Rattle.judge.specs.Loops.{Filling}
 use Rattle.judge.specs.Judging.{fate_at}
 use Rattle.judge.specs.World.{unharmed}
@@ -8,6 +6,3 @@ use Rattle.judge.proofs.causes.judge.Given as goal
 
 abbrev pub invariant-loop-i : goal.invariant-loop-i
 invariant-loop-i l = Filling (fate_at l.image l.moves l.n) unharmed l.n l.i l.fates
-
-abbrev pub decreases-loop-i : goal.decreases-loop-i
-decreases-loop-i l = l.n - l.i

@@ -1,6 +1,4 @@
--- `judge::move_all` meets its contract: the invariant says that the snakes passed have moved and those after them are still (`Moving`).
--- Assumes nothing.
-use Prim.Native.Nat.{◌-◌}
+-- The snakes passed have moved and those after them are still.
 use lib.ListN.{length}
 use Rattle.judge.specs.Loops.{Filling}
 use Rattle.judge.specs.Moving.{move_at}
@@ -9,6 +7,3 @@ use Rattle.judge.proofs.moves.move_all.Given as goal
 
 abbrev pub invariant-loop-i : goal.invariant-loop-i
 invariant-loop-i l = Filling (move_at l.image l.actions) still (length l.actions) l.i l.all
-
-abbrev pub decreases-loop-i : goal.decreases-loop-i
-decreases-loop-i l = length l.actions - l.i
