@@ -1,40 +1,37 @@
 -- What each function of the consequences finds, from what its calls promise and the tests that it makes. Assumes nothing.
-use Prim.Native.Nat.{ℕ, ◌+◌, ◌*◌, ◌<◌, ◌≤◌}
+use Prim.Native.Nat.{ℕ, zero, suc, ◌+◌, ◌*◌, ◌<◌, ◌≤◌}
+use native.Mathlib.Numerals.{add-one}
 use native.Mathlib.Omega.{arith}
-use mathlib.Core.Path.{◌≡◌, refl, sym, ap, ◌∙◌}
-use mathlib.Core.Bool.{Bool, true, false, not, ◌&&◌, ◌||◌}
+use mathlib.Core.Path.{◌≡◌, sym, ap, ◌∙◌}
+use mathlib.Core.Bool.{Bool, true, false, not, ◌||◌}
 use mathlib.Core.List.{List}
-use lib.Dec.{eqb, ltb}
+use lib.Dec.{eqb}
 use lib.ListN.{length, get_or, take, drop, set, replicate}
-use mir.Val.{Fits}
-use mir.Syntax.{w64}
-use borrow.Author.Tests.{not-true, not-false}
+use Rattle.std.specs.List.{list_any}
+use Rattle.std.proofs.lemmas.List.{get_or-take}
+use Rattle.std.proofs.lemmas.List.Folds.{list_any_more}
+use borrow.Author.Tests.{not-false}
 use Rattle.lists.specs.Choice.{bit}
-use Rattle.lists.specs.Below.{count_below, sum_below, lowest_from}
+use Rattle.lists.specs.Below.{some_below, count_below, lowest_from}
 use Rattle.lists.specs.Lists.{member}
 use Rattle.lists.specs.Search.{found_in, is_found}
 use Rattle.lists.specs.declared.Found.{Found}
 use Rattle.lists.proofs.Tests.{bit_le}
 use Rattle.lists.proofs.Search.{found_member}
-use Rattle.lists.proofs.Below.{count_none, count_next, sum_none, sum_next}
+use Rattle.lists.proofs.Below.{some_none, some_next, count_none, count_next, sum_none, sum_next}
 use Rattle.rules.specs.declared.Event.{Event}
-use Rattle.rules.specs.Events.{dies, by_body, blank}
-use Rattle.rules.specs.declared.Cause.{Cause}
+use Rattle.rules.specs.Events.{dies, blank}
 use Rattle.judge.specs.declared.Fate.{Fate}
 use Rattle.judge.specs.declared.Move.{Move}
 use Rattle.judge.specs.World.{still, unharmed}
-use Rattle.judge.specs.Loops.{Filling, Seeking}
-use Rattle.judge.proofs.Loops.{fill_none, fill_next, seek_next, seek_all}
+use Rattle.judge.specs.Loops.{Filling}
+use Rattle.judge.proofs.Loops.{fill_none, fill_next}
 use Rattle.lists.proofs.Lowest.{Passing, pass_here, pass_on, pass_all}
 use Rattle.consequences.specs.declared.after.After.{After}
 use Rattle.consequences.specs.declared.after.Tally.{Tally}
-use Rattle.consequences.specs.After.{settled, settled_at, gone, cells, living, causes, size_of, sizes, PartIn, InImage, Short, Counted, Counting, holds_in, killer_in, credited_to, HasCell, Holder, KilledBy, Credited, event_by, event_at}
+use Rattle.consequences.specs.After.{settled, settled_at, gone, living, causes, size_of, sizes, PartIn, Short, Counting, holds_at, holds_in, killer_in, credited_to, HasCell, Holder, KilledBy, Credited, event_by, event_at}
 
--- ---- the settled snakes: d is whether the cause is a death
-
-pub settled_so : (m : Move) (c : Cause) (d : Bool) → d ≡ dies c
-    → record { heading = m.heading; lives = m.moves && not d; ate = m.eats && not d; cause = c; cell = m.cell; keep = m.keep } ≡ settled m c
-settled_so m c d e = λ k. record { heading = m.heading; lives = m.moves && not (e k); ate = m.eats && not (e k); cause = c; cell = m.cell; keep = m.keep }
+-- ---- the settled snakes
 
 module _ (ms : List Move) (fs : List Fate) (n : ℕ) where
   pub settled_none : n ≤ 8 → Filling (settled_at ms fs) gone n 0 (replicate 8 gone)
@@ -43,6 +40,10 @@ module _ (ms : List Move) (fs : List Fate) (n : ℕ) where
   pub settled_next : (i : ℕ) (all : List After) → Filling (settled_at ms fs) gone n i all → i < n → (a : After) → a ≡ settled (get_or ms i still) (get_or fs i unharmed).cause
       → Filling (settled_at ms fs) gone n (i + 1) (set all i a)
   settled_next i all q l a e = fill_next (settled_at ms fs) gone n i all q l a e
+
+-- one of those that there are, by its number
+pub each_one : (all xs : List After) (n : ℕ) → xs ≡ take n all → (i : ℕ) → i < n → get_or xs i gone ≡ get_or all i gone
+each_one all xs n e i l = ap (λ (xs : List After). get_or xs i gone) e ∙ get_or-take n all i gone l
 
 -- ---- counts
 
@@ -62,53 +63,35 @@ count_start all n h = record {
   size_small = omega arith;
 }
 
-pub short_at : (all : List After) → Short all → (i : ℕ) → (get_or all i gone).keep ≤ 1024
-short_at all h i = h i
+pub short_at : (all : List After) → Short all → (i : ℕ) (a : After) → a ≡ get_or all i gone → a.keep ≤ 1024
+short_at all h i a e = rw e (h i)
 
-module _ (all : List After) (short : Short all) (n i alive deaths cells : ℕ) (q : Counting all n i alive deaths cells) (s : ℕ) (ps : s ≡ size_of (get_or all i gone)) where
-  pub cells_fit_lem : Fits w64 (cells + s)
-  cells_fit_lem = omega (arith, size_le all short i, q.size_small, q.along, q.few)
+-- a is snake i, and s its size
+module _ (all : List After) (short : Short all) (n i alive deaths cells : ℕ) (q : Counting all n i alive deaths cells) (s : ℕ) (a : After) (pz : s ≡ size_of a) (pa : a ≡ get_or all i gone) where
+  ps : s ≡ size_of (get_or all i gone)
+  ps = pz ∙ ap size_of pa
 
-  -- a, d and s are the counts of one snake more
-  pub count_on : i < n → (a : ℕ) → a ≡ alive + bit (get_or all i gone).lives → (b : Bool) → b ≡ dies (get_or all i gone).cause → (d : ℕ) → d ≡ deaths + bit b
-      → Counting all n (i + 1) a d (cells + s)
-  count_on l a pa b pb d pd =
-      let one = bit_le (get_or all i gone).lives in
+  -- l, d and s are the counts of one snake more
+  pub count_on : i < n → (l : ℕ) → l ≡ alive + bit a.lives → (d : ℕ) (b : Bool) → d ≡ deaths + bit b → b ≡ dies a.cause
+      → Counting all n (i + 1) l d (cells + s)
+  count_on m l pl d b pd pb =
+      let one = bit_le a.lives in
       let two = bit_le b in
       record {
         few = q.few;
         along = omega arith;
-        lived = pa ∙ ap (λ (x : ℕ). x + bit (living all i)) q.lived ∙ sym (count_next (living all) i);
-        died = pd ∙ (λ k. q.died k + bit (pb k)) ∙ sym (count_next (λ i. dies (causes all i)) i);
+        lived = pl ∙ (λ k. q.lived k + bit (pa k).lives) ∙ sym (count_next (living all) i);
+        died = pd ∙ (λ k. q.died k + bit (pb k)) ∙ (λ k. count_below i (λ i. dies (causes all i)) + bit (dies (pa k).cause)) ∙ sym (count_next (λ i. dies (causes all i)) i);
         size = (λ k. q.size k + ps k) ∙ sym (sum_next (sizes all) i);
         lived_few = omega (arith, q.lived_few);
         died_few = omega (arith, q.died_few);
-        size_small = omega (arith, size_le all short i, q.size_small);
+        size_small = omega (arith, ps, size_le all short i, q.size_small);
       }
-
-pub count_all : (all : List After) (n i alive deaths cells : ℕ) → Counting all n i alive deaths cells → n ≤ i → Counted all n (record { alive = alive; deaths = deaths; cells = cells })
-count_all all n i alive deaths cells q l =
-    let e : i ≡ n = omega (arith, q.along) in
-    record {
-      alive = q.lived ∙ ap (λ (k : ℕ). count_below k (living all)) e;
-      deaths = q.died ∙ ap (λ (k : ℕ). count_below k (λ i. dies (causes all i))) e;
-      cells = q.size ∙ ap (λ (k : ℕ). sum_below k (sizes all)) e;
-    }
 
 -- ---- who killed
 
--- a survivor's body is its cell and the rest; the dead are not searched
-pub cell_gone : (w : List ℕ) (i : ℕ) (a : After) (cell : ℕ) → not a.lives ≡ true → HasCell w i a cell false
-cell_gone w i a cell h = record { is = rw (not-true a.lives h) }
-
--- k is the place of the start
+-- a survivor's body is its cell and the rest; k is the place of the start
 module _ (w : List ℕ) (i : ℕ) (a : After) (q : PartIn w i a) (k : ℕ) (e : k ≡ 5 + 4 * i) where
-  pub start_word_lem : Fits w64 (get_or w k 0)
-  start_word_lem = rw e (omega (arith, q.small))
-
-  pub part_fits : get_or w k 0 + a.keep ≤ length w
-  part_fits = rw e q.fits
-
   -- f is where the cell is found, b whether it is
   pub cell_held : (cell : ℕ) → not a.lives ≡ false → (f : Found) → f ≡ found_in (take a.keep (drop (get_or w k 0) w)) cell → (b : Bool) → b ≡ is_found f
       → HasCell w i a cell (eqb cell a.cell || b)
@@ -117,64 +100,41 @@ module _ (w : List ℕ) (i : ℕ) (a : After) (q : PartIn w i a) (k : ℕ) (e : 
       let told = q ∙ ap is_found p ∙ found_member cell (take a.keep (drop (get_or w k 0) w)) in
       record { is = rw (not-false a.lives h) (ap (λ (b : Bool). eqb cell a.cell || b) (told ∙ ap (λ (k : ℕ). member cell (take a.keep (drop (get_or w k 0) w))) e)) }
 
-pub part_in : (w : List ℕ) (all : List After) (n : ℕ) → InImage w all n → (j : ℕ) → j < n → PartIn w j (get_or all j gone)
-part_in w all n h j l = h.parts j l
-
 -- none of the snakes before j holds the cell
 abbrev pub NoHolder : List ℕ → List After → ℕ → ℕ → ℕ → Type 0
 NoHolder w all n cell j = Passing (holds_in w all cell) (lowest_from (holds_in w all cell) 0 n) n j
 
 module _ (w : List ℕ) (all : List After) (n cell j : ℕ) (q : NoHolder w all n cell j) where
-  module _ (l : j < n) (b : Bool) (h : HasCell w j (get_or all j gone) cell b) where
+  -- a is snake j
+  module _ (l : j < n) (b : Bool) (a : After) (h : HasCell w j a cell b) (e : a ≡ get_or all j gone) where
+    held : holds_in w all cell j ≡ b
+    held = ap (λ (a : After). holds_at w j a cell) (sym e) ∙ sym h.is
+
     pub holder_here : b ≡ true → Holder w all n cell j
-    holder_here t = record { is = pass_here (holds_in w all cell) n _ j q l (sym h.is ∙ t) }
+    holder_here t = record { is = pass_here (holds_in w all cell) n _ j q l (held ∙ t) }
 
     pub holder_on : b ≡ false → NoHolder w all n cell (j + 1)
-    holder_on t = pass_on (holds_in w all cell) n _ j q l (sym h.is ∙ t)
+    holder_on t = pass_on (holds_in w all cell) n _ j q l (held ∙ t)
 
-  pub holder_none : n ≤ j → Holder w all n cell j
-  holder_none l = record { is = pass_all (holds_in w all cell) n _ j q l }
-
-module _ (w : List ℕ) (all : List After) (n i : ℕ) (b : Bool) (e : b ≡ by_body (get_or all i gone).cause) where
-  pub killed_so : b ≡ true → (r : ℕ) → Holder w all n (get_or all i gone).cell r → KilledBy w all n i r
-  killed_so t r h = record { is = rw (sym e ∙ t) h.is }
-
-  pub killed_else : b ≡ false → KilledBy w all n i n
-  killed_else t = record { is = rw (sym e ∙ t) }
+  pub holder_none : n ≤ j → j ≤ n → Holder w all n cell n
+  holder_none l m =
+      let e : n ≡ j = omega arith in
+      record { is = e ∙ pass_all (holds_in w all cell) n _ j q l }
 
 pub killers_next : (w : List ℕ) (all : List After) (n i : ℕ) (to : List ℕ) → Filling (killer_in w all n) 0 n i to → i < n → (r : ℕ) → KilledBy w all n i r
     → Filling (killer_in w all n) 0 n (i + 1) (set to i r)
 killers_next w all n i to q l r k = fill_next (killer_in w all n) 0 n i to q l r k.is
 
-pub credit_all : (to : List ℕ) (n j i : ℕ) (found : Bool) → Seeking (credited_to to j) n i found → n ≤ i → Credited to n j found
-credit_all to n j i found q l = record { is = seek_all (credited_to to j) n i found q l }
+-- one of the first n is j
+taken_any : (to : List ℕ) (j n : ℕ) → n ≤ length to → list_any (λ x. eqb x j) (take n to) ≡ some_below n (credited_to to j)
+taken_any to j zero h = sym (some_none (credited_to to j))
+taken_any to j (suc n) h =
+    rw (← add-one n) (list_any_more (λ x. eqb x j) to n 0 h ∙ ap (λ (b : Bool). b || eqb (get_or to n 0) j) (taken_any to j n (omega arith)) ∙ sym (some_next (credited_to to j) n))
 
-pub credit_next : (to : List ℕ) (n j i : ℕ) (found : Bool) → Seeking (credited_to to j) n i found → i < n → Seeking (credited_to to j) n (i + 1) (found || eqb (get_or to i 0) j)
-credit_next to n j i found q l = seek_next (credited_to to j) n i found q l (eqb (get_or to i 0) j) refl
+pub credited_so : (to : List ℕ) (n j : ℕ) → n ≤ length to → (r : Bool) → r ≡ list_any (λ x. eqb x j) (take n to) → Credited to n j r
+credited_so to n j h r e = record { is = e ∙ taken_any to j n h }
 
--- ---- events: d is whether the cause is a death, c whether a death is credited
-
-pub event_so : (a : After) (to : List ℕ) (n : ℕ) (counts : Tally) (leader i : ℕ) (d : Bool) → d ≡ dies a.cause → (c : Bool) → Credited to n i c
-    → record {
-      ate_food = a.ate;
-      died = d;
-      death_cause = a.cause;
-      killed_opponent = c;
-      won = a.lives && eqb counts.alive 1 && ltb 0 counts.deaths || eqb i leader;
-      lost = d && ltb 0 counts.alive || (a.lives && not (eqb i leader) && ltb leader n);
-      drew = d && eqb counts.alive 0 && ltb 1 counts.deaths;
-      survived_to_max_ticks = false;
-    } ≡ event_by a to n counts.alive counts.deaths leader i
-event_so a to n counts leader i d pd c pc = λ k. record {
-  ate_food = a.ate;
-  died = pd k;
-  death_cause = a.cause;
-  killed_opponent = pc.is k;
-  won = a.lives && eqb counts.alive 1 && ltb 0 counts.deaths || eqb i leader;
-  lost = pd k && ltb 0 counts.alive || (a.lives && not (eqb i leader) && ltb leader n);
-  drew = pd k && eqb counts.alive 0 && ltb 1 counts.deaths;
-  survived_to_max_ticks = false;
-}
+-- ---- events
 
 module _ (all : List After) (to : List ℕ) (n : ℕ) (counts : Tally) (leader : ℕ) where
   abbrev event : ℕ → Event

@@ -3,12 +3,10 @@ use Prim.Native.Nat.{ℕ, zero, suc, ◌+◌, ◌-◌, ◌<◌, ◌≤◌}
 use native.Mathlib.Nat.{le_refl, add-zero, add-suc}
 use native.Mathlib.Omega.{arith}
 use mathlib.Core.Path.{◌≡◌, refl, sym, ap, ◌∙◌}
-use mathlib.Core.Bool.{Bool, true, false, not, ◌&&◌, ◌||◌, and-false}
+use mathlib.Core.Bool.{Bool, true, false, not, ◌&&◌, and-false}
 use mathlib.Core.List.{List}
 use lib.Dec.{eqb, ltb, leb}
 use lib.ListN.{get_or}
-use mir.Val.{Fits}
-use mir.Syntax.{w64}
 use borrow.Author.Tests.{lt-ltb, le-ltb, ltb-true, ne_eqb}
 use Rattle.lists.specs.Choice.{bit}
 use Rattle.lists.specs.Below.{some_below, count_below}
@@ -18,7 +16,7 @@ use Rattle.rules.specs.declared.Limit.{Limit}
 use Rattle.rules.specs.declared.Limit.TheVariants.{Unset, Is}
 use Rattle.consequences.specs.declared.after.After.{After}
 use Rattle.consequences.specs.After.{gone, living}
-use Rattle.consequences.specs.Leads.{Living, NoneLiving, NextLiving, TwoLive, Longer, leads_in, Leader, Leads, Ends}
+use Rattle.consequences.specs.Leads.{Living, NoneLiving, NextLiving, TwoLive, Longer, leads_in, Leader, Leads}
 
 -- ---- counts
 
@@ -45,18 +43,9 @@ module _ (p : ℕ → Bool) where
 -- ---- the search for one that lives
 
 module _ (all : List After) (n from : ℕ) where
-  pub living_none : from ≤ n → NoneLiving all n from from
-  living_none h = record { on = le_refl from; end = h; none = refl }
-
   module _ (i : ℕ) (q : NoneLiving all n from i) where
     pub living_next : i < n → living all i ≡ false → NoneLiving all n from (i + 1)
     living_next l e = record { on = omega (arith, q.on); end = omega arith; none = let z : bit (living all i) ≡ 0 = rw e in omega (arith, count_next (living all) i, q.none) }
-
-    pub living_here : living all i ≡ true → NextLiving all n from i
-    living_here e = record { past = q; lives = λ l. e }
-
-    pub living_end : n ≤ i → NextLiving all n from i
-    living_end h = record { past = q; lives = λ l. absurd (omega arith) }
 
 -- ---- the two that live
 
@@ -74,9 +63,6 @@ module _ (all : List After) (n alive : ℕ) (c : Living all n alive) (two : aliv
 
   one_so_far : count (i + 1) ≡ 1
   one_so_far = omega (arith, count_next (living all) i, bit_one (living all i) (p.lives first_in), p.past.none, count_none (living all))
-
-  pub next_fits : Fits w64 (i + 1)
-  next_fits = omega (arith, first_in, c.few)
 
   pub next_in_lem : i + 1 ≤ n
   next_in_lem = omega (arith, first_in)
@@ -114,12 +100,6 @@ module _ (all : List After) (n alive : ℕ) (c : Living all n alive) (two : aliv
     }
 
 -- ---- who leads
-
-pub longer_not : (a b : After) (k : ℕ) → a.keep ≤ b.keep → Longer a b k false
-longer_not a b k h = record { is = rw (le-ltb b.keep a.keep h) }
-
-pub longer_by : (a b : After) (k : ℕ) → b.keep < a.keep → Longer a b k (leb k (a.keep - b.keep))
-longer_by a b k h = record { is = rw (lt-ltb b.keep a.keep h) }
 
 -- nobody
 nobody_leads : (all : List After) (n alive : ℕ) (lead : Limit) → ((x y : ℕ) → x < n → y < n → leads_in all alive lead x y ≡ false) → Leader all n alive lead n
@@ -239,15 +219,3 @@ module _ (all : List After) (n alive : ℕ) (lead : Limit) where
   module _ (k : ℕ) (e : lead ≡ Is k) where
     pub leader_alone : (alive ≡ 2 → ⊥) → Leader all n alive lead n
     leader_alone h = rw e (nobody_leads all n alive (Is k) (λ x y l m. rw (ne_eqb alive 2 h)))
-
-    pub leader_two : alive ≡ 2 → (r : ℕ) → Leads all n k r → Leader all n alive lead r
-    leader_two h r q = rw (e, h) q.leader
-
--- ---- the end
-
-module _ (n alive : ℕ) (last : Bool) (leader : ℕ) where
-  pub ends_last : last ≡ true → Ends n alive last leader (leb alive 0 || ltb leader n)
-  ends_last e = record { is = rw e }
-
-  pub ends_else : last ≡ false → Ends n alive last leader (leb alive 1 || ltb leader n)
-  ends_else e = record { is = rw e }

@@ -3,6 +3,7 @@ ghost use Rattle.std.specs.Prelude.{◌≡◌, ◌≤◌};
 ghost use Rattle.lists.specs.Below.{filled};
 ghost use Rattle.consequences.specs.After.{settled, settled_at, gone, size_of, Short, Counted};
 
+use crate::settled::Snakes;
 use events::is_death;
 use judge::{Judged, Move};
 use lists::more_if;
@@ -31,10 +32,9 @@ pub struct Tally {
 fn settle(m: Move, cause: Cause) -> After
     ensures { result ≡ settled m cause }
 {
-    let heading = m.heading;
     let lasts = !is_death(cause);
     After {
-        heading,
+        heading: m.heading,
         lives: m.moves & lasts,
         cell: m.cell,
         keep: m.keep,
@@ -43,12 +43,11 @@ fn settle(m: Move, cause: Cause) -> After
     }
 }
 
-pub fn settle_all(judged: Judged, n: usize) -> [After; 8]
+pub fn settle_all(judged: Judged, n: usize) -> Snakes
     requires { n ≤ 8 }
-    ensures { result ≡ filled (settled_at judged.moves judged.fates) n 8 gone }
+    ensures places { result.all ≡ filled (settled_at judged.moves judged.fates) n 8 gone }
+    ensures count { result.count ≡ n }
 {
-    let moves = judged.moves;
-    let fates = judged.fates;
     let mut all = [After {
         heading: Heading::Up,
         lives: false,
@@ -57,15 +56,10 @@ pub fn settle_all(judged: Judged, n: usize) -> [After; 8]
         ate: false,
         cause: Cause::NoCause,
     }; 8];
-    let mut i = 0;
-    while i < n {
-        let m = moves[i];
-        let fate = fates[i];
-        let cause = fate.cause;
-        all[i] = settle(m, cause);
-        i += 1;
+    for i in 0..n {
+        all[i] = settle(judged.moves[i], judged.fates[i].cause);
     }
-    all
+    Snakes { all, count: n }
 }
 
 // How many cells a snake has.
@@ -76,26 +70,23 @@ pub fn size_of(a: After) -> usize
     more_if(a.keep as usize, a.lives)
 }
 
-pub fn count_all(all: [After; 8], n: usize) -> Tally
-    requires n_bound { n ≤ 8 }
-    requires short { Short all }
-    ensures { Counted all n result }
-{
-    let mut alive = 0;
-    let mut deaths = 0;
-    let mut cells = 0;
-    let mut i = 0;
-    while i < n {
-        let a = all[i];
-        let c = a.cause;
-        alive = more_if(alive, a.lives);
-        deaths = more_if(deaths, is_death(c));
-        cells += size_of(a);
-        i += 1;
-    }
-    Tally {
-        alive,
-        deaths,
-        cells,
+impl Snakes {
+    pub fn count_all(&self) -> Tally
+        requires { Short self.now.all }
+        ensures { Counted self.now.all self.now.count result }
+    {
+        let mut alive = 0;
+        let mut deaths = 0;
+        let mut cells = 0;
+        for a in self.each() {
+            alive = more_if(alive, a.lives);
+            deaths = more_if(deaths, is_death(a.cause));
+            cells += size_of(*a);
+        }
+        Tally {
+            alive,
+            deaths,
+            cells,
+        }
     }
 }

@@ -5,19 +5,14 @@ ghost use Rattle.rules.specs.Events.{by_body};
 ghost use Rattle.consequences.specs.After.{killer_in, PartIn, InImage, HasCell, Holder, KilledBy, Credited};
 
 use crate::after::After;
+use crate::settled::Snakes;
 use lists::is_found;
 use rules::Cause;
 
 fn is_by_body(c: Cause) -> bool
     ensures { result ≡ by_body c }
 {
-    match c {
-        Cause::NoCause => false,
-        Cause::Wall => false,
-        Cause::SelfBody => false,
-        Cause::OppBody => true,
-        Cause::HeadOn => false,
-    }
+    matches!(c, Cause::OppBody)
 }
 
 // Whether snake j is a survivor whose body holds a cell; the dead are not searched.
@@ -34,58 +29,48 @@ fn has_cell(image: &[u16], j: usize, a: After, cell: u16) -> bool
     at_head | is_found(found)
 }
 
-// The lowest-numbered survivor whose body holds a cell, or n.
-fn find_killer(image: &[u16], all: [After; 8], n: usize, cell: u16) -> usize
-    requires { InImage image.now all n }
-    ensures { Holder image.now all n cell result }
-{
-    let mut j = 0;
-    while j < n {
-        let a = all[j];
-        if has_cell(image, j, a, cell) {
-            return j;
+impl Snakes {
+    // The lowest-numbered survivor whose body holds a cell, or the count.
+    fn find_killer(&self, image: &[u16], cell: u16) -> usize
+        requires { InImage image.now self.now.all self.now.count }
+        ensures { Holder image.now self.now.all self.now.count cell result }
+    {
+        for (j, a) in self.each().iter().enumerate() {
+            if has_cell(image, j, *a, cell) {
+                return j;
+            }
         }
-        j += 1;
+        self.count
     }
-    j
-}
 
-// Whom the death of a snake is credited to, or n.
-fn killer_of(image: &[u16], all: [After; 8], n: usize, i: usize) -> usize
-    requires in_image { InImage image.now all n }
-    requires i_bound { i < 8 }
-    ensures { KilledBy image.now all n i result }
-{
-    let a = all[i];
-    let c = a.cause;
-    if is_by_body(c) {
-        return find_killer(image, all, n, a.cell);
+    // Whom the death of a snake is credited to, or the count.
+    fn killer_of(&self, image: &[u16], i: usize) -> usize
+        requires in_image { InImage image.now self.now.all self.now.count }
+        requires i_bound { i < 8 }
+        ensures { KilledBy image.now self.now.all self.now.count i result }
+    {
+        let a = self.all[i];
+        if is_by_body(a.cause) {
+            return self.find_killer(image, a.cell);
+        }
+        self.count
     }
-    n
-}
 
-pub fn find_killers(image: &[u16], all: [After; 8], n: usize) -> [usize; 8]
-    requires { InImage image.now all n }
-    ensures { result ≡ filled (killer_in image.now all n) n 8 0 }
-{
-    let mut to = [0usize; 8];
-    let mut i = 0;
-    while i < n {
-        to[i] = killer_of(image, all, n, i);
-        i += 1;
+    pub fn find_killers(&self, image: &[u16]) -> [usize; 8]
+        requires { InImage image.now self.now.all self.now.count }
+        ensures { result ≡ filled (killer_in image.now self.now.all self.now.count) self.now.count 8 0 }
+    {
+        let mut to = [0; 8];
+        for i in 0..self.count {
+            to[i] = self.killer_of(image, i);
+        }
+        to
     }
-    to
 }
 
 pub fn is_killer(to: [usize; 8], n: usize, j: usize) -> bool
     requires { n ≤ 8 }
     ensures { Credited to n j result }
 {
-    let mut found = false;
-    let mut i = 0;
-    while i < n {
-        found = found | (to[i] == j);
-        i += 1;
-    }
-    found
+    to[..n].contains(&j)
 }

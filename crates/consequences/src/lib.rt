@@ -4,9 +4,9 @@
 mod after;
 mod killers;
 mod leads;
+mod settled;
 mod snake_events;
 
-pub use after::{After, count_all, settle_all, size_of};
-pub use killers::find_killers;
-pub use leads::{find_leader, is_terminal};
-pub use snake_events::all_events;
+pub use after::{After, settle_all, size_of};
+pub use leads::is_terminal;
+pub use settled::Snakes;

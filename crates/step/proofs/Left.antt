@@ -4,12 +4,9 @@ use mathlib.Core.Bool.{Bool, true, false, not, ◌&&◌, ◌||◌}
 use mathlib.Core.List.{List, [], ◌∷◌, ◌++◌, append-nil}
 use Prim.Native.Nat.{ℕ, zero, suc, ◌+◌, ◌<◌, ◌≤◌}
 use native.Mathlib.Nat.{add-zero}
-use native.Mathlib.Numerals.{add-one}
 use native.Mathlib.Omega.{arith}
 use lib.Dec.{eqb}
-use lib.ListN.{get_or, set, replicate, length-set}
-use lib.Seq.{take-suc-set}
-use borrow.Author.Tests.{not-true, not-false}
+use lib.ListN.{length, get_or, length-append}
 use Rattle.lists.specs.Choice.{◌if◌else◌, bit}
 use Rattle.lists.specs.Below.{some_below, count_below, concat_below}
 use Rattle.lists.specs.Lists.{keep, member}
@@ -23,51 +20,49 @@ use Rattle.step.specs.Eaten.{bite, EatenTo, EatenAre}
 
 -- ---- the loop
 
-pub eaten_none : (all : List After) (n : ℕ) → n ≤ 8 → EatenTo all n 0 (replicate 8 0) 0
-eaten_none all n h = record { few = h; along = omega arith; fewer = omega arith; long = refl; so_far = sym (concat_none (bite all)); counted = sym (count_none (eating all)) }
+pub eaten_none : (all : List After) (n : ℕ) → n ≤ 8 → (xs : List ℕ) → xs ≡ [] → EatenTo all n 0 xs
+eaten_none all n h xs e =
+    let z : length xs ≡ 0 = ap length e in
+    record { few = h; along = omega arith; fewer = omega arith; so_far = e ∙ sym (concat_none (bite all)); counted = z ∙ sym (count_none (eating all)) }
 
-module _ (all : List After) (n i : ℕ) (xs : List ℕ) (count : ℕ) (q : EatenTo all n i xs count) where
-  bites : (b : Bool) → eating all i ≡ b → concat_below (i + 1) (bite all) ≡ concat_below i (bite all) ++ (cells all i ∷ [] if b else [])
-  bites b e = concat_next (bite all) i ∙ ap (λ (b : Bool). concat_below i (bite all) ++ (cells all i ∷ [] if b else [])) e
+-- a is snake i
+module _ (all : List After) (n i : ℕ) (xs : List ℕ) (q : EatenTo all n i xs) where
+  module _ (l : i < n) (a : After) (pa : a ≡ get_or all i gone) where
+    bites : (b : Bool) → a.ate ≡ b → concat_below (i + 1) (bite all) ≡ concat_below i (bite all) ++ (a.cell ∷ [] if b else [])
+    bites b e = concat_next (bite all) i ∙ sym (λ k. concat_below i (bite all) ++ ((pa k).cell ∷ [] if (pa k).ate else [])) ∙ ap (λ (b : Bool). concat_below i (bite all) ++ (a.cell ∷ [] if b else [])) e
 
-  counts : (b : Bool) → eating all i ≡ b → count_below (i + 1) (eating all) ≡ count_below i (eating all) + bit b
-  counts b e = count_next (eating all) i ∙ ap (λ (b : Bool). count_below i (eating all) + bit b) e
+    counts : (b : Bool) → a.ate ≡ b → count_below (i + 1) (eating all) ≡ count_below i (eating all) + bit b
+    counts b e = count_next (eating all) i ∙ sym (λ k. count_below i (eating all) + bit (pa k).ate) ∙ ap (λ (b : Bool). count_below i (eating all) + bit b) e
 
-  module _ (l : i < n) where
-    -- snake i did not eat
-    pub eaten_same : not (get_or all i gone).ate ≡ true → EatenTo all n (i + 1) xs count
-    eaten_same h =
-        let e : eating all i ≡ false = not-true (get_or all i gone).ate h in
-        record {
-          few = q.few;
-          along = omega arith;
-          fewer = omega (arith, q.fewer);
-          long = q.long;
-          so_far = q.so_far ∙ sym (bites false e ∙ append-nil (concat_below i (bite all)));
-          counted = q.counted ∙ sym (counts false e ∙ add-zero (count_below i (eating all)));
-        }
+    -- it did not eat
+    pub eaten_same : a.ate ≡ false → EatenTo all n (i + 1) xs
+    eaten_same e = record {
+      few = q.few;
+      along = omega arith;
+      fewer = omega (arith, q.fewer);
+      so_far = q.so_far ∙ sym (bites false e ∙ append-nil (concat_below i (bite all)));
+      counted = q.counted ∙ sym (counts false e ∙ add-zero (count_below i (eating all)));
+    }
 
     -- it ate
-    pub eaten_more : not (get_or all i gone).ate ≡ false → EatenTo all n (i + 1) (set xs count (get_or all i gone).cell) (count + 1)
-    eaten_more h =
-        let e : eating all i ≡ true = not-false (get_or all i gone).ate h in
+    pub eaten_more : a.ate ≡ true → (ys : List ℕ) → ys ≡ xs ++ a.cell ∷ [] → EatenTo all n (i + 1) ys
+    eaten_more e ys p =
+        let long : length ys ≡ length xs + 1 = ap length p ∙ length-append xs (a.cell ∷ []) in
         record {
           few = q.few;
           along = omega arith;
           fewer = omega (arith, q.fewer);
-          long = simp length-set q.long;
-          so_far = rw (add-one count, take-suc-set xs count (cells all i) (omega (arith, q.fewer, q.long, q.few))) (ap (λ (t : List ℕ). t ++ (cells all i ∷ [])) q.so_far ∙ sym (bites true e));
-          counted = ap (λ (k : ℕ). k + 1) q.counted ∙ sym (counts true e);
+          so_far = p ∙ ap (λ (t : List ℕ). t ++ (a.cell ∷ [])) q.so_far ∙ sym (bites true e);
+          counted = long ∙ ap (λ (k : ℕ). k + 1) q.counted ∙ sym (counts true e);
         }
 
-  pub eaten_all : n ≤ i → EatenAre all n (record { cells = xs; count = count })
+  pub eaten_all : n ≤ i → EatenAre all n xs
   eaten_all l =
       let e : i ≡ n = omega (arith, q.along) in
       record {
         cells = q.so_far ∙ ap (λ (k : ℕ). concat_below k (bite all)) e;
         count = q.counted ∙ ap (λ (k : ℕ). count_below k (eating all)) e;
         few = omega (arith, q.fewer, q.along, q.few);
-        long = q.long;
       }
 
 -- ---- the apples left

@@ -35,33 +35,36 @@ records_none d all n few room start e = record {
   words = turn_start d 5 (record_in n all);
 }
 
--- s is snake i's size, k the place of its record
-module _ (d : List ℕ) (all : List After) (short : Short all) (n i : ℕ) (out : List ℕ) (start : ℕ) (q : RecordsTo d all n i out start) (s : ℕ) (ps : s ≡ size_of (get_or all i gone)) where
+-- a is snake i, s its size, k the place of its record
+module _ (d : List ℕ) (all : List After) (short : Short all) (n i : ℕ) (out : List ℕ) (start : ℕ) (q : RecordsTo d all n i out start) (s : ℕ) (a : After) (pz : s ≡ size_of a) (pa : a ≡ get_or all i gone) where
+  ps : s ≡ size_of (get_or all i gone)
+  ps = pz ∙ ap size_of pa
+
   pub size_word : s < 65536
-  size_word = omega (arith, size_le all short i)
+  size_word = omega (arith, ps, size_le all short i)
 
   pub start_word_lem : start < 65536
   start_word_lem = omega (arith, q.small, q.along, q.few)
 
   pub start_fits : Fits w64 (start + s)
-  start_fits = omega (arith, size_le all short i, q.small, q.along, q.few)
+  start_fits = omega (arith, ps, size_le all short i, q.small, q.along, q.few)
 
   module _ (l : i < n) (k : ℕ) (pk : k ≡ 5 + 4 * i) where
     pub record_fits_lem : k + 4 ≤ length out
     record_fits_lem = omega (arith, q.long, q.room)
 
-    pub records_next : (new : List ℕ) → new ≡ write_at out k (start ∷ s ∷ number_of (get_or all i gone).heading ∷ bit (get_or all i gone).lives ∷ []) → RecordsTo d all n (i + 1) new (start + s)
+    pub records_next : (new : List ℕ) → new ≡ write_at out k (start ∷ s ∷ number_of a.heading ∷ bit a.lives ∷ []) → RecordsTo d all n (i + 1) new (start + s)
     records_next new e =
         let f = record_in n all in
         let p : k ≡ 5 + length (concat_below i f) = omega (arith, records_long n i all) in
-        let w : new ≡ write_at out k (f i) = e ∙ (λ t. write_at out k (q.next t ∷ ps t ∷ number_of (get_or all i gone).heading ∷ bit (get_or all i gone).lives ∷ [])) in
+        let w : new ≡ write_at out k (f i) = e ∙ (λ t. write_at out k (q.next t ∷ ps t ∷ number_of (pa t).heading ∷ bit (pa t).lives ∷ [])) in
         record {
           few = q.few;
           along = omega arith;
           room = q.room;
           long = ap length w ∙ length_write out k (f i) (omega (arith, q.long, q.room)) ∙ q.long;
-          next = omega (arith, sum_next (sizes all) i, q.next);
-          small = omega (arith, size_le all short i, q.small);
+          next = omega (arith, ps, sum_next (sizes all) i, q.next);
+          small = omega (arith, ps, size_le all short i, q.small);
           words = w ∙ turn_next d 5 f i k out p (omega (arith, q.room)) q.words;
         }
 
@@ -75,13 +78,10 @@ module _ (d : List ℕ) (from : ℕ) (w : List ℕ) (all : List After) (n : ℕ)
   bodies_none parts room = record { parts = parts; along = omega arith; room = room; long = refl; run = run_start d from (body_in w all) }
 
   module _ (i : ℕ) (out : List ℕ) (at : ℕ) (q : BodiesTo d from w all n i out at) where
-    -- k is the place of snake i's start
-    module _ (l : i < n) (k : ℕ) (e : k ≡ 5 + 4 * i) where
-      abbrev a : After
-      a = get_or all i gone
-
+    -- a is snake i, k the place of its start
+    module _ (l : i < n) (k : ℕ) (e : k ≡ 5 + 4 * i) (a : After) (pa : a ≡ get_or all i gone) where
       body_at : body_in w all i ≡ body_with w (get_or w k 0) a.keep a.cell a.lives
-      body_at = ap (λ (k : ℕ). body_with w (get_or w k 0) a.keep a.cell a.lives) (sym e)
+      body_at = sym (λ t. body_with w (get_or w (e t) 0) (pa t).keep (pa t).cell (pa t).lives)
 
       room_next : at + length (body_in w all i) ≤ length out
       room_next = omega (arith, run_room d from (body_in w all) i n at out q.run l, q.room, q.long)
@@ -96,7 +96,7 @@ module _ (d : List ℕ) (from : ℕ) (w : List ℕ) (all : List After) (n : ℕ)
       body_fits = rw (← body_at) room_next
 
       pub part_there : get_or w k 0 + a.keep ≤ length w
-      part_there = rw e (q.parts.parts i l).fits
+      part_there = rw (e, pa) (q.parts.parts i l).fits
 
       pub bodies_next : (new : List ℕ) (r : ℕ) → Written out at (body_with w (get_or w k 0) a.keep a.cell a.lives) new r → BodiesTo d from w all n (i + 1) new r
       bodies_next new r z =

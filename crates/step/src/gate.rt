@@ -14,10 +14,8 @@ fn has_bad_action(image: &[u16], actions: &[u64]) -> bool
     ensures { result ≡ bad_action (state_of image.now) actions.now }
 {
     let mut bad = false;
-    let mut i = 0;
-    while i < actions.len() {
-        bad = bad | (image[layout::alive_at(i)] == 1) & (2 < actions[i]);
-        i += 1;
+    for (i, action) in actions.iter().enumerate() {
+        bad |= (image[layout::alive_at(i)] == 1) & (2 < *action);
     }
     bad
 }

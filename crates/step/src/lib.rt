@@ -44,9 +44,8 @@ fn go_on(setting: Setting, image: &[u16], actions: &[u64], out: &mut [u16]) -> S
 pub fn step(setting: Setting, image: &[u16], actions: &[u64], out: &mut [u16]) -> Stepped
     ensures { Steps setting image.now actions.now out.old out.new result }
 {
-    let verdict = asked(setting, image, actions);
-    let Verdict::Refused(why) = verdict else {
-        return go_on(setting, image, actions, out);
-    };
-    refused(why)
+    match asked(setting, image, actions) {
+        Verdict::Refused(why) => refused(why),
+        Verdict::Accepted => go_on(setting, image, actions, out),
+    }
 }

@@ -6,8 +6,8 @@ use Rattle.step.proofs.step.Goals as goal
 pub go_on-requires : goal.go_on-requires
 go_on-requires c = search (asked_sound, asked_count)
 
-pub returns-in_default : goal.returns-in_default
-returns-in_default c = search steps_done
+pub returns-in-Accepted : goal.returns-in-Accepted
+returns-in-Accepted c = search steps_done
 
-pub returns : goal.returns
-returns c = search steps_refused
+pub returns-in-Refused : goal.returns-in-Refused
+returns-in-Refused c = search steps_refused

@@ -1,6 +1,5 @@
 -- `consequences::settle_all` meets its contract: the invariant says that the snakes passed are settled and the places after them blank (`Laws`).
 -- Assumes nothing.
-use Rattle.judge.proofs.Loops.{fill_all}
 use Rattle.consequences.proofs.Laws.{settled_none, settled_next}
 use Rattle.consequences.proofs.after.settle_all.Goals as goal
 
@@ -9,6 +8,3 @@ loop-i-init c = search settled_none
 
 pub loop-i-preserved : goal.loop-i-preserved
 loop-i-preserved c = search settled_next
-
-pub returns : goal.returns
-returns c = search fill_all

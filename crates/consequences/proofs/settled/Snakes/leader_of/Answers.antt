@@ -1,7 +1,7 @@
--- `consequences::leader_of` meets its contract: each return is the one of the two that live who leads, or nobody (`Leading`).
+-- `consequences::Snakes::leader_of` meets its contract: each return is the one of the two that live who leads, or nobody (`Leading`).
 -- Assumes nothing.
 use Rattle.consequences.proofs.Leading.{leads_first, leads_second, leads_neither}
-use Rattle.consequences.proofs.leads.leader_of.Goals as goal
+use Rattle.consequences.proofs.settled.Snakes.leader_of.Goals as goal
 
 pub returns-then-is_longer : goal.returns-then-is_longer
 returns-then-is_longer c = search leads_first
