@@ -44,9 +44,6 @@ module _ (g : ℤ) (f : SFits w32 g) where
   side_fits = rw (to_z-of_z f) (record { fits = omega (arith, nat_abs-le g f.sfits) })
 
   module _ (l : lt_z (to_z w32 (of_z w32 g)) (pos 1) ≡ false) where
-    pub side_plain : T (non_neg (to_z w32 (of_z w32 g)))
-    side_plain = plain (to_z w32 (of_z w32 g)) l
-
     pub space_box : lt_z (pos 32) (to_z w32 (of_z w32 g)) ≡ false
         → gives (box 5 (nat_abs (to_z w32 (of_z w32 g))) (nat_abs (to_z w32 (of_z w32 g))) (lit false) (lit true)) ≡ space_says g
     space_box h = boxed (to_z w32 (of_z w32 g)) h l ∙ ap space_says (to_z-of_z f)

@@ -7,10 +7,7 @@ use rules::Space;
 pub fn observation_space(grid: i32) -> Space
     ensures { ObservationSpace grid result }
 {
-    if 32 < grid {
-        return Space::Refused(refusals::by(5));
-    }
-    if grid < 1 {
+    if grid < 1 || 32 < grid {
         return Space::Refused(refusals::by(5));
     }
     let side = grid as usize;

@@ -1,24 +1,21 @@
 // The reward of an event: seven binary64 weights, added in one order.
 ghost use Rattle.std.specs.Prelude.{◌≡◌};
-ghost use Rattle.std.specs.Float.Ieee.Scale.{finite};
 ghost use Rattle.rules.specs.Reward.{all_finite, plus, reward_dead, reward_living};
 ghost use Rattle.rules.specs.Promises.{Rewards};
 
 use rules::{Event, Reward, Weights};
 
-fn is_finite(x: f64) -> bool
-    ensures { result ≡ finite x }
-{
-    let inf = 1.0 / 0.0;
-    if x < inf { -inf < x } else { false }
-}
-
 // Strict tests: no order of branches to follow.
 fn all_finite(w: Weights) -> bool
     ensures { result ≡ all_finite w }
 {
-    let before = is_finite(w.step) & is_finite(w.food) & is_finite(w.loss) & is_finite(w.draw);
-    before & is_finite(w.kill) & is_finite(w.win) & is_finite(w.survival)
+    w.step.is_finite()
+        & w.food.is_finite()
+        & w.loss.is_finite()
+        & w.draw.is_finite()
+        & w.kill.is_finite()
+        & w.win.is_finite()
+        & w.survival.is_finite()
 }
 
 // x, and w added where the flag stands.

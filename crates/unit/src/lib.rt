@@ -28,7 +28,7 @@ fn index_of(count: u64, u: f64) -> u64
     ensures { result ≡ outcome_of count u }
 {
     let whole = std::num::truncating_f64_to_u64((count as f64) * u);
-    if whole < count { whole } else { count - 1 }
+    whole.min(count - 1)
 }
 
 pub fn outcome_of(count: u64, u: f64) -> Number

@@ -1,5 +1,4 @@
 -- `unit::index_of` meets its contract: the rounded product lies where it can be cut (`Products`). Assumes nothing.
-use Rattle.std.proofs.Common.{rules}
 use Rattle.unit.specs.UnitNumber.{outcome_of}
 use Rattle.unit.proofs.Products.{product}
 use Rattle.unit.proofs.index_of.Goals as goal
@@ -10,10 +9,6 @@ truncating_f64_to_u64-whole-requires-clause-lower_bound c = (product c.args.coun
 pub truncating_f64_to_u64-whole-requires-clause-upper_bound : goal.truncating_f64_to_u64-whole-requires-clause-upper_bound
 truncating_f64_to_u64-whole-requires-clause-upper_bound c = (product c.args.count c.args.u c.requires).below
 
-pub returns-then-whole-count : goal.returns-then-whole-count
+pub returns : goal.returns
 unfolding outcome_of
-returns-then-whole-count c = search rules
-
-pub returns-else-whole-count : goal.returns-else-whole-count
-unfolding outcome_of
-returns-else-whole-count c = search rules
+returns c = rw (c.min.ensures, c.truncating_f64_to_u64-whole.ensures)

@@ -1,12 +1,6 @@
--- `view::clear` meets its contract. The invariant: the first j numbers are 0.0 (`Cleared`). The measure is how many are left. Assumes nothing.
-use Rattle.view.proofs.Marks.{cleared_none, cleared_next, cleared_all}
+-- `view::clear` meets its contract: the front is filled with 0.0, and the rest stays (`cleared`). Assumes nothing.
+use Rattle.view.proofs.Marks.{cleared}
 use Rattle.view.proofs.planes.clear.Goals as goal
 
-pub loop-j-init : goal.loop-j-init
-loop-j-init c = search cleared_none
-
-pub loop-j-preserved : goal.loop-j-preserved
-loop-j-preserved c = search cleared_next
-
 pub returns : goal.returns
-returns c = search cleared_all
+returns c = cleared _ _ _ c.requires (c.fill.ensures.after (λ y q. q))

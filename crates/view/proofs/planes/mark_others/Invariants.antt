@@ -1,11 +1,7 @@
 -- `view::mark_others` meets its contract. The invariant: the first i snakes but the agent are marked (`OthersMarked`); each turn's way is one law of `Marks`.
--- The measure is how many snakes are left. Assumes nothing.
-use Prim.Native.Nat.{◌-◌}
+-- Assumes nothing.
 use Rattle.view.specs.Marks.{OthersMarked}
 use Rattle.view.proofs.planes.mark_others.Given as goal
 
 abbrev pub invariant-loop-i : goal.invariant-loop-i
 invariant-loop-i l = OthersMarked l.image l.g l.heading l.agent l.n l.i l.initial.obs l.obs
-
-abbrev pub decreases-loop-i : goal.decreases-loop-i
-decreases-loop-i l = l.n - l.i
