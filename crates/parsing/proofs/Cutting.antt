@@ -1,16 +1,17 @@
 -- What the loops over the pieces of a line need: where a piece ends, how many there are, where the next one starts. Assumes nothing.
 use Prim.Native.Nat.{ℕ, suc, ◌+◌, ◌<◌, ◌≤◌}
-use native.Mathlib.Numerals.{add-one}
 use native.Mathlib.Nat.{add-zero}
 use native.Mathlib.Omega.{arith}
 use mathlib.Core.Path.{◌≡◌, refl, sym, ap, ◌∙◌}
 use mathlib.Core.Bool.{Bool, true, false, cond}
 use mathlib.Core.List.{List, [], ◌∷◌}
 use lib.Dec.{leb, eqb, leb-suc-suc}
-use lib.ListN.{length, get_or, take, drop, drop_of_length-le, length-drop}
-use lib.Seq.{drop-cons, drop-drop, get_or-drop}
-use borrow.Author.Tests.{eq-eqb, ne_eqb, le-leb, lt-leb, leb-true, leb-false}
-use Rattle.lists.specs.Choice.{◌if◌else◌, bit}
+use lib.ListN.{length, get_or, take, drop, length-drop}
+use lib.Seq.{drop-drop, get_or-drop}
+use borrow.Author.Tests.{le-leb, lt-leb, leb-true, leb-false}
+use Rattle.std.specs.List.{count_by, position_or_len}
+use Rattle.std.proofs.lemmas.List.Recursion.{is_count_by, is_position_or_len}
+use Rattle.lists.specs.Choice.{◌if◌else◌}
 use Rattle.parsing.specs.Fields.{up_to, past_each, pieces, pieces_from, field_at}
 
 module _ (b : ℕ) where
@@ -46,30 +47,23 @@ module _ (b : ℕ) where
   past_is [] = refl
   past_is (x ∷ s) = past_by (eqb x b) x s (past_is s)
 
-  count_by : (t : Bool) (s : List ℕ) → length (cond t (pieces b s) (past_each b s)) ≡ bit t + length (past_each b s)
-  count_by true s = omega arith
-  count_by false s = omega arith
+  -- the first piece ends at the place of the first b, or with the bytes
+  place_by : (t : Bool) (x : ℕ) (l : List ℕ) → length (cond t [] (x ∷ l)) ≡ cond t 0 (1 + length l)
+  place_by true x l = refl
+  place_by false x l = omega arith
 
-  module _ (s : List ℕ) (i : ℕ) where
-    pub piece_end : length s ≤ i → up_to b (drop i s) ≡ []
-    unfolding up_to
-    piece_end h = rw (drop_of_length-le s h)
+  pub piece_place : (s : List ℕ) → length (up_to b s) ≡ position_or_len (λ x. eqb x b) s
+  unfolding up_to
+  piece_place s = is_position_or_len (λ l. length (up_to b l)) (λ x. eqb x b) refl (λ x l. place_by (eqb x b) x (up_to b l)) s
 
-    pub piece_here : i < length s → get_or s i 0 ≡ b → up_to b (drop i s) ≡ []
-    unfolding up_to
-    piece_here h e = rw (drop-cons s i 0 h, eq-eqb _ _ e)
+  -- a further piece for each b
+  count_by_lem : (t : Bool) (u : List ℕ) (r : List (List ℕ)) → length (cond t (u ∷ r) r) ≡ cond t (1 + length r) (length r)
+  count_by_lem true u r = omega arith
+  count_by_lem false u r = refl
 
-    pub piece_next : i < length s → (get_or s i 0 ≡ b → ⊥) → length (up_to b (drop i s)) ≡ suc (length (up_to b (drop (i + 1) s)))
-    unfolding up_to
-    piece_next h e = rw (add-one, drop-cons s i 0 h, ne_eqb _ _ e)
-
-    pub pieces_end : length s ≤ i → length (past_each b (drop i s)) ≡ 0
-    unfolding past_each
-    pieces_end h = rw (drop_of_length-le s h)
-
-    pub pieces_next : i < length s → length (past_each b (drop i s)) ≡ bit (eqb (get_or s i 0) b) + length (past_each b (drop (i + 1) s))
-    unfolding past_each
-    pieces_next h = rw (add-one, drop-cons s i 0 h) (count_by (eqb (get_or s i 0) b) (drop (suc i) s))
+  pub pieces_counted : (s : List ℕ) → length (past_each b s) ≡ count_by (λ x. eqb x b) s
+  unfolding past_each
+  pieces_counted s = is_count_by (λ l. length (past_each b l)) (λ x. eqb x b) refl (λ x l. count_by_lem (eqb x b) (up_to b l) (past_each b l)) s
 
 same_by : (a b c d : ℕ) → (a ≤ b → c ≤ d) → (b < a → d < c) → (t : Bool) → leb a b ≡ t → leb a b ≡ leb c d
 same_by a b c d f g true e = e ∙ sym (le-leb c d (f (leb-true a b e)))

@@ -1,23 +1,23 @@
 // A line's fields: how many, where the k-th stands, what it says.
-ghost use Rattle.std.specs.Prelude.{◌≡◌, ◌+◌, ◌≤◌, length, drop};
+ghost use Rattle.std.specs.Prelude.{◌≡◌, ◌==◌, ◌+◌, ◌≤◌, length, drop, position};
 ghost use Rattle.parsing.specs.Numbers.{decimal_of, grid_of, bound_of, flag_of, is_byte};
 ghost use Rattle.parsing.specs.Fields.{up_to, pieces_from, fields_of, field_at, Spans};
 
 use crate::numbers::{bound_in, decimal, flag_by, grid_in, is_byte};
 use crate::{Bound, Flag, Grid, Num, Span};
-use lists::more_if;
 
 // One more than the line has spaces.
 pub fn field_count(s: &[u8]) -> usize
     ensures { result ≡ length (fields_of s.now) }
 {
-    let mut k = 1;
-    let mut i = 0;
-    while i < s.len() {
-        k = more_if(k, s[i] == b' ');
-        i += 1;
-    }
-    k
+    1 + s.iter().filter(|x| **x == b' ').count()
+}
+
+// The place of the first such byte.
+fn place_of(s: &[u8], b: u8) -> Option<usize>
+    ensures { result ≡ position (λ x. x == b) s.now }
+{
+    s.iter().position(|x| *x == b)
 }
 
 // The index after the piece that starts at `from`: that of the byte b, or the length.
@@ -25,14 +25,10 @@ pub fn piece_end(s: &[u8], from: usize, b: u8) -> usize
     requires { from ≤ length s.now }
     ensures { result ≡ from + length (up_to b (drop from s.now)) }
 {
-    let mut i = from;
-    while i < s.len() {
-        if s[i] == b {
-            return i;
-        }
-        i += 1;
+    match place_of(&s[from..], b) {
+        Some(k) => from + k,
+        None => s.len(),
     }
-    i
 }
 
 // The start of the field after the one that starts at `at`.
@@ -41,9 +37,10 @@ pub fn next_start(s: &[u8], at: usize) -> usize
     ensures { (result ≤ length s.now + 1) × (pieces_from 32 s.now result ≡ drop 1 (pieces_from 32 s.now at)) }
 {
     if s.len() < at {
-        return at;
+        at
+    } else {
+        piece_end(s, at, b' ') + 1
     }
-    piece_end(s, at, b' ') + 1
 }
 
 // Where the k-th field starts; past the line where there is none.
@@ -51,10 +48,8 @@ pub fn start_of(s: &[u8], k: usize) -> usize
     ensures { (result ≤ length s.now + 1) × (pieces_from 32 s.now result ≡ drop k (fields_of s.now)) }
 {
     let mut at = 0;
-    let mut j = 0;
-    while j < k {
+    for _ in 0..k {
         at = next_start(s, at);
-        j += 1;
     }
     at
 }
@@ -65,14 +60,15 @@ fn field(s: &[u8], k: usize) -> Span
 {
     let at = start_of(s, k);
     if s.len() < at {
-        return Span {
+        Span {
             from: s.len(),
             to: s.len(),
-        };
-    }
-    Span {
-        from: at,
-        to: piece_end(s, at, b' '),
+        }
+    } else {
+        Span {
+            from: at,
+            to: piece_end(s, at, b' '),
+        }
     }
 }
 
@@ -80,27 +76,21 @@ pub fn number_at(s: &[u8], k: usize) -> Num
     ensures { result ≡ decimal_of (field_at (fields_of s.now) k) }
 {
     let f = field(s, k);
-    let from = f.from;
-    let to = f.to;
-    decimal(&s[from..to])
+    decimal(&s[f.from..f.to])
 }
 
 pub fn grid_at(s: &[u8], k: usize) -> Grid
     ensures { result ≡ grid_of (field_at (fields_of s.now) k) }
 {
     let f = field(s, k);
-    let from = f.from;
-    let to = f.to;
-    grid_in(&s[from..to])
+    grid_in(&s[f.from..f.to])
 }
 
 pub fn bound_at(s: &[u8], k: usize) -> Bound
     ensures { result ≡ bound_of (field_at (fields_of s.now) k) }
 {
     let f = field(s, k);
-    let from = f.from;
-    let to = f.to;
-    bound_in(&s[from..to])
+    bound_in(&s[f.from..f.to])
 }
 
 pub fn flag_at(s: &[u8], k: usize) -> Flag
@@ -114,7 +104,5 @@ pub fn word_is(b: u8, s: &[u8], k: usize) -> bool
     ensures { result ≡ is_byte b (field_at (fields_of s.now) k) }
 {
     let f = field(s, k);
-    let from = f.from;
-    let to = f.to;
-    is_byte(b, &s[from..to])
+    is_byte(b, &s[f.from..f.to])
 }

@@ -64,12 +64,12 @@ pub fn read_first(s: &[u8]) -> First
     ensures { result ≡ read_first s.now }
 {
     if 200 < s.len() {
-        return First::NoFirst;
+        First::NoFirst
+    } else if field_count(s) == 7 {
+        setting_in(s)
+    } else {
+        First::NoFirst
     }
-    if field_count(s) == 7 {
-        return setting_in(s);
-    }
-    First::NoFirst
 }
 
 fn no_entry() -> Entry
@@ -84,12 +84,12 @@ fn no_entry() -> Entry
 fn draw_by(n: Num) -> Entry
     ensures { result ≡ draw_by n }
 {
-    let Num::Reads(v) = n else {
-        return no_entry();
-    };
-    Entry {
-        line: Line::DrawLine(v),
-        acts: [0u64; 8],
+    match n {
+        Num::NoNumber => no_entry(),
+        Num::Reads(v) => Entry {
+            line: Line::DrawLine(v),
+            acts: [0u64; 8],
+        },
     }
 }
 
@@ -97,9 +97,10 @@ fn draw_in(s: &[u8]) -> Entry
     ensures { result ≡ draw_in (fields_of s.now) }
 {
     if field_count(s) == 2 {
-        return draw_by(number_at(s, 1));
+        draw_by(number_at(s, 1))
+    } else {
+        no_entry()
     }
-    no_entry()
 }
 
 // The number of the field that starts at `at`, and the start of the next.
@@ -125,16 +126,13 @@ fn actions_in(s: &[u8], n: usize) -> Entry
 {
     let mut acts = [0u64; 8];
     let mut at = next_start(s, 0);
-    let mut k = 0;
-    while k < n {
+    for k in 0..n {
         let got = next_number(s, at);
-        let num = got.num;
-        let Num::Reads(v) = num else {
+        let Num::Reads(v) = got.num else {
             return no_entry();
         };
         acts[k] = v;
         at = got.next;
-        k += 1;
     }
     Entry {
         line: Line::MoveLine,
@@ -147,9 +145,10 @@ fn move_in(s: &[u8], n: usize) -> Entry
     ensures { result ≡ move_in n (fields_of s.now) }
 {
     if field_count(s) == n + 1 {
-        return actions_in(s, n);
+        actions_in(s, n)
+    } else {
+        no_entry()
     }
-    no_entry()
 }
 
 fn entry_in(s: &[u8], n: usize) -> Entry
@@ -157,12 +156,12 @@ fn entry_in(s: &[u8], n: usize) -> Entry
     ensures { result ≡ entry_in n (fields_of s.now) }
 {
     if word_is(b'd', s, 0) {
-        return draw_in(s);
+        draw_in(s)
+    } else if word_is(b'm', s, 0) {
+        move_in(s, n)
+    } else {
+        no_entry()
     }
-    if word_is(b'm', s, 0) {
-        return move_in(s, n);
-    }
-    no_entry()
 }
 
 // A line after the first, in a match of n snakes.
@@ -171,7 +170,8 @@ pub fn read_later(s: &[u8], n: usize) -> Entry
     ensures { result ≡ read_later n s.now }
 {
     if 200 < s.len() {
-        return no_entry();
+        no_entry()
+    } else {
+        entry_in(s, n)
     }
-    entry_in(s, n)
 }

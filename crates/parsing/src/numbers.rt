@@ -5,12 +5,6 @@ ghost use Rattle.parsing.specs.Numbers.{is_digit, unpadded, digits_fit, read_on,
 use crate::{Bound, Flag, Grid, Num};
 use rules::Limit;
 
-fn wide(b: u8) -> u64
-    ensures { result ≡ b }
-{
-    b as u64
-}
-
 fn is_digit(b: u8) -> bool
     ensures { result ≡ is_digit b }
 {
@@ -21,13 +15,11 @@ fn is_digit(b: u8) -> bool
 fn is_unpadded(s: &[u8]) -> bool
     ensures { result ≡ unpadded s.now }
 {
-    if s.len() == 0 {
-        return false;
+    match s {
+        [] => false,
+        [_] => true,
+        [first, ..] => *first != b'0',
     }
-    if s.len() == 1 {
-        return true;
-    }
-    s[0] != b'0'
 }
 
 // The number that the digits say; none where a byte is no digit, or at 2^64 and above.
@@ -35,18 +27,15 @@ fn digits(s: &[u8]) -> Num
     ensures { result ≡ number_by (digits_fit s.now) (read_on 0 s.now) }
 {
     let mut v: u64 = 0;
-    let mut i = 0;
-    while i < s.len() {
-        let b = s[i];
-        if !is_digit(b) {
+    for b in s {
+        if !is_digit(*b) {
             return Num::NoNumber;
         }
-        let d = wide(b) - b'0' as u64;
+        let d = u64::from(*b - b'0');
         if (u64::MAX - d) / 10 < v {
             return Num::NoNumber;
         }
         v = v * 10 + d;
-        i += 1;
     }
     Num::Reads(v)
 }
@@ -55,40 +44,31 @@ fn digits(s: &[u8]) -> Num
 pub fn decimal(s: &[u8]) -> Num
     ensures { result ≡ decimal_of s.now }
 {
-    if !is_unpadded(s) {
-        return Num::NoNumber;
+    if is_unpadded(s) {
+        digits(s)
+    } else {
+        Num::NoNumber
     }
-    digits(s)
 }
 
 // A grid that has a minus sign: nonzero, down to -2^31.
 fn grid_below(n: Num) -> Grid
     ensures { result ≡ grid_below n }
 {
-    let Num::Reads(v) = n else {
-        return Grid::NoGrid;
-    };
-    if v == 0 {
-        return Grid::NoGrid;
+    match n {
+        Num::Reads(v) if 0 < v && v <= 2147483648 => Grid::GridIs(-1 - (v - 1) as i32),
+        _ => Grid::NoGrid,
     }
-    if 2147483648 < v {
-        return Grid::NoGrid;
-    }
-    let low = (v - 1) as i32;
-    Grid::GridIs(-1 - low)
 }
 
 // A grid that has none: up to 2^31 - 1.
 fn grid_above(n: Num) -> Grid
     ensures { result ≡ grid_above n }
 {
-    let Num::Reads(v) = n else {
-        return Grid::NoGrid;
-    };
-    if v < 2147483648 {
-        return Grid::GridIs(v as i32);
+    match n {
+        Num::Reads(v) if v < 2147483648 => Grid::GridIs(v as i32),
+        _ => Grid::NoGrid,
     }
-    Grid::NoGrid
 }
 
 pub fn grid_in(s: &[u8]) -> Grid
@@ -107,10 +87,7 @@ pub fn grid_in(s: &[u8]) -> Grid
 pub fn is_byte(b: u8, s: &[u8]) -> bool
     ensures { result ≡ is_byte b s.now }
 {
-    if s.len() != 1 {
-        return false;
-    }
-    s[0] == b
+    matches!(s, [x] if *x == b)
 }
 
 fn bound_by(n: Num) -> Bound
@@ -127,23 +104,19 @@ pub fn bound_in(s: &[u8]) -> Bound
     ensures { result ≡ bound_of s.now }
 {
     if is_byte(b'-', s) {
-        return Bound::Bounds(Limit::Unset);
+        Bound::Bounds(Limit::Unset)
+    } else {
+        bound_by(decimal(s))
     }
-    bound_by(decimal(s))
 }
 
 // 0 or 1.
 pub fn flag_by(n: Num) -> Flag
     ensures { result ≡ flag_by n }
 {
-    let Num::Reads(v) = n else {
-        return Flag::NoFlag;
-    };
-    if v == 0 {
-        return Flag::Flagged(false);
+    match n {
+        Num::Reads(0) => Flag::Flagged(false),
+        Num::Reads(1) => Flag::Flagged(true),
+        _ => Flag::NoFlag,
     }
-    if v == 1 {
-        return Flag::Flagged(true);
-    }
-    Flag::NoFlag
 }

@@ -19,10 +19,7 @@ pub fn feed(line: &mut [u8], fill: usize, part: &[u8]) -> usize
     requires { 201 ≤ length line.old }
     ensures { Feeds line.old line.new fill result part.now }
 {
-    if 200 < fill {
-        return 201;
-    }
-    if 200 - fill < part.len() {
+    if 200 < fill || 200 - fill < part.len() {
         return 201;
     }
     write_at(line, fill, part);

@@ -7,11 +7,7 @@ pub fn write_at(out: &mut [u8], at: usize, src: &[u8])
     requires { at + length src.now ≤ length out.old }
     ensures { out.new ≡ write_at out.old at src.now }
 {
-    let mut j = 0;
-    while j < src.len() {
-        out[at + j] = src[j];
-        j += 1;
-    }
+    out[at..at + src.len()].copy_from_slice(src);
 }
 
 pub fn put(out: &mut [u8], at: usize, b: u8) -> usize
@@ -55,10 +51,7 @@ pub fn put_if(out: &mut [u8], at: usize, flag: bool, b: u8) -> usize
     requires { at + 1 ≤ length out.old }
     ensures { Wrote out.old out.new at result (one flag b) 1 }
 {
-    if flag {
-        return put(out, at, b);
-    }
-    at
+    if flag { put(out, at, b) } else { at }
 }
 
 pub fn digit_of(b: bool) -> u8

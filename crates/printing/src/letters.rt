@@ -24,8 +24,7 @@ fn put_deeds(out: &mut [u8], at: usize, e: Event) -> usize
     ensures { Wrote out.old out.new at result (deeds_text e) 3 }
 {
     let i = put_if(out, at, e.ate_food, b'a');
-    let cause = e.death_cause;
-    let j = put_if(out, i, is_death(cause), letter_of(cause));
+    let j = put_if(out, i, is_death(e.death_cause), letter_of(e.death_cause));
     put_if(out, j, e.killed_opponent, b'k')
 }
 
@@ -46,10 +45,7 @@ pub fn put_events(out: &mut [u8], at: usize, e: Event) -> usize
 {
     let i = put_deeds(out, at, e);
     let j = put_ends(out, i, e);
-    if j == at {
-        return put(out, at, b'-');
-    }
-    j
+    if j == at { put(out, at, b'-') } else { j }
 }
 
 // The first cell, `-` if there is none.
@@ -58,9 +54,10 @@ fn put_first(out: &mut [u8], at: usize, size: u64, cell: u64) -> usize
     ensures { Wrote out.old out.new at result (58 ∷ first_text size cell) 21 }
 {
     if size == 0 {
-        return put_two(out, at, b':', b'-');
+        put_two(out, at, b':', b'-')
+    } else {
+        put_item(out, at, b':', cell)
     }
-    put_item(out, at, b':', cell)
 }
 
 pub fn put_body(out: &mut [u8], at: usize, alive: bool, size: u64, cell: u64) -> usize
@@ -92,15 +89,13 @@ pub fn put_refusal(out: &mut [u8], k: u64) -> usize
     put(out, j, b'\n')
 }
 
-fn put_each(out: &mut [u8], from: usize, all: [u64; 8], n: usize) -> usize
-    requires { (n ≤ 8) × (from + 168 ≤ length out.old) }
-    ensures { Wrote out.old out.new from result (concat_below n (placing_text all)) 168 }
+fn put_each(out: &mut [u8], from: usize, places: &[u64]) -> usize
+    requires { (length places.now ≤ 8) × (from + 168 ≤ length out.old) }
+    ensures { Wrote out.old out.new from result (concat_below (length places.now) (placing_text places.now)) 168 }
 {
     let mut at = from;
-    let mut i = 0;
-    while i < n {
-        at = put_item(out, at, b' ', all[i]);
-        i += 1;
+    for place in places {
+        at = put_item(out, at, b' ', *place);
     }
     at
 }
@@ -111,6 +106,6 @@ pub fn put_placings(out: &mut [u8], all: [u64; 8], n: usize) -> usize
     ensures { Wrote out.old out.new 0 result (placings_text all n) 170 }
 {
     let i = put(out, 0, b'p');
-    let j = put_each(out, i, all, n);
+    let j = put_each(out, i, &all[..n]);
     put(out, j, b'\n')
 }

@@ -15,8 +15,8 @@ returns-then-s-at c =
     let at = c.start_of-at.result in
     record { ordered = search rules; inside = search rules; says = rw (drop-length, take-nil) (sym (from_none 32 s at c.if-s-at.true) ∙ from_at 32 s at k c.start_of-at.ensures.1) }
 
-pub returns : goal.returns
-returns c =
+pub returns-else-s-at : goal.returns-else-s-at
+returns-else-s-at c =
     let s = c.args.s.now in
     let k = c.args.k in
     let at = c.start_of-at.result in

@@ -16,8 +16,8 @@ overflow_add-result c =
     let at = c.args.at in
     omega (arith, c.piece_end.ensures, piece_short 32 (drop at s), length-drop at s)
 
-pub returns : goal.returns
-returns c =
+pub returns-else-s-at : goal.returns-else-s-at
+returns-else-s-at c =
     let s = c.args.s.now in
     let at = c.args.at in
     (omega (arith, c.piece_end.ensures, piece_short 32 (drop at s), length-drop at s), ap (λ (k : ℕ). pieces_from 32 s (k + 1)) c.piece_end.ensures ∙ next_some 32 s at c.if-s-at.false)

@@ -6,7 +6,6 @@ use lib.Dec.{leb-zero}
 use lib.Seq.{drop-drop}
 use lib.ListN.{set, drop, length}
 use native.Mathlib.Omega.{arith}
-use borrow.Author.Rules.{rules}
 use Rattle.lists.specs.Below.{all_below, filled}
 use Rattle.lists.proofs.Below.{all_none, all_more, all_fails, filled_none, filled_more}
 use Rattle.parsing.proofs.Reading.{was_number, no_number}
@@ -21,7 +20,7 @@ pub loop-k-init : goal.loop-k-init
 loop-k-init c =
     let s = c.args.s.now in
     let e : pieces_from 32 s c.next_start-at.result ≡ drop 1 (fields_of s) = c.next_start-at.ensures.1 ∙ rw (leb-zero (length s)) in
-    (search rules, record { inside = c.next_start-at.ensures.0; stands = e }, all_none _, filled_none (action (fields_of s)) 8 0)
+    (record { inside = c.next_start-at.ensures.0; stands = e }, all_none _, filled_none (action (fields_of s)) 8 0)
 
 pub returns : goal.returns
 unfolding actions_in
@@ -30,8 +29,8 @@ returns c =
     let fs = fields_of a.s.now in
     let l = c.loop-k in
     let e : l.k ≡ a.n = omega arith in
-    let t : all_below a.n (is_action fs) ≡ true = ap (λ (j : ℕ). all_below j (is_action fs)) (sym e) ∙ l.invariant.2 in
-    let p : l.acts ≡ filled (action fs) a.n 8 0 = l.invariant.3 ∙ ap (λ (j : ℕ). filled (action fs) j 8 0) e in
+    let t : all_below a.n (is_action fs) ≡ true = ap (λ (j : ℕ). all_below j (is_action fs)) (sym e) ∙ l.invariant.1 in
+    let p : l.acts ≡ filled (action fs) a.n 8 0 = l.invariant.2 ∙ ap (λ (j : ℕ). filled (action fs) j 8 0) e in
     rw (t, p)
 
 pub loop-k-preserved : goal.loop-k-preserved
@@ -41,11 +40,10 @@ loop-k-preserved c =
     let l = c.loop-k in
     let g = c.next_number-got.ensures in
     let v = c.in-Reads.v in
-    let q = was_number (field_at fs (l.k + 1)) v (ap decimal_of (sym (from_at 32 s l.at (l.k + 1) l.invariant.1.stands)) ∙ sym g.number ∙ c.in-Reads.is) in (
-      search rules,
-      record { inside = g.inside; stands = g.onward ∙ ap (λ (x : List (List ℕ)). drop 1 x) l.invariant.1.stands ∙ drop-drop 1 (l.k + 1) fs },
-      all_more (is_action fs) l.k l.invariant.2 q.0,
-      ap (λ (x : List ℕ). set x l.k v) l.invariant.3 ∙ rw q.1 (filled_more (action fs) l.k 8 0 (omega arith)),
+    let q = was_number (field_at fs (l.k + 1)) v (ap decimal_of (sym (from_at 32 s l.at (l.k + 1) l.invariant.0.stands)) ∙ sym g.number ∙ c.in-Reads.is) in (
+      record { inside = g.inside; stands = g.onward ∙ ap (λ (x : List (List ℕ)). drop 1 x) l.invariant.0.stands ∙ drop-drop 1 (l.k + 1) fs },
+      all_more (is_action fs) l.k l.invariant.1 q.0,
+      ap (λ (x : List ℕ). set x l.k v) l.invariant.2 ∙ rw q.1 (filled_more (action fs) l.k 8 0 (omega arith)),
     )
 
 pub returns-in_default : goal.returns-in_default
@@ -54,5 +52,5 @@ returns-in_default c =
     let s = c.args.s.now in
     let fs = fields_of s in
     let l = c.loop-k in
-    let e : decimal_of (field_at fs (l.k + 1)) ≡ NoNumber = ap decimal_of (sym (from_at 32 s l.at (l.k + 1) l.invariant.1.stands)) ∙ sym c.next_number-got.ensures.number ∙ c.in_default.is in
-    c.no_entry.ensures ∙ rw (all_fails (is_action fs) c.args.n l.k c.loop-k-test.true (no_number (field_at fs (l.k + 1)) e))
+    let e : decimal_of (field_at fs (l.k + 1)) ≡ NoNumber = ap decimal_of (sym (from_at 32 s l.at (l.k + 1) l.invariant.0.stands)) ∙ sym c.next_number-got.ensures.number ∙ c.in_default.is in
+    c.no_entry.ensures ∙ rw (all_fails (is_action fs) c.args.n l.k (omega arith) (no_number (field_at fs (l.k + 1)) e))

@@ -1,4 +1,4 @@
-use Prim.Native.Nat.{◌+◌, ◌-◌, ◌≤◌}
+use Prim.Native.Nat.{◌+◌}
 use mathlib.Core.Path.{◌≡◌}
 use mathlib.Core.Bool.{true}
 use Rattle.lists.specs.Below.{all_below, filled}
@@ -7,7 +7,4 @@ use Rattle.parsing.specs.Lines.{is_action, action, Behind}
 use Rattle.parsing.proofs.lines.actions_in.Given as goal
 
 abbrev pub invariant-loop-k : goal.invariant-loop-k
-invariant-loop-k l = (l.k ≤ l.n) × Behind l.s (l.k + 1) l.at × (all_below l.k (is_action (fields_of l.s)) ≡ true) × (l.acts ≡ filled (action (fields_of l.s)) l.k 8 0)
-
-abbrev pub decreases-loop-k : goal.decreases-loop-k
-decreases-loop-k l = l.n - l.k
+invariant-loop-k l = Behind l.s (l.k + 1) l.at × (all_below l.k (is_action (fields_of l.s)) ≡ true) × (l.acts ≡ filled (action (fields_of l.s)) l.k 8 0)

@@ -7,6 +7,6 @@ pub returns-then-field_count-n : goal.returns-then-field_count-n
 unfolding move_in
 returns-then-field_count-n c = let e = sym c.field_count.ensures ∙ c.if-field_count-n.true in c.actions_in.ensures ∙ rw (eq-eqb _ _ e)
 
-pub returns : goal.returns
+pub returns-else-field_count-n : goal.returns-else-field_count-n
 unfolding move_in
-returns c = let e = c.field_count.ensures in c.no_entry.ensures ∙ rw (ne_eqb _ _ (λ p. c.if-field_count-n.false (e ∙ p)))
+returns-else-field_count-n c = let e = c.field_count.ensures in c.no_entry.ensures ∙ rw (ne_eqb _ _ (λ p. c.if-field_count-n.false (e ∙ p)))

@@ -11,6 +11,6 @@ pub returns-then-field_count-eq7 : goal.returns-then-field_count-eq7
 unfolding read_first
 returns-then-field_count-eq7 c = let e = sym c.field_count.ensures ∙ c.if-field_count-eq7.true in c.setting_in.ensures ∙ rw (le-ltb _ _ c.if-s-gt200.false, eq-eqb _ _ e)
 
-pub returns : goal.returns
+pub returns-else-field_count-eq7 : goal.returns-else-field_count-eq7
 unfolding read_first
-returns c = let e = c.field_count.ensures in rw (le-ltb _ _ c.if-s-gt200.false, ne_eqb _ _ (λ p. c.if-field_count-eq7.false (e ∙ p)))
+returns-else-field_count-eq7 c = let e = c.field_count.ensures in rw (le-ltb _ _ c.if-s-gt200.false, ne_eqb _ _ (λ p. c.if-field_count-eq7.false (e ∙ p)))

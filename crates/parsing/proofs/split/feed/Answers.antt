@@ -4,12 +4,19 @@ use Rattle.parsing.proofs.Feeding.{fed_over, fed_past, fed_on}
 use native.Mathlib.Omega.{arith}
 use mathlib.Core.Path.{refl, ap, ◌∙◌}
 use Rattle.parsing.proofs.split.feed.Goals as goal
+use Rattle.parsing.proofs.split.feed.Goals.{then-fill-gt200-via-then-fill-gt200, then-fill-gt200-via-else-fill-gt200+then-fill-part}
 
 pub returns-then-fill-gt200 : goal.returns-then-fill-gt200
-returns-then-fill-gt200 c = record { most = omega arith; long = refl; holds = λ s h. fed_over c.args.line.now s c.args.part.now c.args.fill h c.if-fill-gt200.true }
-
-pub returns-then-fill-part : goal.returns-then-fill-part
-returns-then-fill-part c = record { most = omega arith; long = refl; holds = λ s h. fed_past c.args.line.now s c.args.part.now c.args.fill h c.if-fill-gt200.false c.if-fill-part.true }
+returns-then-fill-gt200 c =
+    let a = c.args in
+    record {
+      most = omega arith;
+      long = refl;
+      holds = λ s h. elim c.then-fill-gt200.branch [
+        | then-fill-gt200-via-then-fill-gt200 w ↦ fed_over a.line.now s a.part.now a.fill h w.if-fill-gt200.true
+        | then-fill-gt200-via-else-fill-gt200+then-fill-part w ↦ fed_past a.line.now s a.part.now a.fill h w.if-fill-gt200.false w.if-fill-part.true
+      ];
+    }
 
 pub returns : goal.returns
 returns c =

@@ -1,30 +1,20 @@
-use Prim.Native.Nat.{ℕ, ◌+◌, ◌<◌}
-use mathlib.Core.Path.{◌≡◌, refl, ap, ◌∙◌}
-use mathlib.Core.List.{List}
-use lib.ListN.{set, get_or, length-set, length}
-use Rattle.lists.proofs.Writes.{paste_all, paste_more}
-use lib.Seq.{paste, paste-zero}
+-- What a copy into a part of the buffer leaves is the write of the whole source.
 use native.Mathlib.Omega.{arith}
+use Prim.Native.Nat.{ℕ, ◌+◌, ◌-◌}
+use mathlib.Core.Path.{◌≡◌, refl, ◌∙◌}
+use mathlib.Core.List.{List}
+use lib.ListN.{length}
+use lib.Seq.{paste, take-length}
+use Rattle.std.proofs.lemmas.Slice.{put_mid-paste}
+use Rattle.lists.specs.Lists.{write_at}
 use Rattle.printing.proofs.bytes.write_at.Goals as goal
 
-pub loop-j-init : goal.loop-j-init
-loop-j-init c = (omega arith, refl, paste-zero c.args.out.now c.args.at c.args.src.now)
-
-pub loop-j-preserved : goal.loop-j-preserved
-loop-j-preserved c =
-    let i = c.loop-j.invariant in
-    let j = c.loop-j.j in
-    let a = c.args in
-    let d = a.out.now in
-    let s = a.src.now in
-    let in-out : a.at + j < length d = omega arith in
-    (omega arith, simp length-set i.1, ap (λ (l : List ℕ). set l (a.at + j) (get_or s j 0)) i.2 ∙ paste_more d a.at s j 0 in-out c.loop-j-test.true)
-
-pub shape_of-out : goal.shape_of-out
-shape_of-out c = c.loop-j.invariant.1
+whole : (d : List ℕ) (at : ℕ) (s : List ℕ) → paste d at s (length s) ≡ write_at d at s
+unfolding write_at
+whole d at s = rw take-length
 
 pub returns : goal.returns
 returns c =
     let a = c.args in
-    let e : c.loop-j.j ≡ length a.src.now = omega arith in
-    c.loop-j.invariant.2 ∙ ap (λ (k : ℕ). paste a.out.now a.at a.src.now k) e ∙ paste_all a.out.now a.at a.src.now
+    let s = a.src.now in
+    put_mid-paste a.at (a.at + length s - a.at) a.out.now _ s (length s) c.copy_from_slice.ensures.after (omega arith) refl ∙ whole a.out.now a.at s

@@ -10,8 +10,8 @@ returns-then-j-at c =
     let e = c.args.e in
     dashed (deeds_text e ++ ends_text e) (both c.put_deeds-i.ensures c.put_ends-j.ensures (omega arith)) c.if-j-at.true c.put.ensures (omega arith)
 
-pub returns : goal.returns
+pub returns-else-j-at : goal.returns-else-j-at
 unfolding events_text
-returns c =
+returns-else-j-at c =
     let e = c.args.e in
     undashed (deeds_text e ++ ends_text e) (both c.put_deeds-i.ensures c.put_ends-j.ensures (omega arith)) c.if-j-at.false
