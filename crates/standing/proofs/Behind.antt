@@ -1,37 +1,35 @@
--- Who lost and lives, noted snake by snake, and a placing by it. Assumes nothing.
-use Prim.Native.Nat.{ℕ, ◌+◌, ◌≤◌, ◌<◌}
-use mathlib.Core.Path.{◌≡◌, ap, ◌∙◌}
-use mathlib.Core.Bool.{Bool, true, false}
-use mathlib.Core.List.{List}
-use native.Mathlib.Omega.{arith}
-use lib.ListN.{get_or, set, replicate}
-use Rattle.lists.specs.Below.{filled}
-use Rattle.lists.proofs.Below.{filled_none, filled_more}
+-- Who died when, snake by snake, and a placing by it. Assumes nothing.
+use Rattle.std.proofs.Common.{ℕ, ◌+◌, ◌≤◌, ◌<◌, ◌≡◌, ◌≢◌, ◌∙◌, Bool, true, false, List, arith, length, get_or, get_or-set_other, get_or-set_same, below_more}
+use Rattle.std.proofs.Math.ListN.{set, length-set}
+use Rattle.std.proofs.lemmas.Bool.Decides.{nat_tests}
 use Rattle.rules.specs.Events.{blank}
 use Rattle.rules.specs.declared.Event.{Event}
-use Rattle.standing.specs.Placings.{placing_of, end_placing, placings_of}
-use Rattle.standing.specs.Standing.{snakes_of, lost_alive, behind_at, behind_after, places_of}
+use Rattle.standing.specs.Placings.{placing_of, end_placing}
+use Rattle.standing.specs.Standing.{snakes_of, death_at}
 use Rattle.standing.specs.declared.Match.{Match}
 
--- ---- the first i snakes noted
+-- ---- the first i snakes looked at: those that die have this move, the others what they had
 
-pub record Noted (es : List Event) (i : ℕ) (out : List Bool) : Type 0 where
-  pub within : i ≤ 8
-  pub table : out ≡ filled (behind_at es) i 8 false
+pub record Dated (k : ℕ) (deaths : List ℕ) (es : List Event) (i : ℕ) (after : List ℕ) : Type 0 where
+  pub long : length after ≡ length deaths
+  pub below : (j : ℕ) → j < i → get_or after j 0 ≡ death_at k deaths es j
+  pub rest : (j : ℕ) → i ≤ j → get_or after j 0 ≡ get_or deaths j 0
 
-module _ (es : List Event) where
-  pub noted_none : (out : List Bool) → out ≡ replicate 8 false → Noted es 0 out
-  noted_none out p = record { within = omega arith; table = p ∙ filled_none (behind_at es) 8 false }
+module _ (k : ℕ) (deaths : List ℕ) (es : List Event) (i : ℕ) (after : List ℕ) (d : Dated k deaths es i after) where
+  pub dated_died : i < length deaths → (get_or es i blank).died ≡ true → Dated k deaths es (i + 1) (set after i k)
+  dated_died h e = record {
+    long = length-set after i k ∙ d.long;
+    below = below_more _ _ (λ j l. let ne : j ≢ i = omega arith in rw get_or-set_other (d.below j l))
+        (let lt : i < length after = omega (arith, d.long) in rw (get_or-set_same, e));
+    rest = λ j l. let ne : j ≢ i = omega arith in rw get_or-set_other (d.rest j (omega arith));
+  }
 
-  module _ (i : ℕ) (out : List Bool) (m : Noted es i out) where
-    pub noted_next : i < 8 → (b : Bool) → b ≡ lost_alive (get_or es i blank) → Noted es (i + 1) (set out i b)
-    noted_next h b p = record {
-      within = omega arith;
-      table = ap (λ (x : List Bool). set x i b) m.table ∙ rw p (filled_more (behind_at es) i 8 false h);
-    }
-
-    pub noted_all : 8 ≤ i → out ≡ behind_after es
-    noted_all h = let e : i ≡ 8 = omega (arith, m.within) in rw e at m.table
+  pub dated_lives : (get_or es i blank).died ≡ false → Dated k deaths es (i + 1) after
+  dated_lives e = record {
+    long = d.long;
+    below = below_more _ _ d.below (rw (e, d.rest i (omega arith)));
+    rest = λ j l. d.rest j (omega arith);
+  }
 
 -- ---- a placing
 
@@ -44,6 +42,5 @@ module _ (n : ℕ) (deaths : List ℕ) (behind : List Bool) (i : ℕ) where
   unfolding end_placing
   placed_else e r p = rw (e, p)
 
--- the placings of a match
-pub placed_all : (m : Match) (n : ℕ) → n ≡ snakes_of m → (r : List ℕ) → r ≡ placings_of n m.deaths m.behind → r ≡ places_of m
-placed_all m n p r q = rw (q, p)
+pub at_most_eight : (m : Match) → snakes_of m ≤ 8
+at_most_eight m = grind (arith, nat_tests)

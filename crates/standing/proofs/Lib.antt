@@ -1,3 +1,4 @@
 pub mod Behind
 pub mod Showing
+pub mod Tables
 pub mod Taking

@@ -5,7 +5,8 @@ use mathlib.Core.Bool.{Bool, true, false}
 use mathlib.Core.List.{List, [], ◌∷◌}
 use native.Mathlib.Omega.{arith}
 use lib.Dec.{eqb}
-use lib.ListN.{get_or, set, length, replicate}
+use lib.ListN.{get_or, set, length, take, replicate}
+use Rattle.std.proofs.lemmas.List.{length-take, get_or-take}
 use Rattle.lists.specs.Below.{filled}
 use Rattle.lists.proofs.Below.{filled_none, filled_more}
 use Rattle.rules.specs.Events.{blank}
@@ -45,10 +46,11 @@ module _ (w : List ℕ) (es : List Event) (n : ℕ) where
   marked_none out p = record { within = omega arith; table = p ∙ filled_none (mark_shown w es) 8 blank }
 
   module _ (i : ℕ) (out : List Event) (m : Marked w es n i out) where
-    pub marked_next : i < n → n ≤ 8 → (l alive : ℕ) (e : Event) → l ≡ 8 + 4 * i → alive ≡ get_or w l 0 → e ≡ truncated (get_or es i blank) (eqb alive 1)
+    pub marked_next : i < length (take n es) → n ≤ 8 → (l alive : ℕ) (e : Event) → l ≡ 8 + 4 * i → alive ≡ get_or w l 0 → e ≡ truncated (get_or (take n es) i blank) (eqb alive 1)
         → Marked w es n (i + 1) (set out i e)
     marked_next h k l alive e pl pa pe =
-        let q : e ≡ mark_shown w es i = rw (pe, pa, pl) in
+        let lt : i < n = omega (arith, length-take n es) in
+        let q : e ≡ mark_shown w es i = pe ∙ rw (get_or-take, pa, pl) in
         record {
           within = omega arith;
           table = ap (λ (x : List Event). set x i e) m.table ∙ rw q (filled_more (mark_shown w es) i 8 blank (omega arith));
