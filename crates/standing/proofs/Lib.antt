@@ -1,4 +1,3 @@
 pub mod Behind
 pub mod Showing
 pub mod Tables
-pub mod Taking

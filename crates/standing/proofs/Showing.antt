@@ -1,7 +1,6 @@
--- What the words of an image show: a body's first word, a snake's part of a line, the events marked; the last line. Assumes nothing.
+-- What the words of an image show: a snake's part of a line, the events marked; the last line. Assumes nothing.
 use Prim.Native.Nat.{ℕ, ◌+◌, ◌*◌, ◌≤◌, ◌<◌}
 use mathlib.Core.Path.{◌≡◌, ap, ◌∙◌}
-use mathlib.Core.Bool.{Bool, true, false}
 use mathlib.Core.List.{List, [], ◌∷◌}
 use native.Mathlib.Omega.{arith}
 use lib.Dec.{eqb}
@@ -15,14 +14,11 @@ use Rattle.rules.specs.Turns.{truncated}
 use Rattle.rules.specs.declared.Event.{Event}
 use Rattle.printing.specs.Text.{Wrote, body_text, events_text, placings_text}
 use Rattle.printing.proofs.Writing.{both}
-use Rattle.standing.specs.Shown.{snake_shown, mark_shown, events_shown}
-use Rattle.standing.specs.Standing.{few, snakes_of, ends_by, places_of, end_text}
+use Rattle.standing.specs.Shown.{snake_shown, mark_shown}
+use Rattle.standing.specs.Standing.{snakes_of, places_of, end_text}
 use Rattle.standing.specs.declared.Match.{Match}
 
 -- ---- a snake's part of the line
-
-pub first_shown : (w : List ℕ) (i k p r : ℕ) → k ≡ 5 + 4 * i → p ≡ get_or w k 0 → r ≡ get_or w p 0 → r ≡ word w (start_at w i)
-first_shown w i k p r a b c = rw (c, b, a)
 
 -- the body, a colon and the events, one after the other
 pub snake_shown_lem : (w : List ℕ) (i : ℕ) (e : Event) (size k alive l cell : ℕ)
@@ -55,18 +51,6 @@ module _ (w : List ℕ) (es : List Event) (n : ℕ) where
           within = omega arith;
           table = ap (λ (x : List Event). set x i e) m.table ∙ rw q (filled_more (mark_shown w es) i 8 blank (omega arith));
         }
-
-    pub marked_all : n ≤ i → out ≡ filled (mark_shown w es) n 8 blank
-    marked_all h = let e : i ≡ n = omega (arith, m.within) in rw e at m.table
-
--- ---- a move's events: marked where max_ticks ends the match
-
-module _ (m : Match) (over b : Bool) (w : List ℕ) (es : List Event) (p : b ≡ ends_by m over) where
-  pub events_marked : b ≡ true → (n k : ℕ) → k ≡ get_or w 0 0 → n ≡ few k → (r : List Event) → r ≡ filled (mark_shown w es) n 8 blank → r ≡ events_shown m over w es
-  events_marked q n k pk pn r pr = rw (← p, q, pr, pn, pk)
-
-  pub events_kept : b ≡ false → es ≡ events_shown m over w es
-  events_kept q = rw (← p, q)
 
 -- ---- the last line
 

@@ -1,5 +1,5 @@
 -- What `filled` and `count_below` say, of lists: a table whose every place says what f gives, what `map` makes, what `count` counts. Assumes nothing.
-use Rattle.std.proofs.Common.{◌≡◌, ◌<◌, ◌≤◌, ℕ, zero, suc, ◌+◌, ◌-◌, ◌++◌, Bool, cond, List, ap, sym, ◌∙◌, arith, add-one, length, get_or, take, replicate, count_by}
+use Rattle.std.proofs.Common.{◌≡◌, ◌<◌, ◌≤◌, ℕ, zero, suc, ◌+◌, ◌-◌, Bool, cond, List, ap, sym, ◌∙◌, arith, add-one, length, get_or, take, count_by}
 use Rattle.std.proofs.lemmas.List.Sums.{sum_by_more}
 use mathlib.Core.List.{append-nil}
 use denote.Param.Members.{Mut, Called}

@@ -1,5 +1,5 @@
 -- `standing::mark_all` meets its contract. The invariant: the first i events are marked (`Marked` in `Showing`). Assumes nothing.
-use Rattle.std.proofs.Common.{rules, arith}
+use Rattle.std.proofs.Common.{rules}
 use Rattle.standing.proofs.Showing.{marked_none, marked_next}
 use Rattle.standing.proofs.moves.mark_all.Goals as goal
 

@@ -1,5 +1,5 @@
 -- `standing::places` meets its contract. The invariant: the first i snakes have their places. Assumes nothing.
-use Rattle.std.proofs.Common.{ℕ, List, ◌≡◌, ap, ◌∙◌, rules, arith}
+use Rattle.std.proofs.Common.{ℕ, List, ◌≡◌, ap, ◌∙◌, rules}
 use Rattle.std.proofs.Math.ListN.{set}
 use Rattle.lists.specs.Below.{filled}
 use Rattle.lists.proofs.Below.{filled_none, filled_more}
