@@ -1,3 +1,3 @@
 pub mod Behind
 pub mod Showing
-pub mod Taking
+pub mod Tables

@@ -1,11 +1,11 @@
--- What the words of an image show: a body's first word, a snake's part of a line, the events marked; the last line. Assumes nothing.
+-- What the words of an image show: a snake's part of a line, the events marked; the last line. Assumes nothing.
 use Prim.Native.Nat.{ℕ, ◌+◌, ◌*◌, ◌≤◌, ◌<◌}
 use mathlib.Core.Path.{◌≡◌, ap, ◌∙◌}
-use mathlib.Core.Bool.{Bool, true, false}
 use mathlib.Core.List.{List, [], ◌∷◌}
 use native.Mathlib.Omega.{arith}
 use lib.Dec.{eqb}
-use lib.ListN.{get_or, set, length, replicate}
+use lib.ListN.{get_or, set, length, take, replicate}
+use Rattle.std.proofs.lemmas.List.{length-take, get_or-take}
 use Rattle.lists.specs.Below.{filled}
 use Rattle.lists.proofs.Below.{filled_none, filled_more}
 use Rattle.rules.specs.Events.{blank}
@@ -14,14 +14,11 @@ use Rattle.rules.specs.Turns.{truncated}
 use Rattle.rules.specs.declared.Event.{Event}
 use Rattle.printing.specs.Text.{Wrote, body_text, events_text, placings_text}
 use Rattle.printing.proofs.Writing.{both}
-use Rattle.standing.specs.Shown.{snake_shown, mark_shown, events_shown}
-use Rattle.standing.specs.Standing.{few, snakes_of, ends_by, places_of, end_text}
+use Rattle.standing.specs.Shown.{snake_shown, mark_shown}
+use Rattle.standing.specs.Standing.{snakes_of, places_of, end_text}
 use Rattle.standing.specs.declared.Match.{Match}
 
 -- ---- a snake's part of the line
-
-pub first_shown : (w : List ℕ) (i k p r : ℕ) → k ≡ 5 + 4 * i → p ≡ get_or w k 0 → r ≡ get_or w p 0 → r ≡ word w (start_at w i)
-first_shown w i k p r a b c = rw (c, b, a)
 
 -- the body, a colon and the events, one after the other
 pub snake_shown_lem : (w : List ℕ) (i : ℕ) (e : Event) (size k alive l cell : ℕ)
@@ -45,26 +42,15 @@ module _ (w : List ℕ) (es : List Event) (n : ℕ) where
   marked_none out p = record { within = omega arith; table = p ∙ filled_none (mark_shown w es) 8 blank }
 
   module _ (i : ℕ) (out : List Event) (m : Marked w es n i out) where
-    pub marked_next : i < n → n ≤ 8 → (l alive : ℕ) (e : Event) → l ≡ 8 + 4 * i → alive ≡ get_or w l 0 → e ≡ truncated (get_or es i blank) (eqb alive 1)
+    pub marked_next : i < length (take n es) → n ≤ 8 → (l alive : ℕ) (e : Event) → l ≡ 8 + 4 * i → alive ≡ get_or w l 0 → e ≡ truncated (get_or (take n es) i blank) (eqb alive 1)
         → Marked w es n (i + 1) (set out i e)
     marked_next h k l alive e pl pa pe =
-        let q : e ≡ mark_shown w es i = rw (pe, pa, pl) in
+        let lt : i < n = omega (arith, length-take n es) in
+        let q : e ≡ mark_shown w es i = pe ∙ rw (get_or-take, pa, pl) in
         record {
           within = omega arith;
           table = ap (λ (x : List Event). set x i e) m.table ∙ rw q (filled_more (mark_shown w es) i 8 blank (omega arith));
         }
-
-    pub marked_all : n ≤ i → out ≡ filled (mark_shown w es) n 8 blank
-    marked_all h = let e : i ≡ n = omega (arith, m.within) in rw e at m.table
-
--- ---- a move's events: marked where max_ticks ends the match
-
-module _ (m : Match) (over b : Bool) (w : List ℕ) (es : List Event) (p : b ≡ ends_by m over) where
-  pub events_marked : b ≡ true → (n k : ℕ) → k ≡ get_or w 0 0 → n ≡ few k → (r : List Event) → r ≡ filled (mark_shown w es) n 8 blank → r ≡ events_shown m over w es
-  events_marked q n k pk pn r pr = rw (← p, q, pr, pn, pk)
-
-  pub events_kept : b ≡ false → es ≡ events_shown m over w es
-  events_kept q = rw (← p, q)
 
 -- ---- the last line
 

@@ -15,7 +15,7 @@ pub fn new_match(setting: Setting) -> Match
     Match {
         setting,
         moves: 0,
-        deaths: [0u64; 8],
+        deaths: [0; 8],
         behind: [false; 8],
         over: false,
         timeout: false,
@@ -33,11 +33,9 @@ pub fn take_move(m: Match, over: bool, image: &[u16], events: [Event; 8]) -> Tak
             events,
         };
     }
-    let shown = events_shown(m, over, image, events);
-    let game = after_move(m, over, events);
     Taken {
         verdict: Verdict::Accepted,
-        game,
-        events: shown,
+        game: after_move(m, over, events),
+        events: events_shown(m, over, image, events),
     }
 }

@@ -15,28 +15,21 @@ use rules::{Event, Limit};
 fn at_most_eight(n: u64) -> usize
     ensures { (result ≡ few n) × (result ≤ 8) }
 {
-    if 8 < n {
-        return 8;
-    }
-    n as usize
+    n.min(8) as usize
 }
 
 // At most eight, as every accepted setting has.
 pub fn snakes_of(m: Match) -> usize
     ensures { (result ≡ snakes_of m) × (result ≤ 8) }
 {
-    let s = m.setting;
-    at_most_eight(s.num_snakes)
+    at_most_eight(m.setting.num_snakes)
 }
 
 // One move more; 2^64 - 1 of them are never made.
 fn count_on(k: u64) -> u64
     ensures { result ≡ counted k }
 {
-    if k < 18446744073709551615 {
-        return k + 1;
-    }
-    k
+    k.saturating_add(1)
 }
 
 fn has_reached(limit: Limit, k: u64) -> bool
@@ -52,9 +45,7 @@ fn has_reached(limit: Limit, k: u64) -> bool
 fn ends_by(m: Match, over: bool) -> bool
     ensures { result ≡ ends_by m over }
 {
-    let s = m.setting;
-    let ticks = s.max_ticks;
-    !over & has_reached(ticks, count_on(m.moves))
+    !over && has_reached(m.setting.max_ticks, count_on(m.moves))
 }
 
 // The events of n snakes, the living marked y.
@@ -63,11 +54,8 @@ fn mark_all(image: &[u16], events: [Event; 8], n: usize) -> [Event; 8]
     ensures { result ≡ filled (mark_shown image.now events) n 8 blank }
 {
     let mut out = no_events();
-    let mut i = 0;
-    while i < n {
-        let e = events[i];
-        out[i] = mark(e, word_at(image, alive_at(i)) == 1);
-        i += 1;
+    for (i, event) in events[..n].iter().enumerate() {
+        out[i] = mark(*event, word_at(image, alive_at(i)) == 1);
     }
     out
 }
@@ -83,62 +71,44 @@ pub fn events_shown(m: Match, over: bool, image: &[u16], events: [Event; 8]) -> 
     events
 }
 
-fn death_of(k: u64, old: u64, e: Event) -> u64
-    ensures { result ≡ (k if e.died else old) }
-{
-    if e.died { k } else { old }
-}
-
 // For each snake the move on which it died: move k for those that die on it.
 fn deaths_after(k: u64, deaths: [u64; 8], events: [Event; 8]) -> [u64; 8]
     ensures { result ≡ deaths_after k deaths events }
 {
-    let mut out = [0u64; 8];
-    let mut i = 0;
-    while i < 8 {
-        let e = events[i];
-        out[i] = death_of(k, deaths[i], e);
-        i += 1;
+    let mut after = deaths;
+    for (i, event) in events.iter().enumerate() {
+        if event.died {
+            after[i] = k;
+        }
     }
-    out
+    after
 }
 
 fn lost_alive(e: Event) -> bool
     ensures { result ≡ lost_alive e }
 {
-    e.lost & !e.died
+    e.lost && !e.died
 }
 
 // For each snake whether it lost on this move and lives.
 fn behind_after(events: [Event; 8]) -> [bool; 8]
     ensures { result ≡ behind_after events }
 {
-    let mut out = [false; 8];
-    let mut i = 0;
-    while i < 8 {
-        let e = events[i];
-        out[i] = lost_alive(e);
-        i += 1;
-    }
-    out
+    events.map(lost_alive)
 }
 
 // The match after a move.
 pub fn after_move(m: Match, over: bool, events: [Event; 8]) -> Match
     ensures { result ≡ moved m over events }
 {
-    let k = count_on(m.moves);
-    let old = m.deaths;
-    let deaths = deaths_after(k, old, events);
-    let behind = behind_after(events);
-    let setting = m.setting;
+    let moves = count_on(m.moves);
     let timeout = ends_by(m, over);
     Match {
-        setting,
-        moves: k,
-        deaths,
-        behind,
-        over: over | timeout,
+        setting: m.setting,
+        moves,
+        deaths: deaths_after(moves, m.deaths, events),
+        behind: behind_after(events),
+        over: over || timeout,
         timeout,
     }
 }

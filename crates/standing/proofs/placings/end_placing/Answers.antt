@@ -2,8 +2,8 @@
 use Rattle.standing.proofs.Behind.{placed_behind, placed_else}
 use Rattle.standing.proofs.placings.end_placing.Goals as goal
 
-pub returns-then-behind-i : goal.returns-then-behind-i
-returns-then-behind-i c = search placed_behind
+pub returns-then-m-i : goal.returns-then-m-i
+returns-then-m-i c = search placed_behind
 
 pub returns : goal.returns
 returns c = search placed_else

@@ -1,19 +1,13 @@
-use mathlib.Core.Path.{sym, ◌∙◌}
-use Rattle.standing.specs.Placings.{outlasts}
-use Rattle.lists.proofs.Below.{count_none, count_next, count_le}
-use native.Mathlib.Omega.{arith}
-use borrow.Author.Rules.{rules}
+-- `standing::outlast_count` meets its contract: what the chain counts among the first snakes, by their places (`Tables`). Assumes nothing.
+use Rattle.std.proofs.Common.{rules, ◌≡◌, ◌∙◌, get_or, take, count_by}
+use Rattle.standing.specs.Placings.{outlives}
+use Rattle.standing.specs.Standing.{snakes_of}
+use Rattle.standing.proofs.Tables.{counted_front}
 use Rattle.standing.proofs.placings.outlast_count.Goals as goal
 
-pub loop-j-init : goal.loop-j-init
-loop-j-init c = (search rules, sym (count_none _))
-
-pub more_if-k-requires : goal.more_if-k-requires
-more_if-k-requires c = omega (arith, count_le (outlasts c.args.deaths c.args.i) c.loop-j.j)
-
-pub loop-j-preserved : goal.loop-j-preserved
-loop-j-preserved c =
-    let l = c.loop-j in
-    let a = c.args in
-    let f = outlasts a.deaths a.i in
-    (search rules, c.more_if-k.ensures ∙ rw (c.does_outlive.ensures, l.invariant.1) (sym (count_next f l.j)))
+pub returns : goal.returns
+returns c =
+    let m = c.args.m.now in
+    let p = outlives (get_or m.deaths c.args.i 0) in
+    let counted : c.count.result ≡ count_by p (take (snakes_of m) m.deaths) = search rules in
+    counted ∙ counted_front p m.deaths 0 (snakes_of m) (search rules)

