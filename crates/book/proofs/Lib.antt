@@ -2,7 +2,6 @@ pub mod Paging
 pub mod RowLaws
 pub mod Laying
 pub mod Booked
-pub mod Turns
 pub mod Bound
 pub mod Binding
 pub mod OneForm

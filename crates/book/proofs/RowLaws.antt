@@ -19,7 +19,7 @@ use Rattle.rules.specs.Tables.{Table, none_hold, by, by_word}
 use Rattle.rules.specs.Says.{Says, refuses, gives, says_verdict, by_table}
 use Rattle.lists.proofs.Below.{sum_none, sum_next}
 use Rattle.lists.proofs.Concat.{block_split}
-use Rattle.lists.proofs.Lists.{part_is, rest_is, all_append}
+use Rattle.lists.proofs.Lists.{rest_is, all_append}
 use Rattle.rules.proofs.Tables.{row_out, table_gives, table_both, table_after, table_given}
 use Rattle.rules.proofs.Faults.{rows_formed, rows_after}
 use Rattle.lists.proofs.Tests.{ordered, less, more, both, and_left, and_right}
@@ -97,16 +97,9 @@ module _ (w : List ℕ) where
 
 -- ---- one page
 
-module _ (s : Setting) (row : List ℕ) (at len : ℕ) (q : Told (take (length row - at) (drop at row)) len) where
-  told_rest : Told (drop at row) len
-  told_rest = rw (rest_is row at) at q
-
-  -- its words stand in the row
-  pub next_in_lem : at ≤ length row → at + len ≤ length row
-  next_in_lem h = omega (arith, told_rest.inside, length-drop at row)
-
-  pub next_is : (v : Verdict) → PageChecks s (take (at + len - at) (drop at row)) v → Next s (drop at row) (record { verdict = v; len = len })
-  next_is v f = record { says = rw (part_is row at len, told_rest.length_told) at f.says; told = told_rest }
+pub next_is : (s : Setting) (rest : List ℕ) (len : ℕ) → Told rest len → (v : Verdict) → PageChecks s (take len rest) v
+    → Next s rest (record { verdict = v; len = len })
+next_is s rest len q v f = record { says = rw q.length_told at f.says; told = q }
 
 -- ---- page by page
 
@@ -144,7 +137,10 @@ module _ (s : Setting) (row : List ℕ) where
     passed_none = record { here = omega arith; start = refl; inside = omega arith; last_is = refl; none = λ j h. absurd (omega (arith, h)) }
 
     module _ (i at last : ℕ) (q : Passed s row p i at last) where
-      module _ (r : NextPage) (x : Next s (drop at row) r) where
+      module _ (r : NextPage) (y : Next s (take (length row - at) (drop at row)) r) where
+        x : Next s (drop at row) r
+        x = rw (rest_is row at) at y
+
         page_says_lem : says_verdict r.verdict ≡ by_table (rows i) (gives (tt {0}))
         unfolding row_page
         page_says_lem = rw q.start at x.says

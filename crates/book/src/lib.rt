@@ -3,7 +3,6 @@
 
 mod pages;
 mod rows;
-mod turning;
 mod writer;
 
 ghost use Rattle.std.specs.Prelude.{◌≡◌};
@@ -12,7 +11,6 @@ ghost use Rattle.book.specs.Turning.{page_after, page_before};
 
 pub use contents::{PageFound, find, setting_in};
 pub use pages::{check_page, page_in, page_of};
-use turning::{page_after, page_before};
 pub use writer::write;
 
 // ---- the reader: it holds the lent book and the page it is at. Opening and turning need no check, since what is read says all.
@@ -46,7 +44,7 @@ pub fn next<'a>(reader: Reader<'a>) -> Reader<'a>
 {
     Reader {
         book: reader.book,
-        page: page_after(reader.page),
+        page: reader.page.saturating_add(1),
     }
 }
 
@@ -56,7 +54,7 @@ pub fn previous<'a>(reader: Reader<'a>) -> Reader<'a>
 {
     Reader {
         book: reader.book,
-        page: page_before(reader.page),
+        page: reader.page.saturating_sub(1),
     }
 }
 

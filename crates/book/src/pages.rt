@@ -34,20 +34,18 @@ pub fn page_in(book: &[u16], page: u64) -> PageFound
     let PageFound::Part { start, len } = found else {
         return found;
     };
-    let verdict = check_page(contents::setting_in(book), cut(book, start, len));
-    let Verdict::Refused(why) = verdict else {
-        return PageFound::Part { start, len };
-    };
-    PageFound::Refused(why)
+    match check_page(contents::setting_in(book), cut(book, start, len)) {
+        Verdict::Refused(why) => PageFound::Refused(why),
+        Verdict::Accepted => found,
+    }
 }
 
 // That page, as the caller's own words and no copy; the empty part at the book's front where it is refused.
 pub fn page_of(book: &[u16], page: u64) -> &[u16]
     ensures { Hands book.entry page result }
 {
-    let found = page_in(book, page);
-    let PageFound::Part { start, len } = found else {
-        return cut(book, 0, 0);
-    };
-    cut(book, start, len)
+    match page_in(book, page) {
+        PageFound::Part { start, len } => cut(book, start, len),
+        PageFound::Refused(_) => cut(book, 0, 0),
+    }
 }

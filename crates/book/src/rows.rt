@@ -1,11 +1,10 @@
 // The writer's row: images one after the other, each checked where the one before it ends.
-ghost use Rattle.std.specs.Prelude.{◌+◌, ◌*◌, ◌<◌, ◌≤◌, length, drop};
+ghost use Rattle.std.specs.Prelude.{◌+◌, ◌*◌, ◌<◌, ◌≤◌, length};
 ghost use Rattle.rules.specs.Image.{front};
 ghost use Rattle.book.specs.Writing.{Summed, Told, Next, RowChecks};
 
 use crate::pages::check_page;
 use contents::word;
-use lists::smaller;
 use rules::{Setting, Verdict};
 
 // Whether a page is accepted, and how many words it has.
@@ -20,10 +19,8 @@ fn lengths(words: &[u16], n: usize) -> usize
     ensures { Summed words.now n n result }
 {
     let mut sum = 0;
-    let mut i = 0;
-    while i < n {
+    for i in 0..n {
         sum += word(words, 6 + 4 * i);
-        i += 1;
     }
     sum
 }
@@ -39,15 +36,15 @@ pub(crate) fn told(words: &[u16]) -> usize
     if words.len() < 5 + 4 * n {
         return words.len();
     }
-    smaller(5 + 4 * n + lengths(words, n) + word(words, 4), words.len())
+    (5 + 4 * n + lengths(words, n) + word(words, 4)).min(words.len())
 }
 
-fn next_page(setting: Setting, row: &[u16], at: usize) -> NextPage
-    requires { at ≤ length row.now }
-    ensures { Next setting (drop at row.now) result }
+// The page at the front of what is left of a row.
+fn next_page(setting: Setting, rest: &[u16]) -> NextPage
+    ensures { Next setting rest.now result }
 {
-    let len = told(&row[at..]);
-    let verdict = check_page(setting, &row[at..at + len]);
+    let len = told(rest);
+    let verdict = check_page(setting, &rest[..len]);
     NextPage { verdict, len }
 }
 
@@ -57,16 +54,13 @@ pub(crate) fn check_row(setting: Setting, p: usize, row: &[u16]) -> Verdict
 {
     let mut at = 0;
     let mut last = 0;
-    let mut i = 0;
-    while i < p {
-        let next = next_page(setting, row, at);
-        let verdict = next.verdict;
-        let Verdict::Accepted = verdict else {
-            return verdict;
-        };
+    for _page in 0..p {
+        let next = next_page(setting, &row[at..]);
+        if let Verdict::Refused(_) = next.verdict {
+            return next.verdict;
+        }
         last = next.len;
         at += last;
-        i += 1;
     }
     if at < row.len() {
         return Verdict::Refused(refusals::by_word(53, last));

@@ -14,9 +14,9 @@ fn asked(setting: Setting, pages: u64, row: &[u16]) -> Verdict
     ensures { Asked setting pages row.now result }
 {
     let verdict = setting::validate(setting);
-    let Verdict::Accepted = verdict else {
+    if let Verdict::Refused(_) = verdict {
         return verdict;
-    };
+    }
     if 65535 < pages {
         return Verdict::Refused(refusals::by(42));
     }
@@ -33,11 +33,9 @@ fn write_starts(row: &[u16], p: usize, out: &mut [u16])
     ensures { StartsTo p row.now out.old p (length row.now) out.new }
 {
     let mut at = 0;
-    let mut i = 0;
-    while i < p {
+    for i in 0..p {
         write_pair(out, 17 + 2 * i, 17 + 2 * p + at);
         at += told(&row[at..]);
-        i += 1;
     }
 }
 
@@ -71,9 +69,8 @@ fn write_book(setting: Setting, p: usize, row: &[u16], out: &mut [u16]) -> Answe
 pub fn write(setting: Setting, pages: u64, row: &[u16], out: &mut [u16]) -> Answer
     ensures { Writes setting pages row.now out.old out.new result }
 {
-    let verdict = asked(setting, pages, row);
-    let Verdict::Refused(why) = verdict else {
-        return write_book(setting, pages as usize, row, out);
-    };
-    Answer::Refused(why)
+    match asked(setting, pages, row) {
+        Verdict::Refused(why) => Answer::Refused(why),
+        Verdict::Accepted => write_book(setting, pages as usize, row, out),
+    }
 }

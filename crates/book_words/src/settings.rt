@@ -10,10 +10,7 @@ use rules::{Limit, Setting};
 fn limit_of(set: bool, number: u64) -> Limit
     ensures { result ≡ limit_of set number }
 {
-    if set {
-        return Limit::Is(number);
-    }
-    Limit::Unset
+    if set { Limit::Is(number) } else { Limit::Unset }
 }
 
 fn limit_at(contents: &[u16], k: usize) -> Limit
@@ -28,16 +25,14 @@ pub fn setting_in(contents: &[u16]) -> Setting
     requires { 17 ≤ length contents.now }
     ensures { result ≡ setting_in contents.now }
 {
-    let lead = limit_at(contents, 5);
-    let ticks = limit_at(contents, 11);
     Setting {
         num_snakes: word(contents, 1) as u64,
         grid_size: grid::signed(contents[2]),
         initial_length: word(contents, 3) as u64,
         play_to_last: word(contents, 4) == 1,
-        win_food_lead: lead,
+        win_food_lead: limit_at(contents, 5),
         initial_food_count: word(contents, 10) as u64,
-        max_ticks: ticks,
+        max_ticks: limit_at(contents, 11),
     }
 }
 
@@ -46,10 +41,7 @@ pub fn setting_in(contents: &[u16]) -> Setting
 fn is_set(limit: Limit) -> bool
     ensures { result ≡ is_set limit }
 {
-    match limit {
-        Limit::Unset => false,
-        Limit::Is(_) => true,
-    }
+    matches!(limit, Limit::Is(_))
 }
 
 fn amount(limit: Limit) -> u64
@@ -84,10 +76,8 @@ pub fn write_front(setting: Setting, p: usize, out: &mut [u16])
     requires p_bound { (p < 65536) × (17 ≤ length out.old) }
     ensures { Fronted setting p out.old out.new }
 {
-    let lead = setting.win_food_lead;
-    let ticks = setting.max_ticks;
-    let lead = limit_words(lead);
-    let ticks = limit_words(ticks);
+    let lead = limit_words(setting.win_food_lead);
+    let ticks = limit_words(setting.max_ticks);
     let words = [
         1,
         setting.num_snakes as u16,

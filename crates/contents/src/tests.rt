@@ -17,11 +17,7 @@ fn setting_fits(contents: &[u16]) -> bool
     requires { 17 ≤ length contents.now }
     ensures { SettingFits contents.now result }
 {
-    let verdict = setting::validate(setting_in(contents));
-    let Verdict::Accepted = verdict else {
-        return false;
-    };
-    true
+    matches!(setting::validate(setting_in(contents)), Verdict::Accepted)
 }
 
 // Words 0 to 15.
@@ -50,10 +46,8 @@ fn starts_rise(contents: &[u16], n: usize) -> bool
     ensures { Rising contents.now n n result }
 {
     let mut all = true;
-    let mut i = 0;
-    while i < n {
-        all = all & (pair(contents, 17 + 2 * i) < pair(contents, 17 + 2 * (1 + i)));
-        i += 1;
+    for i in 0..n {
+        all &= pair(contents, 17 + 2 * i) < pair(contents, 17 + 2 * (1 + i));
     }
     all
 }

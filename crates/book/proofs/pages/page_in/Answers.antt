@@ -12,8 +12,8 @@ setting_in-requires c = search part_long
 pub cut-requires : goal.cut-requires
 cut-requires c = search part_inside
 
-pub returns-in_default-verdict : goal.returns-in_default-verdict
-returns-in_default-verdict c = search page_part
+pub returns-in-Accepted : goal.returns-in-Accepted
+returns-in-Accepted c = search page_part
 
-pub returns : goal.returns
-returns c = search page_refused
+pub returns-in-Refused : goal.returns-in-Refused
+returns-in-Refused c = search page_refused

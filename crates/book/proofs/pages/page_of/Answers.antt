@@ -3,11 +3,11 @@
 use Rattle.book.proofs.Paging.{read_inside, hands_none, hands_part}
 use Rattle.book.proofs.pages.page_of.Goals as goal
 
-pub returns-in_default : goal.returns-in_default
-returns-in_default c = search hands_none
+pub returns-in-Refused : goal.returns-in-Refused
+returns-in-Refused c = search hands_none
 
-pub cut-requires-2 : goal.cut-requires-2
-cut-requires-2 c = search read_inside
+pub cut-requires : goal.cut-requires
+cut-requires c = search read_inside
 
-pub returns : goal.returns
-returns c = search hands_part
+pub returns-in-Part : goal.returns-in-Part
+returns-in-Part c = search hands_part

@@ -1,5 +1,4 @@
--- `book::rows::lengths` meets its contract. The invariant: the first i lengths are added up (`Summed`). The measure is how many are left.
--- Assumes nothing.
+-- `book::rows::lengths` meets its contract: the laws of the invariant, at the start, after a turn and at the end. Assumes nothing.
 use Rattle.book.proofs.RowLaws.{sum_start, sum_more, sum_all}
 use Rattle.book.proofs.rows.lengths.Goals as goal
 

@@ -2,8 +2,8 @@
 use Rattle.book.proofs.Booked.{asked_setting, asked_42, asked_row}
 use Rattle.book.proofs.writer.asked.Goals as goal
 
-pub returns-in_default : goal.returns-in_default
-returns-in_default c = search asked_setting
+pub returns-in-Refused : goal.returns-in-Refused
+returns-in-Refused c = search asked_setting
 
 pub returns-then-pages-gt65535 : goal.returns-then-pages-gt65535
 returns-then-pages-gt65535 c = search asked_42

@@ -1,6 +1,4 @@
--- `book::writer::write_starts` meets its contract. The invariant: the first i starts are written, and the next image stands at `at` (`StartsTo`).
--- The measure is how many starts are left.
--- Assumes nothing.
+-- `book::writer::write_starts` meets its contract: the laws of the invariant, at the start, after a turn and at the end. Assumes nothing.
 use Rattle.book.proofs.Laying.{starts_open, starts_more, starts_shut}
 use Rattle.book.proofs.writer.write_starts.Goals as goal
 

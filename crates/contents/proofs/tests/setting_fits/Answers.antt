@@ -5,5 +5,5 @@ use Rattle.contents.proofs.tests.setting_fits.Goals as goal
 pub returns-in_default : goal.returns-in_default
 returns-in_default c = search setting_refused
 
-pub returns : goal.returns
-returns c = search setting_taken
+pub returns-in-Accepted : goal.returns-in-Accepted
+returns-in-Accepted c = search setting_taken

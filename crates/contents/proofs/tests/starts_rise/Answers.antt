@@ -1,5 +1,4 @@
--- `contents::tests::starts_rise` meets its contract. The invariant: the flag tells of the first i starts (`Rising`). The measure is how many are left.
--- Assumes nothing.
+-- `contents::tests::starts_rise` meets its contract: the laws of the invariant, at the start, after a turn and at the end. Assumes nothing.
 use Rattle.contents.proofs.Fitting.{rise_none, rise_next, rise_all}
 use Rattle.contents.proofs.tests.starts_rise.Goals as goal
 
