@@ -31,10 +31,10 @@ pub extern "C" fn lundaspro_flat_page(book: &[u16], page: u64, part: &mut [u64; 
 {
     let a = book::page_in(book, page);
     match a {
-        PageFound::Part { start, len } => {
+        Ok(Span { start, len } => {
             *part = [start as u64, len as u64];
             0
         }
-        PageFound::Refused(r) => refusal_number(r),
+        Err(r) => refusal_number(r),
     }
 }

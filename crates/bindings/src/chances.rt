@@ -5,7 +5,6 @@ ghost use Rattle.unit.specs.Calls.{outcome_says};
 ghost use Rattle.bindings.specs.Exports.{one, Tells, FlatDraws};
 
 use flat::refusal_number;
-use rules::Answer;
 use telling::tell_number;
 
 // How many outcomes. Refusals 50 to 56, 23, 28.
@@ -31,11 +30,11 @@ pub extern "C" fn lundaspro_flat_draw(
     let a = arena::draw(image, index, out, list);
     let answer = a.answer;
     match answer {
-        Answer::Done(words) => {
+        Ok(words) => {
             *drawn = [words as u64, a.cells as u64];
             0
         }
-        Answer::Refused(r) => refusal_number(r),
+        Err(r) => refusal_number(r),
     }
 }
 

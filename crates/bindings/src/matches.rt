@@ -6,7 +6,6 @@ ghost use Rattle.flat.specs.Flat.{setting_in, hits_words};
 ghost use Rattle.bindings.specs.Exports.{refusal_of, FlatBody, Tells, Writes, FlatSteps};
 
 use flat::{bit, events_bytes, hits_words, refusal_number, setting_in};
-use rules::{Answer, Verdict};
 use telling::{tell_body, tell_words};
 
 // Refusals 50 to 56.
@@ -16,8 +15,8 @@ pub extern "C" fn lundaspro_flat_check_image(image: &[u16]) -> u64
 {
     let a = arena::check_image(image);
     match a {
-        Verdict::Accepted => 0,
-        Verdict::Refused(r) => refusal_number(r),
+        Ok(()) => 0,
+        Err(r) => refusal_number(r),
     }
 }
 
@@ -40,8 +39,8 @@ pub extern "C" fn lundaspro_flat_validate(setting: &[u64; 9]) -> u64
 {
     let a = arena::validate(setting_in(setting));
     match a {
-        Verdict::Accepted => 0,
-        Verdict::Refused(r) => refusal_number(r),
+        Ok(()) => 0,
+        Err(r) => refusal_number(r),
     }
 }
 
@@ -75,13 +74,13 @@ pub extern "C" fn lundaspro_flat_step(
     let done = arena::step(s, image, actions, out);
     let answer = done.answer;
     match answer {
-        Answer::Done(words) => {
+        Ok(words) => {
             let told = done.events;
             *events = events_bytes(told);
             *end = [words as u64, bit(done.terminal)];
             0
         }
-        Answer::Refused(r) => refusal_number(r),
+        Err(r) => refusal_number(r),
     }
 }
 
@@ -99,11 +98,11 @@ pub extern "C" fn lundaspro_flat_struck(
     let done = arena::struck(s, image, actions);
     let verdict = done.verdict;
     match verdict {
-        Verdict::Accepted => {
+        Ok(()) => {
             let told = done.hits;
             *hits = hits_words(told);
             0
         }
-        Verdict::Refused(r) => refusal_number(r),
+        Err(r) => refusal_number(r),
     }
 }

@@ -1,13 +1,13 @@
 // The calls on what an agent sees, may do and gets.
 ghost use Rattle.std.specs.Prelude.{◌≡◌, length};
 ghost use Rattle.rules.specs.Headings.{number_of, heading_of, action_of, turned};
-ghost use Rattle.rules.specs.Says.{says_space, gives};
+ghost use Rattle.rules.specs.Says.{says_space};
 ghost use Rattle.rules.specs.Calls.{observe_says, actor_says, legal_says, key_says, truncation_says, reward_says, space_says, action_says};
 ghost use Rattle.flat.specs.Flat.{grid_in, weights_in, event_in, event_bytes};
 ghost use Rattle.bindings.specs.Exports.{one, whole, bit_number, key_numbers, action_numbers, Tells, Writes, FlatSpace};
 
 use flat::{event_bytes, event_in, grid_in, refusal_number, weights_in};
-use rules::{Actor, Heading, Legal, LengthCell, Reward, Space, Truncated};
+use rules::{Actor, Heading, Legal, Refusal, Space};
 use telling::tell_words;
 
 // How many numbers. Refusals 50 to 56, 26, 29.
@@ -25,7 +25,7 @@ pub extern "C" fn lundaspro_flat_observe(
 }
 
 // A space's five numbers and two bounds.
-fn tell_space(a: Space, sizes: &mut [u64; 5], bounds: &mut [f32; 2]) -> u64
+fn tell_space(a: Result<Space, Refusal>, sizes: &mut [u64; 5], bounds: &mut [f32; 2]) -> u64
     ensures { FlatSpace (says_space a) sizes.old sizes.new bounds.old bounds.new result }
 {
     match a {
@@ -40,12 +40,12 @@ fn tell_space(a: Space, sizes: &mut [u64; 5], bounds: &mut [f32; 2]) -> u64
             *bounds = [low, high];
             0
         }
-        Space::Discrete(n) => {
+        Ok(Space::Discrete(n)) => {
             *sizes = [1, n as u64, 0, 0, 0];
             *bounds = [0.0, 0.0];
             0
         }
-        Space::Refused(r) => refusal_number(r),
+        Err(r) => refusal_number(r),
     }
 }
 
@@ -78,15 +78,15 @@ pub extern "C" fn lundaspro_flat_length_cell(image: &[u16], key: &mut [u64; 2]) 
 {
     let a = arena::length_cell(image);
     match a {
-        LengthCell::Key(n) => {
+        Ok(Some(n)) => {
             *key = [1, n];
             0
         }
-        LengthCell::NoKey => {
+        Ok(None) => {
             *key = [0, 0];
             0
         }
-        LengthCell::Refused(r) => refusal_number(r),
+        Err(r) => refusal_number(r),
     }
 }
 
@@ -97,15 +97,15 @@ pub extern "C" fn lundaspro_flat_actor(image: &[u16], chance: &mut [u64; 1]) -> 
 {
     let a = arena::actor(image);
     match a {
-        Actor::Chance => {
+        Ok(Actor::Chance) => {
             *chance = [1];
             0
         }
-        Actor::Simultaneous => {
+        Ok(Actor::Simultaneous) => {
             *chance = [0];
             0
         }
-        Actor::Refused(r) => refusal_number(r),
+        Err(r) => refusal_number(r),
     }
 }
 
@@ -120,15 +120,15 @@ pub extern "C" fn lundaspro_flat_legal_actions(
 {
     let a = arena::legal_actions(image, agent);
     match a {
-        Legal::AnyAction => {
+        Ok(Legal::AnyAction) => {
             *actions = [3];
             0
         }
-        Legal::NoAction => {
+        Ok(Legal::NoAction) => {
             *actions = [0];
             0
         }
-        Legal::Refused(r) => refusal_number(r),
+        Err(r) => refusal_number(r),
     }
 }
 
@@ -145,11 +145,11 @@ pub extern "C" fn lundaspro_flat_truncation(
     let e = event_in(event);
     let a = arena::truncation(image, agent, e);
     match a {
-        Truncated::Marked(m) => {
+        Ok(m) => {
             *marked = event_bytes(m);
             0
         }
-        Truncated::Refused(r) => refusal_number(r),
+        Err(r) => refusal_number(r),
     }
 }
 
@@ -166,11 +166,11 @@ pub extern "C" fn lundaspro_flat_reward(
     let e = event_in(event);
     let a = arena::reward(w, e);
     match a {
-        Reward::Sum(x) => {
+        Ok(x) => {
             *sum = [x];
             0
         }
-        Reward::Refused(r) => refusal_number(r),
+        Err(r) => refusal_number(r),
     }
 }
 
@@ -192,7 +192,7 @@ pub extern "C" fn lundaspro_flat_relative_to_absolute(
     action: u64,
     after: &mut [u64; 1],
 ) -> u64
-    ensures { Tells one (gives (number_of (turned (heading_of heading) (action_of action)))) after.old after.new result }
+    ensures { Tells one (Ok (number_of (turned (heading_of heading) (action_of action)))) after.old after.new result }
 {
     let h = heading_in(heading);
     let a = grid::action_of(action);

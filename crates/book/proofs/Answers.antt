@@ -3,17 +3,15 @@ use Prim.Native.Nat.{ℕ}
 use mathlib.Core.Path.{◌≡◌, sym, ◌∙◌}
 use mathlib.Core.List.{List}
 use denote.Ref.{Bor}
-use Rattle.rules.specs.declared.Answer.{Answer}
 use Rattle.rules.specs.declared.Setting.{Setting}
-use Rattle.rules.proofs.Answers.{answer_one}
-use Rattle.contents.specs.declared.PageFound.{PageFound}
 use Rattle.contents.proofs.Answers.{found_one}
 use Rattle.book.specs.Promises.{Writes, Pages, Hands}
+use Rattle.rules.specs.Says.{Says}
 
-pub one_write : (s : Setting) (p : ℕ) (row old new other : List ℕ) (r q : Answer) → Writes s p row old new r → Writes s p row old other q → (r ≡ q) × (new ≡ other)
-one_write s p row old new other r q a b = (answer_one r q (a.answer ∙ sym b.answer), a.words ∙ sym b.words)
+pub one_write : (s : Setting) (p : ℕ) (row old new other : List ℕ) (r q : Says ℕ) → Writes s p row old new r → Writes s p row old other q → (r ≡ q) × (new ≡ other)
+one_write s p row old new other r q a b = ((a.answer ∙ sym b.answer), a.words ∙ sym b.words)
 
-pub one_page : (b : List ℕ) (i : ℕ) (r q : PageFound) → Pages b i r → Pages b i q → r ≡ q
+pub one_page : (b : List ℕ) (i : ℕ) (r q : Says Span) → Pages b i r → Pages b i q → r ≡ q
 one_page b i r q a c = found_one r q (a.answer ∙ sym c.answer)
 
 -- two parts that reading hands back have equal words at one address

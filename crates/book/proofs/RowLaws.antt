@@ -1,4 +1,5 @@
 -- A writer's row, page by page: how long an image says that it is, which refusal comes, and what a row that passes tells. Assumes nothing.
+use Rattle.std.specs.Prelude.{Ok, Err}
 use Prim.Native.Nat.{ℕ, zero, suc, ◌+◌, ◌*◌, ◌-◌, ◌<◌, ◌≤◌, min}
 use native.Mathlib.Nat.{min-le_right, min-eq_left, le_refl}
 use native.Mathlib.Numerals.{add-one}
@@ -15,8 +16,8 @@ use borrow.Author.Tests.{lt-ltb, le-ltb, ltb-false, le-leb, lt-leb}
 use Rattle.lists.specs.Choice.{◌if◌else◌}
 use Rattle.lists.specs.Below.{sum_below, concat_below}
 use Rattle.lists.specs.Lists.{all}
-use Rattle.rules.specs.Tables.{Table, none_hold, by, by_word}
-use Rattle.rules.specs.Says.{Says, refuses, gives, says_verdict, by_table}
+use Rattle.rules.specs.Tables.{Table, none_hold}
+use Rattle.rules.specs.Says.{Says, by_table}
 use Rattle.lists.proofs.Below.{sum_none, sum_next}
 use Rattle.lists.proofs.Concat.{block_split}
 use Rattle.lists.proofs.Lists.{rest_is, all_append}
@@ -27,15 +28,14 @@ use Rattle.rules.specs.Image.{front, snakes_in, length_at, food_start, food_coun
 use Rattle.rules.specs.Orders.{differs}
 use Rattle.rules.specs.declared.Setting.{Setting}
 use Rattle.rules.proofs.Facts.{sound}
-use Rattle.rules.specs.declared.Refusal.{Refusal}
-use Rattle.rules.specs.declared.Verdict.{Verdict}
-use Rattle.rules.specs.declared.Verdict.TheVariants.{Accepted, Refused}
+use Rattle.rules.specs.declared.refusal.Refusal.{Refusal}
 use Rattle.book.specs.Orders.{page_rows, left_at, row_order}
 use Rattle.contents.specs.Read.{Word}
 use Rattle.book.specs.Read.{PageChecks}
 use Rattle.book.specs.Rows.{told_length, row_start, row_page}
 use Rattle.book.specs.Writing.{Summed, Told, Next, RowChecks, Passed, RowFits}
 use Rattle.book.specs.declared.rows.NextPage.{NextPage}
+use Rattle.rules.specs.declared.refusal.Refusal.TheVariants as Refusal
 
 -- where no row of two tables holds, none of either does
 pub halves : (t u : Table) → none_hold (t ++ u) ≡ true → (none_hold t ≡ true) × (none_hold u ≡ true)
@@ -97,7 +97,7 @@ module _ (w : List ℕ) where
 
 -- ---- one page
 
-pub next_is : (s : Setting) (rest : List ℕ) (len : ℕ) → Told rest len → (v : Verdict) → PageChecks s (take len rest) v
+pub next_is : (s : Setting) (rest : List ℕ) (len : ℕ) → Told rest len → (v : Says (Unit {0})) → PageChecks s (take len rest) v
     → Next s rest (record { verdict = v; len = len })
 next_is s rest len q v f = record { says = rw q.length_told at f.says; told = q }
 
@@ -115,12 +115,12 @@ module _ (t : ℕ → Table) where
     blocks_then = table_both (concat_below i t) u r ∙ table_gives (concat_below i t) (by_table u r) (blocks_none i none)
 
   -- the first block with a row that holds
-  pub blocks_first : (i p : ℕ) (u : Table) (k : Refusal) → i < p → ((j : ℕ) → j < i → none_hold (t j) ≡ true) → by_table (t i) (gives (tt {0})) ≡ refuses k
-      → by_table (concat_below p t ++ u) (gives (tt {0})) ≡ refuses k
+  pub blocks_first : (i p : ℕ) (u : Table) (k : Refusal) → i < p → ((j : ℕ) → j < i → none_hold (t j) ≡ true) → by_table (t i) (Ok (tt {0})) ≡ Err k
+      → by_table (concat_below p t ++ u) (Ok (tt {0})) ≡ Err k
   blocks_first i p u k h none some =
-      ap (λ (l : Table). by_table l (gives (tt {0}))) (block_split t i p h u)
-      ∙ blocks_then (gives (tt {0})) i none _
-      ∙ table_after (t i) _ (gives (tt {0}))
+      ap (λ (l : Table). by_table l (Ok (tt {0}))) (block_split t i p h u)
+      ∙ blocks_then (Ok (tt {0})) i none _
+      ∙ table_after (t i) _ (Ok (tt {0}))
       ∙ rw some
 
 pub start_next : (row : List ℕ) (i : ℕ) → row_start row (i + 1) ≡ row_start row i + told_length (drop (row_start row i) row)
@@ -141,7 +141,7 @@ module _ (s : Setting) (row : List ℕ) where
         x : Next s (drop at row) r
         x = rw (rest_is row at) at y
 
-        page_says_lem : says_verdict r.verdict ≡ by_table (rows i) (gives (tt {0}))
+        page_says_lem : r.verdict ≡ by_table (rows i) (Ok (tt {0}))
         unfolding row_page
         page_says_lem = rw q.start at x.says
 
@@ -155,7 +155,7 @@ module _ (s : Setting) (row : List ℕ) where
         pub passed_fits : Fits w64 (length row) → Fits w64 (at + r.len)
         passed_fits f = omega (arith, passed_in, f)
 
-        pub passed_next : r.verdict ≡ Accepted → i < p → Passed s row p (i + 1) (at + r.len) r.len
+        pub passed_next : r.verdict ≡ (Ok tt) → i < p → Passed s row p (i + 1) (at + r.len) r.len
         passed_next z h = record {
           here = omega arith;
           start = next_start;
@@ -163,14 +163,14 @@ module _ (s : Setting) (row : List ℕ) where
           last_is = let e : i + 1 - 1 ≡ i = omega arith in rw e (omega (arith, next_start, q.start));
           none = λ j l. elim (ordered j i) [
             | less k t ↦ q.none j k
-            | more k t ↦ let e : j ≡ i = omega arith in rw e (table_given (rows i) tt tt (sym page_says_lem ∙ ap says_verdict z)).0
+            | more k t ↦ let e : j ≡ i = omega arith in rw e (table_given (rows i) tt tt (sym page_says_lem ∙ z)).0
           ];
         }
 
-        pub row_stops : i < p → (k : Refusal) → r.verdict ≡ Refused k → RowChecks s p row r.verdict
+        pub row_stops : i < p → (k : Refusal) → r.verdict ≡ Err k → RowChecks s p row r.verdict
         unfolding row_order
         row_stops h k z =
-            record { says = ap says_verdict z ∙ sym (blocks_first rows i p _ k h q.none (sym page_says_lem ∙ ap says_verdict z)) }
+            record { says = z ∙ sym (blocks_first rows i p _ k h q.none (sym page_says_lem ∙ z)) }
 
       module _ (h : p ≤ i) where
         end : i ≡ p
@@ -179,17 +179,17 @@ module _ (s : Setting) (row : List ℕ) where
         last_start : at ≡ row_start row p
         last_start = q.start ∙ ap (row_start row) end
 
-        past : by_table (row_order s p row) (gives (tt {0})) ≡ by_table ((by_word 53 (left_at row p), ltb (row_start row p) (length row)) ∷ []) (gives (tt {0}))
+        past : by_table (row_order s p row) (Ok (tt {0})) ≡ by_table ((Refusal.Total (left_at row p), ltb (row_start row p) (length row)) ∷ []) (Ok (tt {0}))
         unfolding row_order
-        past = blocks_then rows (gives (tt {0})) p (λ j l. q.none j (omega arith)) _
+        past = blocks_then rows (Ok (tt {0})) p (λ j l. q.none j (omega arith)) _
 
-        pub row_left : at < length row → (x : Refusal) → x ≡ by_word 53 last → RowChecks s p row (Refused x)
+        pub row_left : at < length row → (x : Refusal) → x ≡ Refusal.Total last → RowChecks s p row (Err x)
         unfolding by_table
         row_left g x z =
             let e : last ≡ left_at row p = q.last_is ∙ ap (λ (k : ℕ). left_at row k) end in
-            record { says = ap refuses (z ∙ ap (by_word 53) e) ∙ sym (past ∙ rw (lt-ltb (row_start row p) (length row) (rw last_start at g))) }
+            record { says = ap Err (z ∙ ap Refusal.Total e) ∙ sym (past ∙ rw (lt-ltb (row_start row p) (length row) (rw last_start at g))) }
 
-        pub row_done : length row ≤ at → RowChecks s p row Accepted
+        pub row_done : length row ≤ at → RowChecks s p row (Ok tt)
         unfolding by_table
         row_done g = record { says = sym (past ∙ rw (le-ltb (row_start row p) (length row) (rw last_start at g))) }
 
@@ -217,7 +217,7 @@ module _ (s : Setting) (row : List ℕ) (i : ℕ) (none : none_hold (rows s row 
   page_formed = rows_formed (row_page row i) _ none
 
   page_same : differs s (row_page row i) ≡ false
-  page_same = row_out ((by 21, differs s (row_page row i)) ∷ []) 0 (rows_after (row_page row i) _ none)
+  page_same = row_out ((Refusal.OtherSetting, differs s (row_page row i)) ∷ []) 0 (rows_after (row_page row i) _ none)
 
   pub page_early : told_length (drop (row_start row i) row) ≤ 9253
   unfolding row_page
@@ -231,7 +231,7 @@ module _ (s : Setting) (p : ℕ) (row : List ℕ) (h : none_hold (row_order s p 
   parts i = rows s row i
 
   abbrev left_row : Table
-  left_row = (by_word 53 (left_at row p), ltb (row_start row p) (length row)) ∷ []
+  left_row = (Refusal.Total (left_at row p), ltb (row_start row p) (length row)) ∷ []
 
   both_parts : (none_hold (concat_below p parts) ≡ true) × (none_hold left_row ≡ true)
   unfolding row_order

@@ -5,15 +5,15 @@ ghost use Rattle.book_words.specs.Settings.{amount, limit_of, limit_at, setting_
 ghost use Rattle.book_words.specs.Written.{Five, Wordy, Fronted};
 
 use crate::words::{four, word};
-use rules::{Limit, Setting};
+use rules::{Setting};
 
-fn limit_of(set: bool, number: u64) -> Limit
+fn limit_of(set: bool, number: u64) -> Option<u64>
     ensures { result ≡ limit_of set number }
 {
-    if set { Limit::Is(number) } else { Limit::Unset }
+    if set { Some(number) } else { None }
 }
 
-fn limit_at(contents: &[u16], k: usize) -> Limit
+fn limit_at(contents: &[u16], k: usize) -> Option<u64>
     requires { 4 + k < length contents.now }
     ensures { result ≡ limit_at contents.now k }
 {
@@ -38,23 +38,23 @@ pub fn setting_in(contents: &[u16]) -> Setting
 
 // ---- words written
 
-fn is_set(limit: Limit) -> bool
+fn is_set(limit: Option<u64>) -> bool
     ensures { result ≡ is_set limit }
 {
-    matches!(limit, Limit::Is(_))
+    matches!(limit, Some(_))
 }
 
-fn amount(limit: Limit) -> u64
+fn amount(limit: Option<u64>) -> u64
     ensures { result ≡ amount limit }
 {
     match limit {
-        Limit::Unset => 0,
-        Limit::Is(k) => k,
+        None => 0,
+        Some(k) => k,
     }
 }
 
 // A flag and four words lowest first.
-fn limit_words(limit: Limit) -> [u16; 5]
+fn limit_words(limit: Option<u64>) -> [u16; 5]
     ensures { Five limit result }
 {
     let set = image::flag(is_set(limit));

@@ -2,21 +2,21 @@
 ghost use Rattle.std.specs.Prelude.{◌≡◌, ◌^◌, ◌≤◌, ltb};
 ghost use Rattle.lists.specs.Products.{falling};
 ghost use Rattle.rules.specs.Setting.{is_set, is_zero, side_of};
-ghost use Rattle.rules.specs.SettingParts.{limits_check};
-ghost use Rattle.bounds.specs.Crowds.{crowd_check};
+ghost use Rattle.rules.specs.SettingParts.{limits_says};
+ghost use Rattle.bounds.specs.Crowds.{crowd_says};
 
-use rules::{Limit, Setting};
+use rules::{Refusal, Setting};
 
-fn is_zero(lead: Limit) -> bool
+fn is_zero(lead: Option<u64>) -> bool
     ensures { result ≡ is_zero lead }
 {
-    matches!(lead, Limit::Is(0))
+    matches!(lead, Some(0))
 }
 
-fn is_set(lead: Limit) -> bool
+fn is_set(lead: Option<u64>) -> bool
     ensures { result ≡ is_set lead }
 {
-    matches!(lead, Limit::Is(_))
+    matches!(lead, Some(_))
 }
 
 // The grid's side; 0 where the grid is negative.
@@ -36,40 +36,40 @@ fn too_many(area: usize, k: usize) -> bool
 }
 
 // Refusals 6 and 8.
-#[tactic(auto, unfolding(rules::specs::Tables::fault))]
-fn crowded(n: u64, side: u64, food: u64) -> u8
+#[tactic(auto, unfolding(rules::specs::Says::by_table))]
+fn crowded(n: u64, side: u64, food: u64) -> Result<(), Refusal>
     requires { side ≤ 32 }
-    ensures { result ≡ crowd_check n side food }
+    ensures { result ≡ crowd_says n side food }
 {
     let area = side * side;
     if area < food {
-        return 6;
+        return Err(Refusal::FoodArea);
     }
     if too_many(area as usize, n.min(food) as usize) {
-        return 8;
+        return Err(Refusal::Product);
     }
-    0
+    Ok(())
 }
 
-#[tactic(auto, unfolding(rules::specs::SettingParts::limits_check, rules::specs::Tables::fault))]
-pub fn limits(setting: Setting) -> u8
-    ensures { result ≡ limits_check setting }
+#[tactic(auto, unfolding(rules::specs::SettingParts::limits_says, rules::specs::Says::by_table))]
+pub fn limits(setting: Setting) -> Result<(), Refusal>
+    ensures { result ≡ limits_says setting }
 {
     let n = setting.num_snakes;
     if n < 2 || 8 < n {
-        return 1;
+        return Err(Refusal::Snakes);
     }
     if setting.initial_length == 0 {
-        return 2;
+        return Err(Refusal::LengthZero);
     }
     if is_zero(setting.win_food_lead) {
-        return 3;
+        return Err(Refusal::LeadZero);
     }
     if is_set(setting.win_food_lead) && n != 2 {
-        return 4;
+        return Err(Refusal::LeadNotTwo);
     }
     if 32 < setting.grid_size {
-        return 5;
+        return Err(Refusal::Grid);
     }
     crowded(n, side_of(setting.grid_size), setting.initial_food_count)
 }

@@ -1,4 +1,5 @@
 -- A draw's list and its next image, as the code makes them, are those of the definition. Assumes nothing.
+use Rattle.std.specs.Prelude.{Ok}
 use mathlib.Core.Path.{◌≡◌, sym, ap, ap₂, ◌∙◌}
 use mathlib.Core.Bool.{Bool, not, ◌&&◌, ◌||◌}
 use mathlib.Core.List.{List, ◌++◌}
@@ -11,8 +12,6 @@ use borrow.Rule.Slice.PartMut.{put_mid}
 use Rattle.lists.specs.Choice.{◌if◌else◌}
 use Rattle.lists.specs.Lists.{over_front}
 use Rattle.rules.specs.Image.{due_in, birth_in, area_in, image_of, state_of}
-use Rattle.rules.specs.Says.{gives}
-use Rattle.rules.specs.declared.Answer.TheVariants.{Done}
 use Rattle.rules.specs.Chance.{drawn_from, drawn, after_draw}
 use Rattle.rules.proofs.DrawFacts.{drawn_due}
 use Rattle.rules.proofs.Fairness.{listed}
@@ -94,9 +93,9 @@ module _ (w : List ℕ) (i : ℕ) (o : Odds) (strips : List ℕ) (room : ℕ) (l
         words_next old = rw (due_next, birth_next, part_is) (ap (λ (l : List ℕ). over_front l old) (sym (next_is w p.sound i)))
 
         pub draw_done : (old new : List ℕ) → new ≡ over_front (next_words w d b part) old
-            → Answers (gives (draw_of w i)) old new list (put_mid 0 (o.size - 0) list ys) (record { answer = Done (length w + o.size); cells = o.size })
+            → Answers (Ok (draw_of w i)) old new list (put_mid 0 (o.size - 0) list ys) (record { answer = Ok (length w + o.size); cells = o.size })
         draw_done old new k = record {
-          answer = ap gives (sym (next_long w p.sound i p.below ∙ ap (λ (n : ℕ). length w + n) (sym p.stands.size_is)));
+          answer = ap Ok (sym (next_long w p.sound i p.below ∙ ap (λ (n : ℕ). length w + n) (sym p.stands.size_is)));
           cells = sym cells_long;
           words = k ∙ words_next old;
           list = list_after;

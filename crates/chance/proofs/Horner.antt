@@ -1,4 +1,5 @@
 -- The rank as a loop adds it up, cell by cell, and the test that each cell is there when its turn comes. Assumes nothing.
+use Rattle.std.specs.Prelude.{Ok, Err}
 use mathlib.Core.Path.{◌≡◌, refl, sym, ap, ap₂, ◌∙◌}
 use mathlib.Core.Bool.{Bool, true, false, ◌&&◌}
 use mathlib.Core.List.{List, [], ◌∷◌}
@@ -17,10 +18,7 @@ use Rattle.lists.proofs.Tests.{both, and_left, and_right}
 use Rattle.lists.proofs.Members.{agree, fails, length_without, place_lt}
 use Rattle.lists.proofs.Products.{falling_next, falling_first, falling_mono, falling_none}
 use Rattle.rules.specs.State.{State}
-use Rattle.rules.specs.Tables.{by}
-use Rattle.rules.specs.Says.{refuses, gives}
-use Rattle.rules.specs.declared.Refusal.{Refusal}
-use Rattle.rules.specs.declared.Number.TheVariants.{Value, Refused}
+use Rattle.rules.specs.declared.refusal.Refusal.{Refusal}
 use Rattle.rules.specs.Chance.{free, draw_size, rank_in, can_rank}
 use Rattle.rules.proofs.FreeCells.{free_distinct}
 use Rattle.rules.proofs.Draws.{InTurn, in_turn_lem, turn_among, turn_distinct}
@@ -28,6 +26,7 @@ use Rattle.rules.proofs.Fairness.{ranked_listed, listed_ranked}
 use Rattle.strips.specs.Marks.{marked, unmarked, Marked, Counted, Free}
 use Rattle.strips.proofs.Finding.{unmarked_less, open_member, square_place, off_area, taken_square}
 use Rattle.chance.specs.Ranking.{in_turn, rank_left, Placed, Rankable, Ranked, RankedTo}
+use Rattle.rules.specs.declared.refusal.Refusal.TheVariants as Refusal
 
 -- ---- the test
 
@@ -122,7 +121,7 @@ module _ (b new l : List ℕ) (area free j r p : ℕ) where
   abbrev x : ℕ
   x = get_or l j 0
 
-  module _ (h : j < length l) (g : x < area) (u : marked b x ≡ false) (m : Marked x b new) (n : length (unmarked b area) + j ≡ free) (e : p ≡ length (unmarked b x)) where
+  module _ (h : j < length l) (g : x < area) (u : marked b x ≡ false) (m : Ok x b new) (n : length (unmarked b area) + j ≡ free) (e : p ≡ length (unmarked b x)) where
     here : member x (unmarked b area) ≡ true
     here = open_member b area x g u
 
@@ -160,14 +159,14 @@ module _ (l : List ℕ) (area free : ℕ) (start : List ℕ) where
   }
 
   module _ (b tally : List ℕ) (r j : ℕ) (v : RankedTo l area free start b tally r j) where
-    pub ranked_all : length l ≤ j → Ranked (unmarked start area) l (Value r)
+    pub ranked_all : length l ≤ j → Ranked (unmarked start area) l (Ok r)
     ranked_all h =
         let e = sym v.turn ∙ turn_end (unmarked b area) l j h in
-        record { answer = rw e (ap gives (sym (rank_done (unmarked b area) l j r h) ∙ v.rest)) }
+        record { answer = rw e (ap Ok (sym (rank_done (unmarked b area) l j r h) ∙ v.rest)) }
 
     module _ (h : j < length l) where
-      refused : member (get_or l j 0) (unmarked b area) ≡ false → (x : Refusal) → x ≡ by 30 → Ranked (unmarked start area) l (Refused x)
-      refused m x q = let e = sym v.turn ∙ turn_fails (unmarked b area) l j h m in record { answer = rw e (ap refuses q) }
+      refused : member (get_or l j 0) (unmarked b area) ≡ false → (x : Refusal) → x ≡ Refusal.List → Ranked (unmarked start area) l (Err x)
+      refused m x q = let e = sym v.turn ∙ turn_fails (unmarked b area) l j h m in record { answer = rw e (ap Err q) }
 
       fits : Rankable l area free start → (p : ℕ) → p < free - j → r * (free - j) + p < 2 ^ 64
       fits q p k = rank_fits free j (length l) r p v.below k h q.few q.fits
@@ -175,11 +174,11 @@ module _ (l : List ℕ) (area free : ℕ) (start : List ℕ) where
       pub ranked_times : Rankable l area free start → Fits w64 (r * (free - j))
       ranked_times q = let f = fits q 0 (omega (arith, q.few)) in omega arith
 
-      pub ranked_off : area ≤ get_or l j 0 → (x : Refusal) → x ≡ by 30 → Ranked (unmarked start area) l (Refused x)
+      pub ranked_off : area ≤ get_or l j 0 → (x : Refusal) → x ≡ Refusal.List → Ranked (unmarked start area) l (Err x)
       ranked_off g = refused (off_area b area (get_or l j 0) g)
 
       module _ (t : Bool) (m : t ≡ marked b (get_or l j 0)) where
-        pub ranked_taken : t ≡ true → (x : Refusal) → x ≡ by 30 → Ranked (unmarked start area) l (Refused x)
+        pub ranked_taken : t ≡ true → (x : Refusal) → x ≡ Refusal.List → Ranked (unmarked start area) l (Err x)
         ranked_taken y = refused (taken_square b area (get_or l j 0) (sym m ∙ y))
 
         module _ (y : t ≡ false) (g : get_or l j 0 < area) where

@@ -1,12 +1,12 @@
 -- What a draw may go by once nothing refuses it, and what it answers. Assumes nothing.
-use Rattle.std.specs.Prelude.{ℕ, ◌+◌, ◌<◌, ◌≤◌, List, ◌≡◌, length}
+use Rattle.std.specs.Prelude.{ℕ, ◌+◌, ◌<◌, ◌≤◌, List, ◌≡◌, length, Err}
 use Rattle.rules.specs.Image.{due_in, image_of, state_of}
 use Rattle.rules.specs.Facts.{Sound}
 use Rattle.rules.specs.Chance.{outcomes, drawn, after_draw}
-use Rattle.rules.specs.Calls.{Draw}
-use Rattle.rules.specs.Says.{Says, refuses, seen, beside, lent, says}
+use Rattle.rules.specs.Calls.{Draw, drawn_of}
+use Rattle.rules.specs.Says.{Says, seen, lent}
 use Rattle.rules.specs.declared.Drawn.{Drawn}
-use Rattle.rules.specs.declared.Refusal.{Refusal}
+use Rattle.rules.specs.declared.refusal.Refusal.{Refusal}
 use Rattle.outcomes.specs.Odds.{Stands}
 use Rattle.outcomes.specs.declared.odds.Odds.{Odds}
 
@@ -23,13 +23,7 @@ pub record Ready (w : List ℕ) (i : ℕ) (o : Odds) (strips : List ℕ) (room l
   pub cells : o.size ≤ list_room
 
 -- every word of both buffers, by what the draw says
-pub record Answers (said : Says Draw) (old new old_list new_list : List ℕ) (r : Drawn) : Type 0 where
-  pub answer : says r.answer ≡ seen (λ d. length (image_of d.next)) said
-  pub cells : r.cells ≡ beside (λ d. length d.cells) 0 said
+pub record Answers (said : Says Draw) (old new old_list new_list : List ℕ) (r : Says Drawn) : Type 0 where
+  pub answer : r ≡ seen drawn_of said
   pub words : new ≡ lent (λ d. image_of d.next) old said
   pub list : new_list ≡ lent (λ d. d.cells) old_list said
-
--- that refusal, and no cells
-pub record Refuses (why : Refusal) (r : Drawn) : Type 0 where
-  pub says_so : says r.answer ≡ refuses why
-  pub none : r.cells ≡ 0

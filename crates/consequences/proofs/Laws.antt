@@ -1,4 +1,5 @@
 -- What each function of the consequences finds, from what its calls promise and the tests that it makes. Assumes nothing.
+use Rattle.std.specs.Prelude.{Option, is_some}
 use Prim.Native.Nat.{ℕ, zero, suc, ◌+◌, ◌*◌, ◌<◌, ◌≤◌}
 use native.Mathlib.Numerals.{add-one}
 use native.Mathlib.Omega.{arith}
@@ -14,8 +15,7 @@ use borrow.Author.Tests.{not-false}
 use Rattle.lists.specs.Choice.{bit}
 use Rattle.lists.specs.Below.{some_below, count_below, lowest_from}
 use Rattle.lists.specs.Lists.{member}
-use Rattle.lists.specs.Search.{found_in, is_found}
-use Rattle.lists.specs.declared.Found.{Found}
+use Rattle.lists.specs.Search.{found_in}
 use Rattle.lists.proofs.Tests.{bit_le}
 use Rattle.lists.proofs.Search.{found_member}
 use Rattle.lists.proofs.Below.{some_none, some_next, count_none, count_next, sum_none, sum_next}
@@ -93,11 +93,11 @@ module _ (all : List After) (short : Short all) (n i alive deaths cells : ℕ) (
 -- a survivor's body is its cell and the rest; k is the place of the start
 module _ (w : List ℕ) (i : ℕ) (a : After) (q : PartIn w i a) (k : ℕ) (e : k ≡ 5 + 4 * i) where
   -- f is where the cell is found, b whether it is
-  pub cell_held : (cell : ℕ) → not a.lives ≡ false → (f : Found) → f ≡ found_in (take a.keep (drop (get_or w k 0) w)) cell → (b : Bool) → b ≡ is_found f
+  pub cell_held : (cell : ℕ) → not a.lives ≡ false → (f : Option ℕ) → f ≡ found_in (take a.keep (drop (get_or w k 0) w)) cell → (b : Bool) → b ≡ is_some f
       → HasCell w i a cell (eqb cell a.cell || b)
   unfolding member
   cell_held cell h f p b q =
-      let told = q ∙ ap is_found p ∙ found_member cell (take a.keep (drop (get_or w k 0) w)) in
+      let told = q ∙ ap is_some p ∙ found_member cell (take a.keep (drop (get_or w k 0) w)) in
       record { is = rw (not-false a.lives h) (ap (λ (b : Bool). eqb cell a.cell || b) (told ∙ ap (λ (k : ℕ). member cell (take a.keep (drop (get_or w k 0) w))) e)) }
 
 -- none of the snakes before j holds the cell

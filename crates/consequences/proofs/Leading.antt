@@ -1,4 +1,5 @@
 -- Who leads: of two that live the longer by the lead or more, from whom the definition's leads are read. Assumes nothing.
+use Rattle.std.specs.Prelude.{Option, Some, None}
 use Prim.Native.Nat.{ℕ, zero, suc, ◌+◌, ◌-◌, ◌<◌, ◌≤◌}
 use native.Mathlib.Nat.{le_refl, add-zero, add-suc}
 use native.Mathlib.Omega.{arith}
@@ -12,8 +13,6 @@ use Rattle.lists.specs.Choice.{bit}
 use Rattle.lists.specs.Below.{some_below, count_below}
 use Rattle.lists.proofs.Tests.{compared, same, other, ordered, less, more, and_left, and_right}
 use Rattle.lists.proofs.Below.{some_found, some_false, count_none, count_next}
-use Rattle.rules.specs.declared.Limit.{Limit}
-use Rattle.rules.specs.declared.Limit.TheVariants.{Unset, Is}
 use Rattle.consequences.specs.declared.after.After.{After}
 use Rattle.consequences.specs.After.{gone, living}
 use Rattle.consequences.specs.Leads.{Living, NoneLiving, NextLiving, TwoLive, Longer, leads_in, Leader, Leads}
@@ -102,7 +101,7 @@ module _ (all : List After) (n alive : ℕ) (c : Living all n alive) (two : aliv
 -- ---- who leads
 
 -- nobody
-nobody_leads : (all : List After) (n alive : ℕ) (lead : Limit) → ((x y : ℕ) → x < n → y < n → leads_in all alive lead x y ≡ false) → Leader all n alive lead n
+nobody_leads : (all : List After) (n alive : ℕ) (lead : Option ℕ) → ((x y : ℕ) → x < n → y < n → leads_in all alive lead x y ≡ false) → Leader all n alive lead n
 nobody_leads all n alive lead h = record {
   wins = λ x l. some_false (leads_in all alive lead x) n (λ y m. h x y l m) ∙ sym (ne_eqb x n (λ e. omega arith));
   loses = λ x l.
@@ -124,7 +123,7 @@ swap_live all n i j t = record {
 
 module _ (all : List After) (k : ℕ) where
   abbrev lead : ℕ → ℕ → Bool
-  lead = leads_in all 2 (Is k)
+  lead = leads_in all 2 (Some k)
 
   lead_first : (x y : ℕ) → living all x ≡ false → lead x y ≡ false
   lead_first x y e = rw e
@@ -171,7 +170,7 @@ module _ (all : List After) (n i j : ℕ) (t : TwoLive all n i j) (k : ℕ) wher
     first_leads : some_below n (lead all k i) ≡ true
     first_leads = some_found (lead all k i) n j t.two a
 
-    pub leads_one : Leader all n 2 (Is k) i
+    pub leads_one : Leader all n 2 (Some k) i
     leads_one = record {
       wins = λ x l. elim (compared x i) [
         | same e u ↦ ap (λ (x : ℕ). some_below n (lead all k x)) e ∙ first_leads ∙ sym u
@@ -204,7 +203,7 @@ module _ (all : List After) (n i j : ℕ) (t : TwoLive all n i j) (k : ℕ) wher
       let a = lead_is all n i j t k r p ∙ d in
       let b = lead_is all n j i u k s q ∙ e in
       record {
-        leader = nobody_leads all n 2 (Is k) (λ x y l m. elim (compared x i) [
+        leader = nobody_leads all n 2 (Some k) (λ x y l m. elim (compared x i) [
           | same c v ↦ elim (compared y j) [ same f v ↦ rw (c, f) a | other f v ↦ lead_other all n i j t k b x y l m (λ q. f q.1) ]
           | other c v ↦ lead_other all n i j t k b x y l m (λ q. c q.0)
         ]);
@@ -212,10 +211,10 @@ module _ (all : List After) (n i j : ℕ) (t : TwoLive all n i j) (k : ℕ) wher
 
 -- ---- by the lead that is set
 
-module _ (all : List After) (n alive : ℕ) (lead : Limit) where
-  pub leader_unset : lead ≡ Unset → Leader all n alive lead n
-  leader_unset e = rw e (nobody_leads all n alive Unset (λ x y l m. refl))
+module _ (all : List After) (n alive : ℕ) (lead : Option ℕ) where
+  pub leader_unset : lead ≡ None → Leader all n alive lead n
+  leader_unset e = rw e (nobody_leads all n alive None (λ x y l m. refl))
 
-  module _ (k : ℕ) (e : lead ≡ Is k) where
+  module _ (k : ℕ) (e : lead ≡ Some k) where
     pub leader_alone : (alive ≡ 2 → ⊥) → Leader all n alive lead n
-    leader_alone h = rw e (nobody_leads all n alive (Is k) (λ x y l m. rw (ne_eqb alive 2 h)))
+    leader_alone h = rw e (nobody_leads all n alive (Some k) (λ x y l m. rw (ne_eqb alive 2 h)))

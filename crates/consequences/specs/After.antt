@@ -1,12 +1,11 @@
 -- The code's records of the snakes after the step, as the definition's snakes; the tests as the code makes them. Assumes nothing.
-use Rattle.std.specs.Prelude.{ℕ, ◌+◌, ◌*◌, ◌<◌, ◌≤◌, Bool, false, not, ◌&&◌, ◌||◌, List, ◌≡◌, eqb, ltb, length, get_or}
+use Rattle.std.specs.Prelude.{ℕ, ◌+◌, ◌*◌, ◌<◌, ◌≤◌, Bool, false, not, ◌&&◌, ◌||◌, List, ◌≡◌, eqb, ltb, length, get_or, Option, None}
 use Rattle.lists.specs.Choice.{bit}
 use Rattle.lists.specs.Below.{some_below, count_below, sum_below, lowest_from}
 use Rattle.lists.specs.Lists.{member}
 use Rattle.cells.specs.Writers.{part_of, body_with}
 use Rattle.rules.specs.declared.Heading.TheVariants.{Up}
 use Rattle.rules.specs.declared.Cause.{Cause}
-use Rattle.rules.specs.declared.Cause.TheVariants.{NoCause}
 use Rattle.rules.specs.declared.Event.{Event}
 use Rattle.rules.specs.Events.{dies}
 use Rattle.rules.specs.Image.{start_at}
@@ -19,7 +18,7 @@ use Rattle.consequences.specs.declared.after.After.{After}
 use Rattle.consequences.specs.declared.after.Tally.{Tally}
 
 -- a move that led to this cause, settled
-abbrev pub settled : Move → Cause → After
+abbrev pub settled : Move → Option Cause → After
 settled m c = record {
   heading = m.heading;
   lives = m.moves && not (dies c);
@@ -34,7 +33,7 @@ settled_at ms fs i = settled (get_or ms i still) (get_or fs i unharmed).cause
 
 -- a place of the array that no snake has
 abbrev pub gone : After
-gone = record { heading = Up; lives = false; cell = 0; keep = 0; ate = false; cause = NoCause }
+gone = record { heading = Up; lives = false; cell = 0; keep = 0; ate = false; cause = None }
 
 -- snake i: what it keeps of its body in the image, and the snake
 abbrev pub part : List ℕ → ℕ → After → List ℕ
@@ -57,7 +56,7 @@ living all i = (get_or all i gone).lives
 abbrev pub eating : List After → ℕ → Bool
 eating all i = (get_or all i gone).ate
 
-abbrev pub causes : List After → ℕ → Cause
+abbrev pub causes : List After → ℕ → Option Cause
 causes all i = (get_or all i gone).cause
 
 abbrev pub size_of : After → ℕ

@@ -6,13 +6,12 @@ ghost use Rattle.consequences.specs.After.{killer_in, PartIn, InImage, HasCell, 
 
 use crate::after::After;
 use crate::settled::Snakes;
-use lists::is_found;
 use rules::Cause;
 
-fn is_by_body(c: Cause) -> bool
+fn is_by_body(c: Option<Cause>) -> bool
     ensures { result ≡ by_body c }
 {
-    matches!(c, Cause::OppBody)
+    matches!(c, Some(Cause::OppBody))
 }
 
 // Whether snake j is a survivor whose body holds a cell; the dead are not searched.
@@ -26,7 +25,7 @@ fn has_cell(image: &[u16], j: usize, a: After, cell: u16) -> bool
     }
     let start = image[layout::start_at(j)] as usize;
     let found = image::find_in(image, start, a.keep as usize, cell);
-    at_head | is_found(found)
+    at_head | found.is_some()
 }
 
 impl Snakes {

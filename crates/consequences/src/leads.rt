@@ -4,7 +4,6 @@ ghost use Rattle.consequences.specs.Leads.{Living, NextLiving, TwoLive, Longer, 
 
 use crate::after::After;
 use crate::settled::Snakes;
-use rules::Limit;
 
 // Whether a is longer than b by k or more; what lives has its head beside what it keeps.
 fn is_longer(a: After, b: After, k: u64) -> bool
@@ -44,11 +43,11 @@ impl Snakes {
     }
 
     // The snake that leads by the lead or more, or the count. Without a lead nobody is compared.
-    pub fn find_leader(&self, alive: usize, lead: Limit) -> usize
+    pub fn find_leader(&self, alive: usize, lead: Option<u64>) -> usize
         requires { Living self.now.all self.now.count alive }
         ensures { Leader self.now.all self.now.count alive lead result }
     {
-        let Limit::Is(k) = lead else {
+        let Some(k) = lead else {
             return self.count;
         };
         if alive != 2 {

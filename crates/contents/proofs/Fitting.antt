@@ -1,4 +1,5 @@
 -- The tests of a book's contents, row by row of the table of 40. Assumes nothing.
+use Rattle.std.specs.Prelude.{Ok, Err}
 use Prim.Native.Nat.{ℕ, zero, suc, ◌+◌, ◌*◌, ◌-◌, ◌<◌, ◌≤◌}
 use native.Mathlib.Omega.{arith}
 use mathlib.Core.Path.{◌≡◌, refl, sym, ap, ◌∙◌}
@@ -9,24 +10,24 @@ use lib.ListN.{length, get_or}
 use borrow.Author.Tests.{eq-eqb, ne_eqb, lt-ltb, le-ltb, le-leb, lt-leb, ltb-true, not-true, not-false}
 use Rattle.lists.specs.Below.{all_below, some_below}
 use Rattle.lists.specs.Lists.{all}
-use Rattle.rules.specs.Tables.{Table, none_hold, by}
+use Rattle.rules.specs.Tables.{Table, none_hold}
 use Rattle.lists.proofs.Tests.{ordered, less, more}
 use Rattle.lists.proofs.Below.{all_none, all_next, all_at, some_found, some_false}
 use Rattle.lists.proofs.Lists.{all_append}
 use Rattle.rules.specs.Image.{word}
 use Rattle.rules.specs.Promises.{Validates}
 use Rattle.rules.specs.declared.Setting.{Setting}
-use Rattle.rules.specs.declared.Verdict.{Verdict}
-use Rattle.rules.specs.declared.Verdict.TheVariants.{Accepted, Refused}
-use Rattle.rules.specs.declared.Refusal.{Refusal}
+use Rattle.rules.specs.declared.refusal.Refusal.{Refusal}
 use Rattle.contents.proofs.Verdicts.{accepted_check, refused_not}
 use Rattle.contents.specs.Settings.{four_at, limit_off, setting_in}
 use Rattle.contents.specs.Contents.{front, pages_in, start_in}
 use Rattle.contents.specs.Orders.{layout_rows, rises, outside, start_rows, contents_order}
 use Rattle.contents.specs.Read.{Word, Pair, OffLimit, SettingFits, LayoutFits, Rising, StartsFit, ContentsFit}
+use Rattle.rules.specs.Says.{Says}
+use Rattle.rules.specs.declared.refusal.Refusal.TheVariants as Refusal
 
 -- a row that holds
-pub row_in : (t : Table) (k : ℕ) → (get_or t k (by 0, false)).1 ≡ true → none_hold t ≡ false
+pub row_in : (t : Table) (k : ℕ) → (get_or t k (Refusal.Buffer, false)).1 ≡ true → none_hold t ≡ false
 unfolding all
 row_in [] k h = sym h
 row_in (e ∷ es) zero h = rw h
@@ -49,11 +50,11 @@ twice_not false = refl
 pub limit_off_is : (b : List ℕ) (k flag n : ℕ) → Word b k flag → n ≡ four_at b (1 + k) → OffLimit b k (ltb 1 flag || (eqb flag 0 && not (eqb n 0)))
 limit_off_is b k flag n w e = record { off = rw (w.value, e) }
 
-module _ (b : List ℕ) (s : Setting) (v : Verdict) (e : s ≡ setting_in b) (q : Validates s v) where
-  pub setting_taken : v ≡ Accepted → SettingFits b true
+module _ (b : List ℕ) (s : Setting) (v : Says (Unit {0})) (e : s ≡ setting_in b) (q : Validates s v) where
+  pub setting_taken : v ≡ (Ok tt) → SettingFits b true
   setting_taken h = record { fits = sym (eq-eqb _ 0 (rw e at (accepted_check s v q h))) }
 
-  pub setting_refused : (n : Refusal) → v ≡ Refused n → SettingFits b false
+  pub setting_refused : (n : Refusal) → v ≡ Err n → SettingFits b false
   setting_refused n h = record { fits = sym (ne_eqb _ 0 (rw e at (refused_not s v q n h))) }
 
 module _ (b : List ℕ) where

@@ -1,4 +1,5 @@
 -- An accepted setting's numbers fit their words. Assumes nothing.
+use Rattle.std.specs.Prelude.{Ok}
 use Prim.Native.Nat.{ℕ, ◌<◌, ◌≤◌}
 use native.Mathlib.Omega.{arith}
 use mathlib.Core.Path.{◌≡◌}
@@ -7,13 +8,12 @@ use Rattle.rules.specs.Setting.{area_of, side_of, setting_check}
 use Rattle.rules.specs.SettingFacts.{Accepts}
 use Rattle.rules.specs.Promises.{Validates}
 use Rattle.rules.specs.declared.Setting.{Setting}
-use Rattle.rules.specs.declared.Verdict.{Verdict}
-use Rattle.rules.specs.declared.Verdict.TheVariants.{Accepted}
 use Rattle.rules.proofs.Facts.{square_le}
 use Rattle.rules.proofs.SettingFacts.{accepts}
 use Rattle.grid.specs.Near.{Plain}
 use Rattle.contents.proofs.Verdicts.{accepted_check}
 use Rattle.contents.specs.Written.{Wordy}
+use Rattle.rules.specs.Says.{Says}
 
 -- ---- an accepted setting's numbers fit their words
 
@@ -39,5 +39,5 @@ module _ (s : Setting) (e : setting_check s ≡ 0) where
     fed = omega (arith, facts.food_free, area_small);
   }
 
-pub accepted_wordy : (s : Setting) (v : Verdict) → Validates s v → v ≡ Accepted → Wordy s
+pub accepted_wordy : (s : Setting) (v : Says (Unit {0})) → Validates s v → v ≡ (Ok tt) → Wordy s
 accepted_wordy s v q h = setting_wordy s (accepted_check s v q h)

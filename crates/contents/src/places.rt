@@ -5,9 +5,10 @@ ghost use Rattle.contents.specs.Accepted.{Accepted};
 ghost use Rattle.contents.specs.Read.{Ends};
 ghost use Rattle.contents.specs.Promises.{Finds};
 
-use crate::PageFound;
+use crate::Span;
 use crate::tests::accepted;
 use book_words::{pair, word};
+use rules::Refusal;
 
 // The next start, or the book's end.
 fn end_at(contents: &[u16], words: usize, i: usize) -> usize
@@ -21,28 +22,28 @@ fn end_at(contents: &[u16], words: usize, i: usize) -> usize
     words
 }
 
-fn find_at(contents: &[u16], words: usize, i: usize) -> PageFound
+fn find_at(contents: &[u16], words: usize, i: usize) -> Result<Span, Refusal>
     requires accepted { Accepted contents.now words }
     requires i_bound { i < pages_in contents.now }
     ensures { Finds contents.now words i result }
 {
     let start = pair(contents, 17 + 2 * i);
     let end = end_at(contents, words, i);
-    PageFound::Part {
+    Ok(Span {
         start,
         len: end - start,
-    }
+    })
 }
 
 // Where page `page` lies, or 40, 41. A book that no buffer holds is paged through by its contents and its length.
-pub fn find(contents: &[u16], words: usize, page: u64) -> PageFound
+pub fn find(contents: &[u16], words: usize, page: u64) -> Result<Span, Refusal>
     ensures { Finds contents.now words page result }
 {
     if !accepted(contents, words) {
-        return PageFound::Refused(refusals::by(40));
+        return Err(Refusal::Contents);
     }
     if word(contents, 16) as u64 <= page {
-        return PageFound::Refused(refusals::by(41));
+        return Err(Refusal::Page);
     }
     find_at(contents, words, page as usize)
 }

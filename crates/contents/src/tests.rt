@@ -3,7 +3,6 @@ ghost use Rattle.std.specs.Prelude.{◌+◌, ◌*◌, ◌<◌, ◌≤◌, length
 ghost use Rattle.contents.specs.Read.{OffLimit, SettingFits, LayoutFits, Rising, StartsFit, ContentsFit};
 
 use book_words::{four, pair, setting_in, word};
-use rules::Verdict;
 
 fn limit_off(contents: &[u16], k: usize) -> bool
     requires { 4 + k < length contents.now }
@@ -17,7 +16,7 @@ fn setting_fits(contents: &[u16]) -> bool
     requires { 17 ≤ length contents.now }
     ensures { SettingFits contents.now result }
 {
-    matches!(setting::validate(setting_in(contents)), Verdict::Accepted)
+    setting::validate(setting_in(contents)).is_ok()
 }
 
 // Words 0 to 15.

@@ -7,7 +7,6 @@ ghost use Rattle.rules.specs.Promises.{Parts};
 ghost use Rattle.image.specs.Memory.{word_place, start_asked};
 
 use layout::{length_at, start_at};
-use lists::Found;
 use wellformed::well_formed;
 
 // Snake i's body.
@@ -55,7 +54,7 @@ pub fn food_of(image: &[u16]) -> &[u16]
 }
 
 // The first place of a cell in the part of `len` words from `start` on.
-pub fn find_in(image: &[u16], start: usize, len: usize, cell: u16) -> Found
+pub fn find_in(image: &[u16], start: usize, len: usize, cell: u16) -> Option<usize>
     requires { start + len ≤ length image.now }
     ensures { result ≡ found_in (take len (drop start image.now)) cell }
 {

@@ -1,8 +1,7 @@
 -- The code's records of the moved snakes, as the definition's world: the rest of a body is the front of its part of the image. Assumes nothing.
-use Rattle.std.specs.Prelude.{ℕ, ◌+◌, ◌<◌, ◌≤◌, ◌≡◌, false, List, pos, length, get_or, take, drop}
+use Rattle.std.specs.Prelude.{ℕ, ◌+◌, ◌<◌, ◌≤◌, ◌≡◌, false, List, pos, length, get_or, take, drop, Option, None}
 use Rattle.lists.specs.Below.{each_below, filled}
 use Rattle.rules.specs.declared.Cause.{Cause}
-use Rattle.rules.specs.declared.Cause.TheVariants.{NoCause}
 use Rattle.rules.specs.declared.Heading.TheVariants.{Up}
 use Rattle.rules.specs.Grid.{cell_of}
 use Rattle.rules.specs.State.{nobody}
@@ -29,9 +28,9 @@ moves_of js i = get_or js.moves i still
 
 -- what befalls no snake
 abbrev pub unharmed : Fate
-unharmed = record { cause = NoCause }
+unharmed = record { cause = None }
 
-abbrev pub causes_of : Judged → ℕ → Cause
+abbrev pub causes_of : Judged → ℕ → Option Cause
 causes_of js i = (get_or js.fates i unharmed).cause
 
 -- the world that the judged moves make
@@ -46,7 +45,7 @@ moved_world w acts i = get_or (each_below (snakes_in w) (moved_of (state_of w) a
 pub record Judges (w acts : List ℕ) (js : Judged) : Type 0 where
   pub moves : js.moves ≡ filled (move_at w acts) (snakes_in w) 8 still
   pub moved : judged_world w js ≡ moved_world w acts
-  pub causes : causes_of js ≡ (λ (i : ℕ). get_or (each_below (snakes_in w) (cause_of (side_in w) (snakes_in w) (judged_world w js))) i NoCause)
+  pub causes : causes_of js ≡ (λ (i : ℕ). get_or (each_below (snakes_in w) (cause_of (side_in w) (snakes_in w) (judged_world w js))) i None)
   pub cells : (i : ℕ) → (moves_of js i).cell ≡ cell_of (side_in w) (moves_of js i).head
   pub parts : (i : ℕ) → i < snakes_in w → start_at w i + (moves_of js i).keep ≤ length w
   pub short : (i : ℕ) → (moves_of js i).keep ≤ 1024

@@ -6,7 +6,7 @@ mod hits;
 mod moves;
 
 pub use causes::{find_other, find_rest, judge};
-pub use hits::{hit_at, no_hit};
+pub use hits::hit_at;
 use rules::{Cause, Heading, Place};
 
 // A snake after the move: its head, whether that is inside the grid, and its cell there; the rest is the first `keep` words of its body in the image.
@@ -25,7 +25,7 @@ pub struct Move {
 // What a move led to.
 #[derive(Clone, Copy)]
 pub struct Fate {
-    pub cause: Cause,
+    pub cause: Option<Cause>,
 }
 
 // All moves, and what each led to.

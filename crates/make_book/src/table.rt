@@ -2,7 +2,7 @@
 ghost use Rattle.std.specs.Prelude.{◌+◌, ◌*◌, ◌≤◌, length};
 
 use crate::words::{put_words, wide};
-use rules::{Setting, Verdict};
+use rules::{Setting};
 
 // A start is counted from the book's first word: past the contents, and the pages before it.
 fn write_starts(lengths: &[u16; 65535], p: usize, contents: &mut [u16])
@@ -27,7 +27,7 @@ pub(crate) fn put_contents(
     requires { p ≤ 65535 }
 {
     let verdict = setting::validate(setting);
-    let Verdict::Accepted = verdict else {
+    let Ok(()) = verdict else {
         return false;
     };
     let mut contents = [0u16; 131087];

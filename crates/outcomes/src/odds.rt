@@ -6,9 +6,10 @@ ghost use Rattle.rules.specs.Facts.{Sound};
 ghost use Rattle.rules.specs.Promises.{Counts};
 ghost use Rattle.outcomes.specs.Odds.{Stands};
 
+use rules::Refusal;
+
 use layout::front;
 use lists::product;
-use rules::Number;
 use strips::{count_open, mark_all};
 
 // The free cells, how many of them a draw takes, and the count of outcomes; 0 for one above 2^64 - 1.
@@ -49,17 +50,17 @@ pub fn odds_of(image: &[u16], strips: &mut [u64; 16]) -> Odds
 }
 
 // Refusals 23, 28.
-pub fn count_due(image: &[u16]) -> Number
+pub fn count_due(image: &[u16]) -> Result<u64, Refusal>
     requires { Sound image.now }
     ensures { Counts image.now result }
 {
     if image[2] == 0 {
-        return Number::Refused(refusals::by(23));
+        return Err(Refusal::NoneDue);
     }
     let mut strips = [0u64; 16];
     let found = odds_of(image, &mut strips);
     if found.count == 0 {
-        return Number::Refused(refusals::by(28));
+        return Err(Refusal::Count);
     }
-    Number::Value(found.count)
+    Ok(found.count)
 }

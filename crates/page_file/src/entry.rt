@@ -6,7 +6,6 @@ use crate::pages::food_in;
 use layout::heading_at;
 use lists::word_at;
 use printing::{put, put_item};
-use rules::Number;
 
 // ---- a draw
 
@@ -44,7 +43,7 @@ fn put_draw(line: &mut [u8], past: &[u16], image: &[u16]) -> usize
     let mut list = [0u16; 1024];
     let k = new_food(food_in(past), food_in(image), &mut list);
     let rank = arena::rank(past, &list[0..k]);
-    let Number::Value(index) = rank else {
+    let Ok(index) = rank else {
         return 0;
     };
     let at = put(line, 0, b'd');

@@ -4,7 +4,7 @@ ghost use Rattle.std.specs.Prelude.{◌≡◌, ◌≤◌, length};
 use crate::file::read_words;
 use contents::PageFound;
 use lists::smaller;
-use rules::{Refusal, Verdict};
+use rules::{Refusal};
 use std::io::{Read, Seek};
 
 // Whether the file could be read; why the page is refused, or the number 0 and how many words its image has.
@@ -25,22 +25,22 @@ fn refused(why: Refusal) -> Loaded
     }
 }
 
-fn why_not_found(found: PageFound) -> Refusal {
+fn why_not_found(found: Result<Span, Refusal>) -> Refusal {
     match found {
-        PageFound::Part { start: _, len: _ } => refusals::by(0),
-        PageFound::Refused(k) => k,
+        Ok(Span { start: _, len: _ } => Refusal::NONE,
+        Err(k) => k,
     }
 }
 
 // 50 to 56, 21, or 0. Contents in which a page was found have a setting.
 fn why_not(contents: &[u16], image: &[u16]) -> Refusal {
     if contents.len() < 17 {
-        return refusals::by(40);
+        return Refusal::Contents;
     }
     let verdict = book::check_page(contents::setting_in(contents), image);
     match verdict {
-        Verdict::Accepted => refusals::by(0),
-        Verdict::Refused(k) => k,
+        Ok(()) => Refusal::NONE,
+        Err(k) => k,
     }
 }
 
@@ -56,14 +56,14 @@ pub fn load<F: Read + Seek>(
     ensures { result.len ≤ length image.new }
 {
     let found = contents::find(contents, words, page);
-    let PageFound::Part { start, len } = found else {
+    let Ok(Span { start, len } = found else {
         return refused(why_not_found(found));
     };
     let held = smaller(len, image.len());
     if !read_words(file, start, &mut image[0..held], bytes) {
         return Loaded {
             read: false,
-            why: refusals::by(0),
+            why: Refusal::NONE,
             len: 0,
         };
     }

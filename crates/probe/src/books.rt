@@ -1,6 +1,6 @@
 // The calls on books: `B` writes one, `P` reads a page.
 use contents::PageFound;
-use parsing::{First, read_first};
+use parsing::{read_first};
 use replies::{
     NOWHERE, PATTERN, book_room, last_words, numbers_in, put, put_each, put_number, put_written,
     refuse,
@@ -17,7 +17,7 @@ fn write_long(
     if 262144 < cap {
         return NOWHERE;
     }
-    let First::Opens(setting) = read_first(setting) else {
+    let Some(setting) = read_first(setting) else {
         return NOWHERE;
     };
     let mut room = book_room();
@@ -31,7 +31,7 @@ fn write(setting: &[u8], pages: u64, row: &[u16], cap: u64, text: &mut [u8], at:
     if 16384 < cap {
         return write_long(setting, pages, row, cap, text, at);
     }
-    let First::Opens(setting) = read_first(setting) else {
+    let Some(setting) = read_first(setting) else {
         return NOWHERE;
     };
     let mut room = [PATTERN; 16384];
@@ -60,14 +60,14 @@ pub fn write_line(
 // The place by one call, the words by the other.
 fn put_page(text: &mut [u8], at: usize, book: &[u16], page: u64) -> usize {
     match book::page_in(book, page) {
-        PageFound::Part { start, len } => {
+        Ok(Span { start, len } => {
             let a = put(text, at, b'a');
             let b = put_number(text, a, start as u64);
             let c = put_number(text, b, len as u64);
             let d = put_each(text, c, book::page_of(book, page));
             put(text, d, b'\n')
         }
-        PageFound::Refused(r) => refuse(text, at, r, true),
+        Err(r) => refuse(text, at, r, true),
     }
 }
 

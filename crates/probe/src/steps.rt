@@ -3,21 +3,21 @@
 ghost use Rattle.std.specs.Prelude.{◌≤◌};
 
 use crate::books::write_line;
-use parsing::{First, read_first, start_of};
+use parsing::{read_first, start_of};
 use replies::{
     NO_CALL, NOTHING, NOWHERE, PATTERN, Reply, bit, end, kept, last_words, numbers_in, put,
     put_events, put_hits, put_number, put_words, put_written, refuse, refused,
 };
-use rules::{Answer, Stepped, Verdict};
+use rules::{Refusal, Stepped};
 
 // `v S`
 pub fn validate(s: &[u8]) -> Reply {
-    let First::Opens(setting) = read_first(s) else {
+    let Some(setting) = read_first(s) else {
         return NO_CALL;
     };
     match arena::validate(setting) {
-        Verdict::Accepted => NOTHING,
-        Verdict::Refused(r) => refused(r),
+        Ok(()) => NOTHING,
+        Err(r) => refused(r),
     }
 }
 
@@ -32,7 +32,7 @@ fn initial_line(setting: &[u8], s: &[u8], text: &mut [u8], at: usize) -> usize {
     if 16384 < cap {
         return NOWHERE;
     }
-    let First::Opens(setting) = read_first(setting) else {
+    let Some(setting) = read_first(setting) else {
         return NOWHERE;
     };
     let mut room = [PATTERN; 16384];
@@ -41,10 +41,10 @@ fn initial_line(setting: &[u8], s: &[u8], text: &mut [u8], at: usize) -> usize {
     put_written(text, at, answer, out)
 }
 
-fn put_step(text: &mut [u8], at: usize, stepped: Stepped, out: &[u16]) -> usize {
+fn put_step(text: &mut [u8], at: usize, stepped: Result<Stepped, Refusal>, out: &[u16]) -> usize {
     let answer = stepped.answer;
     match answer {
-        Answer::Done(n) => {
+        Ok(n) => {
             let a = put(text, at, b'a');
             let b = put_number(text, a, bit(stepped.terminal));
             let events = stepped.events;
@@ -52,7 +52,7 @@ fn put_step(text: &mut [u8], at: usize, stepped: Stepped, out: &[u16]) -> usize 
             let d = put_words(text, c, out, n);
             end(text, d, kept(out, n))
         }
-        Answer::Refused(r) => refuse(text, at, r, kept(out, 0)),
+        Err(r) => refuse(text, at, r, kept(out, 0)),
     }
 }
 
@@ -71,7 +71,7 @@ fn step(
     if 16384 < cap {
         return NOWHERE;
     }
-    let First::Opens(setting) = read_first(setting) else {
+    let Some(setting) = read_first(setting) else {
         return NOWHERE;
     };
     let mut room = [PATTERN; 16384];
@@ -91,19 +91,19 @@ fn struck(
 ) -> usize
     requires { k ≤ 64 }
 {
-    let First::Opens(setting) = read_first(setting) else {
+    let Some(setting) = read_first(setting) else {
         return NOWHERE;
     };
     let struck = arena::struck(setting, words, &actions[0..k]);
     let verdict = struck.verdict;
     match verdict {
-        Verdict::Accepted => {
+        Ok(()) => {
             let a = put(text, at, b'a');
             let hits = struck.hits;
             let b = put_hits(text, a, hits);
             end(text, b, true)
         }
-        Verdict::Refused(r) => refuse(text, at, r, true),
+        Err(r) => refuse(text, at, r, true),
     }
 }
 

@@ -1,4 +1,5 @@
 -- From what a call of the arena promises to the line that it plays: a refusal stops the match, an image is shown. Assumes nothing.
+use Rattle.std.specs.Prelude.{Ok, Err}
 use Prim.Native.Nat.{ℕ, ◌-◌, ◌≤◌}
 use mathlib.Core.Path.{◌≡◌, refl, sym, ap, ◌∙◌}
 use mathlib.Core.Bool.{false}
@@ -7,14 +8,12 @@ use lib.ListN.{length, take, replicate}
 use Rattle.rules.specs.Image.{image_of, snakes_in}
 use Rattle.rules.specs.Events.{blank, eight}
 use Rattle.rules.specs.Step.{Transition}
-use Rattle.rules.specs.Says.{Says, gives, seen, beside, lent, says}
+use Rattle.rules.specs.Says.{Says, seen, beside, lent}
 use Rattle.rules.specs.Calls.{initial_says, step_says, draw_says}
 use Rattle.rules.specs.Promises.{Starts, Steps, Draws}
-use Rattle.rules.specs.declared.Answer.{Answer}
-use Rattle.rules.specs.declared.Answer.TheVariants.{Done as DoneWords, Refused}
 use Rattle.rules.specs.declared.Drawn.{Drawn}
 use Rattle.rules.specs.declared.Event.{Event}
-use Rattle.rules.specs.declared.Refusal.{Refusal}
+use Rattle.rules.specs.declared.refusal.Refusal.{Refusal}
 use Rattle.rules.specs.declared.Setting.{Setting}
 use Rattle.rules.specs.declared.Stepped.{Stepped}
 use Rattle.printing.specs.Text.{line_text}
@@ -25,25 +24,26 @@ use Rattle.referee.specs.Match.{Turn, opened, drawn_turn, moved_turn, refusal_in
 use Rattle.referee.specs.declared.Turned.{Turned}
 use Rattle.referee.proofs.Saying.{refused_by, Fits, initial_fits, step_fits, draw_fits}
 use Rattle.referee.proofs.Playing.{Done, done, done_by, stopped, shown, shown_move, few_in}
+use Rattle.rules.specs.Refusals.{code_of}
 
 -- ---- any call: it says x, its answer is a, and the lent words are new
 
-module _ {A : Type 0} (f : A → Turn) (x : Says A) (old new : List ℕ) (a : Answer)
-    (pa : says a ≡ seen (λ t. length (image_of (f t).next)) x) (pw : new ≡ lent (λ t. image_of (f t).next) old x) where
-  stops_by_lem : (k : Refusal) → a ≡ Refused k → (j : ℕ) → j ≡ refusal_in (says a) → (m : Match) (out exit : List ℕ) (r : Turned) → Stops m j out exit r → Plays (seen f x) m old new out exit r
+module _ {A : Type 0} (f : A → Turn) (x : Says A) (old new : List ℕ) (a : Says ℕ)
+    (pa : a ≡ seen (λ t. length (image_of (f t).next)) x) (pw : new ≡ lent (λ t. image_of (f t).next) old x) where
+  stops_by_lem : (k : Refusal) → a ≡ Err k → (j : ℕ) → j ≡ refusal_in (a) → (m : Match) (out exit : List ℕ) (r : Turned) → Stops m j out exit r → Plays (seen f x) m old new out exit r
   stops_by_lem k told j pj m out exit r s =
-      let e = refused_by x (λ t. length (image_of (f t).next)) k (ap says (sym told) ∙ pa) in
-      let q : j ≡ k.number = pj ∙ ap (λ (b : Answer). refusal_in (says b)) told in
+      let e = refused_by x (λ t. length (image_of (f t).next)) k ((sym told) ∙ pa) in
+      let q : j ≡ code_of k = pj ∙ ap (λ (b : Says ℕ). refusal_in (b)) told in
       stopped f x m old new out exit r k e pw (rw q at s)
 
   module _ (n : ℕ) (told : a ≡ DoneWords n) where
-    gave : Done (λ t. (f t).next) old new n x
-    gave = done_by (λ t. (f t).next) old new n x (ap says (sym told) ∙ pa) pw
+    gave : Ok (λ t. (f t).next) old new n x
+    gave = done_by (λ t. (f t).next) old new n x ((sym told) ∙ pa) pw
 
     words_by : n ≤ length new
     words_by = elim gave [ done t e p u g l ↦ l ]
 
-    module _ (fits : (t : A) → x ≡ gives t → Fits (f t).next (length old)) where
+    module _ (fits : (t : A) → x ≡ Ok t → Fits (f t).next (length old)) where
       few_by : snakes_in (take (n - 0) new) ≤ 8
       few_by = elim gave [ done t e p u g l ↦ few_in (f t).next (take (n - 0) new) g (fits t e).few ]
 
@@ -56,8 +56,8 @@ module _ {A : Type 0} (f : A → Turn) (x : Says A) (old new : List ℕ) (a : An
 
 -- ---- the first line
 
-module _ (s : Setting) (old new : List ℕ) (a : Answer) (q : Starts s old new a) where
-  pub open_stops : (k : Refusal) → a ≡ Refused k → (j : ℕ) → j ≡ refusal_in (says a)
+module _ (s : Setting) (old new : List ℕ) (a : Says ℕ) (q : Starts s old new a) where
+  pub open_stops : (k : Refusal) → a ≡ Err k → (j : ℕ) → j ≡ refusal_in (a)
       → (m : Match) (out exit : List ℕ) (r : Turned) → Stops m j out exit r → Plays (seen (opened s) (initial_says s (length old))) m old new out exit r
   open_stops = stops_by_lem (opened s) (initial_says s (length old)) old new a q.answer q.words
 
@@ -76,8 +76,8 @@ module _ (s : Setting) (old new : List ℕ) (a : Answer) (q : Starts s old new a
 
 -- ---- a draw
 
-module _ (w : List ℕ) (i : ℕ) (old new cells after : List ℕ) (d : Drawn) (q : Draws w i old new cells after d) (m : Match) where
-  pub draw_stops : (k : Refusal) → d.answer ≡ Refused k → (j : ℕ) → j ≡ refusal_in (says d.answer)
+module _ (w : List ℕ) (i : ℕ) (old new cells after : List ℕ) (d : Says Drawn) (q : Draws w i old new cells after d) (m : Match) where
+  pub draw_stops : (k : Refusal) → d.answer ≡ Err k → (j : ℕ) → j ≡ refusal_in (d.answer)
       → (out exit : List ℕ) (r : Turned) → Stops m j out exit r → Plays (seen (drawn_turn m) (draw_says w i (length old) (length cells))) m old new out exit r
   draw_stops k told j pj = stops_by_lem (drawn_turn m) (draw_says w i (length old) (length cells)) old new d.answer q.answer q.words k told j pj m
 
@@ -96,11 +96,11 @@ module _ (w : List ℕ) (i : ℕ) (old new cells after : List ℕ) (d : Drawn) (
 
 -- ---- a move
 
-module _ (m : Match) (w acts old new : List ℕ) (s : Stepped) (q : Steps m.setting w acts old new s) where
+module _ (m : Match) (w acts old new : List ℕ) (s : Says Stepped) (q : Steps m.setting w acts old new s) where
   abbrev x : Says Transition
   x = step_says m.setting w acts (length old)
 
-  pub move_stops : (k : Refusal) → s.answer ≡ Refused k → (j : ℕ) → j ≡ refusal_in (says s.answer)
+  pub move_stops : (k : Refusal) → s.answer ≡ Err k → (j : ℕ) → j ≡ refusal_in (s.answer)
       → (out exit : List ℕ) (r : Turned) → Stops m j out exit r → Plays (seen (moved_turn m) x) m old new out exit r
   unfolding moved_turn
   move_stops k told j pj = stops_by_lem (moved_turn m) x old new s.answer q.answer q.words k told j pj m

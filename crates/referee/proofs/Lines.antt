@@ -1,5 +1,6 @@
 -- From a line as it is read to what it plays: the first line and the others, an image that takes the place of the one before it,
 -- the end of the input. Assumes nothing.
+use Rattle.std.specs.Prelude.{Option, Some, None}
 use Prim.Native.Nat.{ℕ, ◌+◌, ◌-◌, ◌≤◌}
 use native.Mathlib.Nat.{sub-zero}
 use native.Mathlib.Omega.{arith}
@@ -10,15 +11,12 @@ use lib.ListN.{length, take, get_or}
 use lib.Seq.{length-take-le}
 use borrow.Author.Tests.{not-true, not-false}
 use Rattle.lists.specs.Lists.{write_at}
-use Rattle.rules.specs.Tables.{by}
 use Rattle.rules.specs.Says.{seen}
 use Rattle.rules.specs.Calls.{initial_says, step_says, draw_says}
 use Rattle.rules.specs.declared.Event.{Event}
 use Rattle.rules.specs.declared.Setting.{Setting}
 use Rattle.parsing.specs.Lines.{read_first, read_later}
 use Rattle.parsing.specs.declared.Entry.{Entry}
-use Rattle.parsing.specs.declared.First.{First}
-use Rattle.parsing.specs.declared.First.TheVariants.{NoFirst, Opens}
 use Rattle.parsing.specs.declared.Line.TheVariants.{NoLine, DrawLine, MoveLine}
 use Rattle.printing.specs.Text.{Wrote, refusal_text}
 use Rattle.printing.proofs.Writing.{wider}
@@ -29,15 +27,16 @@ use Rattle.referee.specs.Match.{opened, drawn_turn, moved_turn, asked, begin_say
 use Rattle.referee.specs.declared.Desk.{Desk}
 use Rattle.referee.specs.declared.Turned.{Turned}
 use Rattle.referee.proofs.Playing.{refused_line, turn_over, turn_on, stays, moves_on, words_fit, close_begun, close_new, line_begun, line_new}
+use Rattle.rules.specs.declared.refusal.Refusal.TheVariants as Refusal
 
 module _ (m : Match) (old out exit : List ℕ) (r : Turned) where
   -- ---- the first line
 
-  pub begin_stops : (line : List ℕ) (room : ℕ) (f : First) → f ≡ read_first line → f ≡ NoFirst → Stops m 32 out exit r → Plays (begin_says line room) m old old out exit r
+  pub begin_stops : (line : List ℕ) (room : ℕ) (f : Option Setting) → f ≡ read_first line → f ≡ None → Stops m 32 out exit r → Plays (begin_says line room) m old old out exit r
   unfolding begin_says
-  begin_stops line room f p q s = rw (sym p ∙ q) (refused_line m (by 32) old out exit r s)
+  begin_stops line room f p q s = rw (sym p ∙ q) (refused_line m Refusal.Line old out exit r s)
 
-  pub begin_opens : (new line : List ℕ) (f : First) (s : Setting) → f ≡ read_first line → f ≡ Opens s
+  pub begin_opens : (new line : List ℕ) (f : Option Setting) (s : Setting) → f ≡ read_first line → f ≡ Some s
       → Plays (seen (opened s) (initial_says s (length old))) m old new out exit r → Plays (begin_says line (length old)) m old new out exit r
   unfolding begin_says
   begin_opens new line f s p q plays = rw (sym p ∙ q) plays
@@ -46,7 +45,7 @@ module _ (m : Match) (old out exit : List ℕ) (r : Turned) where
 
   module _ (w : List ℕ) (room cells : ℕ) where
     pub turn_stops : (line : List ℕ) → m.over ≡ true → Stops m 33 out exit r → Plays (turn_says m w line room cells) m old old out exit r
-    turn_stops line o s = rw (turn_over m w line room cells o) (refused_line m (by 33) old out exit r s)
+    turn_stops line o s = rw (turn_over m w line room cells o) (refused_line m Refusal.Over old out exit r s)
 
     pub turn_plays : (new line : List ℕ) → m.over ≡ false → (n : ℕ) → n ≡ snakes_of m → (e : Entry) → e ≡ read_later n line
         → Plays (asked m w room cells e) m old new out exit r → Plays (turn_says m w line room cells) m old new out exit r
@@ -54,7 +53,7 @@ module _ (m : Match) (old out exit : List ℕ) (r : Turned) where
 
     module _ (e : Entry) where
       pub entry_none : e.line ≡ NoLine → Stops m 32 out exit r → Plays (asked m w room cells e) m old old out exit r
-      entry_none q s = rw q (refused_line m (by 32) old out exit r s)
+      entry_none q s = rw q (refused_line m Refusal.Line old out exit r s)
 
       pub entry_draw : (new : List ℕ) (i : ℕ) → e.line ≡ DrawLine i → Plays (seen (drawn_turn m) (draw_says w i room cells)) m old new out exit r
           → Plays (asked m w room cells e) m old new out exit r

@@ -6,7 +6,7 @@ ghost use Rattle.referee.specs.Match.{line_says, close_text, Plays};
 use crate::turns::{begin, turn};
 use crate::{Desk, Turned};
 use printing::put_refusal;
-use rules::{Limit, Setting};
+use rules::{Setting};
 use standing::{new_match, put_end};
 
 // Before the first line.
@@ -18,9 +18,9 @@ pub fn new_desk() -> Desk
         grid_size: 0,
         initial_length: 0,
         play_to_last: false,
-        win_food_lead: Limit::Unset,
+        win_food_lead: None,
         initial_food_count: 0,
-        max_ticks: Limit::Unset,
+        max_ticks: None,
     };
     let game = new_match(setting);
     Desk {

@@ -10,27 +10,17 @@ ghost use Rattle.standing.specs.Standing.{moved, snakes_of};
 use crate::Turned;
 use events::no_events;
 use lists::word_at;
-use parsing::{Entry, First, Line, read_first, read_later};
+use parsing::{Entry, Line, read_first, read_later};
 use printing::put_refusal;
-use rules::{Answer, Event, Setting};
+use rules::{Event, Refusal, Setting};
 use standing::{Match, after_move, events_shown, new_match, put_line, snakes_of};
 
-// The number of a refusal.
-fn number_of(a: Answer) -> u64
-    ensures { result ≡ refusal_in (says a) }
-{
-    match a {
-        Answer::Done(_) => 0,
-        Answer::Refused(r) => r.number as u64,
-    }
-}
-
 // Prints a refusal, and the match ends there.
-fn stop(m: Match, out: &mut [u8], k: u64) -> Turned
+fn stop(m: Match, out: &mut [u8], why: Refusal) -> Turned
     requires { 462 ≤ length out.old }
-    ensures { Stops m k out.old out.new result }
+    ensures { Stops m (code_of why) out.old out.new result }
 {
-    let text = put_refusal(out, k);
+    let text = put_refusal(out, u64::from(why.number()));
     Turned {
         more: false,
         game: m,
@@ -67,7 +57,7 @@ fn open(m: Match, setting: Setting, next: &mut [u16], out: &mut [u8]) -> Turned
     ensures { Plays (seen (opened setting) (initial_says setting (length next.old))) m next.old next.new out.old out.new result }
 {
     let answer = arena::initial_state(setting, next);
-    let Answer::Done(words) = answer else {
+    let Ok(words) = answer else {
         return stop(m, out, number_of(answer));
     };
     show(
@@ -93,7 +83,7 @@ fn play_draw(
 {
     let d = arena::draw(image, index, next, list);
     let answer = d.answer;
-    let Answer::Done(words) = answer else {
+    let Ok(words) = answer else {
         return stop(m, out, number_of(answer));
     };
     show(m, b'd', false, &next[0..words], no_events(), out)
@@ -116,7 +106,7 @@ fn play_move(m: Match, image: &[u16], acts: &[u64], next: &mut [u16], out: &mut 
     let setting = m.setting;
     let s = arena::step(setting, image, acts, next);
     let answer = s.answer;
-    let Answer::Done(words) = answer else {
+    let Ok(words) = answer else {
         return stop(m, out, number_of(answer));
     };
     let events = s.events;
@@ -138,7 +128,7 @@ fn play_entry(
 {
     let line = e.line;
     match line {
-        Line::NoLine => stop(m, out, 32),
+        Line::NoLine => stop(m, out, Refusal::Line),
         Line::DrawLine(index) => play_draw(m, image, index, next, list, out),
         Line::MoveLine => {
             let acts = e.acts;
@@ -153,8 +143,8 @@ pub fn begin(m: Match, line: &[u8], next: &mut [u16], out: &mut [u8]) -> Turned
     ensures { Plays (begin_says line.now (length next.old)) m next.old next.new out.old out.new result }
 {
     let first = read_first(line);
-    let First::Opens(setting) = first else {
-        return stop(m, out, 32);
+    let Some(setting) = first else {
+        return stop(m, out, Refusal::Line);
     };
     open(m, setting, next, out)
 }
@@ -172,7 +162,7 @@ pub fn turn(
     ensures { Plays (turn_says m image.now line.now (length next.old) (length list.old)) m next.old next.new out.old out.new result }
 {
     if m.over {
-        return stop(m, out, 33);
+        return stop(m, out, Refusal::Over);
     }
     let n = snakes_of(m);
     let e = read_later(line, n);

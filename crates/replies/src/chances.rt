@@ -3,12 +3,12 @@ use crate::buffers::{PATTERN, kept};
 use crate::fields::{NOWHERE, last_words, words_in};
 use crate::reply::{NO_CALL, Reply, number, refused};
 use crate::writing::{end, put, put_words, refuse};
-use rules::{Answer, Drawn, Number};
+use rules::{Drawn, Refusal};
 
-pub fn outcome(answer: Number) -> Reply {
+pub fn outcome(answer: Result<u64, Refusal>) -> Reply {
     match answer {
-        Number::Value(v) => number(v),
-        Number::Refused(r) => refused(r),
+        Ok(v) => number(v),
+        Err(r) => refused(r),
     }
 }
 
@@ -27,17 +27,17 @@ pub fn rank(s: &[u8], words: &mut [u16]) -> Reply {
     outcome(arena::rank(&words[0..n], &list[0..k]))
 }
 
-fn put_draw(text: &mut [u8], at: usize, drawn: Drawn, out: &[u16], list: &[u16]) -> usize {
+fn put_draw(text: &mut [u8], at: usize, drawn: Result<Drawn, Refusal>, out: &[u16], list: &[u16]) -> usize {
     let k = drawn.cells;
     let answer = drawn.answer;
     match answer {
-        Answer::Done(n) => {
+        Ok(n) => {
             let a = put(text, at, b'a');
             let b = put_words(text, a, out, n);
             let c = put_words(text, b, list, k);
             end(text, c, kept(out, n) & kept(list, k))
         }
-        Answer::Refused(r) => refuse(text, at, r, kept(out, 0) & kept(list, 0)),
+        Err(r) => refuse(text, at, r, kept(out, 0) & kept(list, 0)),
     }
 }
 

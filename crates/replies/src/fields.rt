@@ -2,7 +2,7 @@
 ghost use Rattle.std.specs.Prelude.{◌≤◌, length};
 
 use events::cause_in;
-use parsing::{Num, next_number};
+use parsing::{next_number};
 use rules::Event;
 
 // Where no field starts: what follows one that is none. Above every length.
@@ -26,7 +26,7 @@ pub fn numbers_in(s: &[u8], from: usize, values: &mut [u64]) -> usize {
         }
         let got = next_number(s, at);
         let num = got.num;
-        let Num::Reads(v) = num else {
+        let Some(v) = num else {
             return NOWHERE;
         };
         values[k] = v;
@@ -46,7 +46,7 @@ fn each_word(s: &[u8], from: usize, words: &mut [u16]) -> usize {
         }
         let got = next_number(s, at);
         let num = got.num;
-        let Num::Reads(v) = num else {
+        let Some(v) = num else {
             return NOWHERE;
         };
         if 65535 < v {

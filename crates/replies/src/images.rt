@@ -3,13 +3,12 @@ use crate::reply::{NOTHING, Reply, refused};
 use crate::writing::{put, put_number, put_words};
 use layout::start_at;
 use lists::word_at;
-use rules::Verdict;
 
 // `x W`
 pub fn check_image(words: &[u16]) -> Reply {
     match arena::check_image(words) {
-        Verdict::Accepted => NOTHING,
-        Verdict::Refused(r) => refused(r),
+        Ok(()) => NOTHING,
+        Err(r) => refused(r),
     }
 }
 

@@ -3,10 +3,10 @@ use crate::fields::numbers_in;
 use crate::reply::{NO_CALL, Reply, number, refused};
 use grid::action_of;
 use image::{heading_of, number_of};
-use parsing::{Grid, grid_in};
-use rules::Space;
+use parsing::{grid_in};
+use rules::{Refusal, Space};
 
-fn shape(space: Space) -> Reply {
+fn shape(space: Result<Space, Refusal>) -> Reply {
     match space {
         Space::Box {
             planes,
@@ -19,16 +19,16 @@ fn shape(space: Space) -> Reply {
             count: 3,
             numbers: [planes as u64, rows as u64, cols as u64, 0, 0, 0, 0, 0],
         },
-        Space::Discrete(n) => number(n as u64),
-        Space::Refused(r) => refused(r),
+        Ok(Space::Discrete(n)) => number(n as u64),
+        Err(r) => refused(r),
     }
 }
 
 // `p GRID`
 pub fn observation_space(s: &[u8]) -> Reply {
     match grid_in(s) {
-        Grid::NoGrid => NO_CALL,
-        Grid::GridIs(grid) => shape(arena::observation_space(grid)),
+        None => NO_CALL,
+        Some(grid) => shape(arena::observation_space(grid)),
     }
 }
 

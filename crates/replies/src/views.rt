@@ -4,7 +4,7 @@ use crate::fields::{NOWHERE, event_of, is_event};
 use crate::marks::event_numbers;
 use crate::reply::{NO_CALL, Reply, number, refused};
 use crate::writing::{end, put, put_number, refuse};
-use rules::{Actor, Answer, Legal, LengthCell, Truncated};
+use rules::{Actor, Legal, Refusal};
 
 // A plane's number: 0 or 1, and `?` for any other.
 fn put_light(text: &mut [u8], at: usize, x: f32) -> usize {
@@ -31,15 +31,15 @@ fn put_lights(text: &mut [u8], from: usize, planes: &[f32], n: usize) -> usize {
     at
 }
 
-fn put_planes(text: &mut [u8], at: usize, answer: Answer, planes: &[f32]) -> usize {
+fn put_planes(text: &mut [u8], at: usize, answer: Result<usize, Refusal>, planes: &[f32]) -> usize {
     match answer {
-        Answer::Done(n) => {
+        Ok(n) => {
             let a = put(text, at, b'a');
             let b = put_number(text, a, n as u64);
             let c = put_lights(text, b, planes, n);
             end(text, c, planes_kept(planes, n))
         }
-        Answer::Refused(r) => refuse(text, at, r, planes_kept(planes, 0)),
+        Err(r) => refuse(text, at, r, planes_kept(planes, 0)),
     }
 }
 
@@ -58,35 +58,35 @@ pub fn observe_line(values: [u64; 9], words: &[u16], text: &mut [u8], at: usize)
 // `t W`
 pub fn actor(words: &[u16]) -> Reply {
     match arena::actor(words) {
-        Actor::Chance => number(1),
-        Actor::Simultaneous => number(0),
-        Actor::Refused(r) => refused(r),
+        Ok(Actor::Chance) => number(1),
+        Ok(Actor::Simultaneous) => number(0),
+        Err(r) => refused(r),
     }
 }
 
 // `l AGENT W`
 pub fn legal(agent: u64, words: &[u16]) -> Reply {
     match arena::legal_actions(words, agent) {
-        Legal::AnyAction => Reply {
+        Ok(Legal::AnyAction) => Reply {
             letter: b'a',
             count: 4,
             numbers: [3, 0, 1, 2, 0, 0, 0, 0],
         },
-        Legal::NoAction => number(0),
-        Legal::Refused(r) => refused(r),
+        Ok(Legal::NoAction) => number(0),
+        Err(r) => refused(r),
     }
 }
 
 // `z W`
 pub fn length_cell(words: &[u16]) -> Reply {
     match arena::length_cell(words) {
-        LengthCell::Key(key) => Reply {
+        Ok(Some(key)) => Reply {
             letter: b'a',
             count: 2,
             numbers: [1, key, 0, 0, 0, 0, 0, 0],
         },
-        LengthCell::NoKey => number(0),
-        LengthCell::Refused(r) => refused(r),
+        Ok(None) => number(0),
+        Err(r) => refused(r),
     }
 }
 
@@ -97,11 +97,11 @@ pub fn truncation(values: [u64; 9], words: &[u16]) -> Reply {
     }
     let event = event_of(&values[1..9]);
     match arena::truncation(words, values[0], event) {
-        Truncated::Marked(marked) => Reply {
+        Ok(marked) => Reply {
             letter: b'a',
             count: 8,
             numbers: event_numbers(marked),
         },
-        Truncated::Refused(r) => refused(r),
+        Err(r) => refused(r),
     }
 }

@@ -1,4 +1,5 @@
 -- The halves of the check put together, and what `validate` says. Assumes nothing.
+use Rattle.std.specs.Prelude.{Ok, Err}
 use Prim.Native.Nat.{ℕ}
 use mathlib.Core.Path.{◌≡◌, sym, ap, ◌∙◌}
 use mathlib.Core.List.{List}
@@ -6,13 +7,10 @@ use Rattle.lists.specs.Choice.{first_of}
 use Rattle.lists.proofs.Tests.{first_some}
 use Rattle.rules.specs.Setting.{setting_check}
 use Rattle.rules.specs.SettingParts.{limits_check, place_check}
-use Rattle.rules.specs.Tables.{by}
-use Rattle.rules.specs.Says.{first, gives}
+use Rattle.rules.specs.Says.{Says, first}
 use Rattle.rules.specs.Promises.{Validates}
 use Rattle.rules.specs.declared.Setting.{Setting}
-use Rattle.rules.specs.declared.Refusal.{Refusal}
-use Rattle.rules.specs.declared.Verdict.{Verdict}
-use Rattle.rules.specs.declared.Verdict.TheVariants.{Refused}
+use Rattle.rules.specs.declared.refusal.Refusal.{Refusal}
 use Rattle.rules.proofs.Tables.{setting_says_lem, refuses_first}
 use Rattle.rules.proofs.SettingParts.{check_parts}
 use Rattle.placed.specs.Tested.{Tested}
@@ -36,8 +34,8 @@ module _ (s : Setting) (k : ℕ) (e : k ≡ limits_check s) where
 -- ---- what `validate` says, by the half that decides
 
 module _ (s : Setting) (k : ℕ) (e : k ≡ limits_check s) where
-  pub verdict_first : (k ≡ 0 → ⊥) → (x : Refusal) → x ≡ by k → Validates s (Refused x)
-  verdict_first h x q = record { answer = refuses_first k x (gives tt) q h ∙ ap (λ (j : ℕ). first j (gives tt)) (check_first s k e h) ∙ sym (setting_says_lem s) }
+  pub verdict_first : (k ≡ 0 → ⊥) → (x : Refusal) → x ≡ by k → Validates s (Err x)
+  verdict_first h x q = record { answer = refuses_first k x (Ok tt) q h ∙ ap (λ (j : ℕ). first j (Ok tt)) (check_first s k e h) ∙ sym (setting_says_lem s) }
 
-  pub verdict_second : k ≡ 0 → (n : ℕ) → n ≡ place_check s.grid_size s.num_snakes s.initial_length s.initial_food_count → (v : Verdict) → Verdicts n v → Validates s v
-  verdict_second z n q v f = record { answer = f.says ∙ ap (λ (j : ℕ). first j (gives tt)) (check_second s k e z n q) ∙ sym (setting_says_lem s) }
+  pub verdict_second : k ≡ 0 → (n : ℕ) → n ≡ place_check s.grid_size s.num_snakes s.initial_length s.initial_food_count → (v : Says (Unit {0})) → Verdicts n v → Validates s v
+  verdict_second z n q v f = record { answer = f.says ∙ ap (λ (j : ℕ). first j (Ok tt)) (check_second s k e z n q) ∙ sym (setting_says_lem s) }

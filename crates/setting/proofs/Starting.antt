@@ -1,4 +1,5 @@
 -- From the words of the initial state to the promise of the call. Assumes nothing.
+use Rattle.std.specs.Prelude.{Ok, Err}
 use Prim.Native.Nat.{ℕ, ◌+◌, ◌-◌, ◌*◌, ◌<◌, ◌≤◌}
 use native.Mathlib.Nat.{sub-zero}
 use native.Mathlib.Omega.{arith}
@@ -21,33 +22,31 @@ use Rattle.lists.proofs.Writes.{write_front}
 use Rattle.rules.specs.Image.{image_of}
 use Rattle.rules.specs.Calls.{initial_says}
 use Rattle.rules.specs.Promises.{Starts}
-use Rattle.rules.specs.Says.{refuses, gives, first, seen, lent, says}
-use Rattle.rules.specs.Tables.{by}
+use Rattle.rules.specs.Says.{Says, first, seen, lent}
 use Rattle.rules.specs.Setting.{side_of, setting_check, initial_state}
 use Rattle.rules.specs.SettingParts.{cells_of, start_cells, start_record, start_contents}
-use Rattle.rules.specs.declared.Answer.{Answer}
-use Rattle.rules.specs.declared.Answer.TheVariants.{Done, Refused}
 use Rattle.rules.specs.declared.Setting.{Setting}
-use Rattle.rules.specs.declared.Refusal.{Refusal}
+use Rattle.rules.specs.declared.refusal.Refusal.{Refusal}
 use Rattle.rules.proofs.Tables.{start_for, initial_says_lem, first_refuses}
 use Rattle.rules.proofs.Facts.{square_le}
 use Rattle.rules.proofs.InitialFacts.{cells_long, start_image}
 use Rattle.rules.proofs.SettingFacts.{accepts}
 use Rattle.setting.specs.Starts.{Startable, Room}
 use Rattle.placed.specs.Tested.{Tested}
+use Rattle.rules.specs.declared.refusal.Refusal.TheVariants as Refusal
 
 module _ (s : Setting) (old : List ℕ) where
-  refused : (new : List ℕ) (r : Answer) (k : ℕ) → initial_says s (length old) ≡ refuses (by k) → new ≡ old → r ≡ Refused (by k) → Starts s old new r
+  refused : (new : List ℕ) (r : Says ℕ) (k : ℕ) → initial_says s (length old) ≡ Err (by k) → new ≡ old → r ≡ Err (by k) → Starts s old new r
   refused new r k e n q =
       record {
-        answer = ap says q ∙ sym (ap (seen (λ t. length (image_of t))) e);
+        answer = q ∙ sym (ap (seen (λ t. length (image_of t))) e);
         words = n ∙ sym (ap (lent image_of old) e);
       }
 
-  pub starts_refused : (k : ℕ) (cells kept left : List ℕ) → Tested (setting_check s) cells kept left k → (k ≡ 0 → ⊥) → (x : Refusal) → x ≡ by k → Starts s old old (Refused x)
+  pub starts_refused : (k : ℕ) (cells kept left : List ℕ) → Tested (setting_check s) cells kept left k → (k ≡ 0 → ⊥) → (x : Refusal) → x ≡ by k → Starts s old old (Err x)
   starts_refused k cells kept left t h x q =
       let r = start_for s (length old) in
-      refused old (Refused x) k (initial_says_lem s (length old) ∙ ap (λ (j : ℕ). first j r) (sym t.says) ∙ first_refuses k r h) refl (ap Refused q)
+      refused old (Err x) k (initial_says_lem s (length old) ∙ ap (λ (j : ℕ). first j r) (sym t.says) ∙ first_refuses k r h) refl (ap Err q)
 
 module _ (s : Setting) (e : setting_check s ≡ 0) where
   total_is : length (start_cells s) ≡ s.num_snakes * s.initial_length
@@ -79,11 +78,11 @@ module _ (s : Setting) (cells : List ℕ) (p : Startable s cells) (b : ℕ) (pas
   count_is : b + length cells ≡ length (image_of (initial_state s))
   count_is = omega (arith, ap (λ (l : List ℕ). length l) p.placed, image_long s p.accepted)
 
-  pub starts_short : (old : List ℕ) → length old < b + length cells → (x : Refusal) → x ≡ by 29 → Starts s old old (Refused x)
+  pub starts_short : (old : List ℕ) → length old < b + length cells → (x : Refusal) → x ≡ Refusal.Buffer → Starts s old old (Err x)
   starts_short old h x q =
-      refused s old old (Refused x) 29
+      refused s old old (Err x) 29
       (rw (initial_says_lem s (length old), p.accepted, lt-ltb (length old) (length (image_of (initial_state s))) (omega (arith, count_is))))
-      refl (ap Refused q)
+      refl (ap Err q)
 
   -- a signed number is handed on as the machine reads it back
   module _ (f : SFits w32 s.grid_size) (g : ℕ) (side : g ≡ side_of (to_z w32 (of_z w32 s.grid_size))) where
@@ -103,16 +102,16 @@ module _ (s : Setting) (cells : List ℕ) (p : Startable s cells) (b : ℕ) (pas
             words = omega arith;
           }
 
-      given : initial_says s (length old) ≡ gives (initial_state s)
+      given : initial_says s (length old) ≡ Ok (initial_state s)
       given = rw (initial_says_lem s (length old), p.accepted, le-ltb (length old) (length (image_of (initial_state s))) (omega (arith, count_is)))
 
       pub starts_done : (new : List ℕ)
           → new ≡ write_at old 0 ((s.num_snakes ∷ g ∷ s.initial_food_count ∷ bit (ltb 0 s.initial_food_count) ∷ 0 ∷ []) ++ (concat_below s.num_snakes (start_record s.num_snakes s.initial_length) ++ cells))
-          → Starts s old new (Done (b + length cells))
+          → Starts s old new (Ok (b + length cells))
       starts_done new w =
           let r = concat_below s.num_snakes (start_record s.num_snakes s.initial_length) in
           record {
-            answer = ap gives count_is ∙ sym (ap (seen (λ t. length (image_of t))) given);
+            answer = ap Ok count_is ∙ sym (ap (seen (λ t. length (image_of t))) given);
             words =
                 w
                 ∙ ap (λ (k : ℕ). write_at old 0 ((s.num_snakes ∷ k ∷ s.initial_food_count ∷ bit (ltb 0 s.initial_food_count) ∷ 0 ∷ []) ++ (r ++ cells))) side_is

@@ -6,7 +6,7 @@ use events::no_events;
 use lists::word_at;
 use page_file::{load, moves_to, put_entry};
 use referee::Desk;
-use rules::{Answer, Setting};
+use rules::{Setting};
 use std::io::{Read, Seek};
 
 // Whether it is known what leads to the page, and whether the line could be written.
@@ -57,7 +57,7 @@ fn are_same(a: &[u16], b: &[u16]) -> bool {
 fn put_start(setting: Setting, image: &[u16]) -> Shown {
     let mut start = [0u16; 9253];
     let answer = arena::initial_state(setting, &mut start);
-    let Answer::Done(words) = answer else {
+    let Ok(words) = answer else {
         return put_unknown(image);
     };
     if 9253 < words {

@@ -34,17 +34,17 @@ fn has_arg(rt: &HostRuntime, i: usize, text: &mut [u8]) -> bool {
 }
 
 // The page asked for: the one argument, a number.
-fn asked(rt: &HostRuntime) -> Num {
+fn asked(rt: &HostRuntime) -> Option<u64> {
     let mut text = io::buffer();
     if has_arg(rt, 2, &mut text) {
-        return Num::NoNumber;
+        return None;
     }
     let Ok(n) = rt.arg(1, &mut text) else {
-        return Num::NoNumber;
+        return None;
     };
     let got = parsing::next_number(&text[..n], 0);
     if got.next <= n {
-        return Num::NoNumber;
+        return None;
     }
     got.num
 }
@@ -138,7 +138,7 @@ fn show_in_all(rt: &HostRuntime, page: u64) -> Fault {
 
 fn show(rt: &HostRuntime) -> Fault {
     let asked = asked(rt);
-    let Num::Reads(page) = asked else {
+    let Some(page) = asked else {
         return Fault::NoPage;
     };
     match open(rt) {

@@ -1,5 +1,6 @@
 -- Exactly the matches that the lead ends have another `p` line than 01 gave them, 1 for the longer snake and 2 for the other: of every turn that a
 -- replay comes to, and so of every output. Assumes nothing.
+use Rattle.std.specs.Prelude.{Option, None, Ok, Err, Some}
 use Prim.Native.Nat.{ℕ, zero, suc, ◌+◌, ◌-◌, ◌<◌}
 use native.Mathlib.Omega.{arith}
 use mathlib.Core.Path.{◌≡◌, refl, sym, ap, ◌∙◌}
@@ -20,12 +21,10 @@ use Rattle.rules.specs.Setting.{setting_check, initial_state}
 use Rattle.rules.specs.SettingFacts.{Accepts}
 use Rattle.rules.specs.Step.{Moved, Transition, stays, moved_of, cause_of, after, transition_of, stepped}
 use Rattle.rules.specs.Chance.{drawn, after_draw}
-use Rattle.rules.specs.Tables.{by}
-use Rattle.rules.specs.Says.{Says, refuses, gives, first, seen}
+use Rattle.rules.specs.Says.{Says, first, seen}
 use Rattle.rules.specs.Calls.{initial_says, step_says, draw_says}
 use Rattle.rules.specs.Orders.{initial_order, step_order, draw_order}
 use Rattle.rules.specs.declared.Cause.{Cause}
-use Rattle.rules.specs.declared.Cause.TheVariants.{NoCause}
 use Rattle.rules.specs.declared.Event.{Event}
 use Rattle.rules.specs.declared.Setting.{Setting}
 use Rattle.rules.proofs.Image.{state_back}
@@ -34,8 +33,6 @@ use Rattle.rules.proofs.SettingFacts.{accepts}
 use Rattle.rules.proofs.Tables.{given_is, initial_says_lem, start_for}
 use Rattle.parsing.specs.Lines.{read_first, read_later}
 use Rattle.parsing.specs.Split.{lines_of}
-use Rattle.parsing.specs.declared.First.{First}
-use Rattle.parsing.specs.declared.First.TheVariants.{NoFirst, Opens}
 use Rattle.parsing.specs.declared.Line.{Line}
 use Rattle.parsing.specs.declared.Line.TheVariants.{NoLine, DrawLine, MoveLine}
 use Rattle.printing.specs.Text.{digits_up_to, decimal_text, refusal_text, placings_text}
@@ -46,6 +43,8 @@ use Rattle.referee.specs.Match.{Turn, opened, opened_by, begin_says, drawn_turn,
 use Rattle.referee.proofs.Saying.{snakes_kept}
 use Rattle.theorems.specs.Lead.{leads_in, led_in, by_lead, end_before, two_places, Reached, begun, taken, Ending, refused, placed, place_of, Placed}
 use Rattle.theorems.proofs.Lead.{Leading, leading, found, some_one, corpse_unled, living_lost, lead_terminal}
+use Rattle.rules.specs.declared.refusal.Refusal.TheVariants as Refusal
+use Rattle.rules.specs.Refusals.{code_of}
 
 -- ---- what is known of a match m and its state t
 
@@ -58,7 +57,7 @@ record Known (m : Match) (t : State) : Type 0 where
 
 -- who leads, in a state
 lead_facts : (s : Setting) (t : State) (i j : ℕ) → leads_in s t i j ≡ true → Leading (count t) s.win_food_lead (snake_of t) i j
-lead_facts s t i j e = leading (count t) (λ _. NoCause) (snake_of t) s.win_food_lead i j e
+lead_facts s t i j e = leading (count t) (λ _. None) (snake_of t) s.win_food_lead i j e
 
 -- one who is led makes it the end by the lead
 led_ends : (s : Setting) (t : State) (i : ℕ) → i < count t → led_in s t i ≡ true → by_lead s t ≡ true
@@ -119,7 +118,7 @@ survives_in : (s : Setting) (g n : ℕ) (food : List ℕ) (m : ℕ → Moved) (i
     → ((m i).moves ≡ true) × ((get_or (transition_of s g n food m).events i blank).died ≡ false)
 unfolding transition_of
 survives_in s g n food m i h e =
-    let c : ℕ → Cause = λ j. get_or (each_below n (cause_of g n m)) j NoCause in
+    let c : ℕ → Option Cause = λ j. get_or (each_below n (cause_of g n m)) j None in
     let f : ((m i).moves && not (dies (c i))) ≡ true = sym (ap (λ (z : Snake). z.alive) (each_at n (λ j. after g (m j) (c j)) nobody i h)) ∙ e in (
       and_left (m i).moves (not (dies (c i))) f,
       ap (λ (x : Event). x.died) (each_at n _ blank i h) ∙ not-true (dies (c i)) (and_right (m i).moves (not (dies (c i))) f),
@@ -174,26 +173,26 @@ module _ (m : Match) (t : State) (acts : List ℕ) (k : Known m t) where
 -- ---- every turn that a replay comes to
 
 data Seen {A B : Type 0} (f : A → B) (x : Says A) (b : B) : Type 0 where
-  saw : (a : A) → x ≡ gives a → f a ≡ b → Seen f x b
+  saw : (a : A) → x ≡ Ok a → f a ≡ b → Seen f x b
 
-seen_gives : {A B : Type 0} (f : A → B) (x : Says A) (b : B) → seen f x ≡ gives b → Seen f x b
-seen_gives f (refuses k) b e = let z : ◌≡◌ {A = ℕ} 0 1 = cc in absurd (omega arith)
-seen_gives f (gives a) b e = saw a refl cc
+seen_gives : {A B : Type 0} (f : A → B) (x : Says A) (b : B) → seen f x ≡ Ok b → Seen f x b
+seen_gives f (Err k) b e = let z : ◌≡◌ {A = ℕ} 0 1 = cc in absurd (omega arith)
+seen_gives f (Ok a) b e = saw a refl cc
 
-check_passed : (k : ℕ) (r : Says State) (t : State) → first k r ≡ gives t → k ≡ 0
+check_passed : (k : ℕ) (r : Says State) (t : State) → first k r ≡ Ok t → k ≡ 0
 check_passed zero r t e = refl
 check_passed (suc k) r t e = let z : ◌≡◌ {A = ℕ} 0 1 = cc in absurd (omega arith)
 
-opens : (x : First) (room : ℕ) (t : Turn) → opened_by x room ≡ gives t → Known t.game t.next
+opens : (x : Option Setting) (room : ℕ) (t : Turn) → opened_by x room ≡ Ok t → Known t.game t.next
 unfolding initial_says
-opens NoFirst room t e = let z : ◌≡◌ {A = ℕ} 0 1 = cc in absurd (omega arith)
-opens (Opens s) room t e = elim (seen_gives (opened s) (initial_says s room) t e) [
+opens None room t e = let z : ◌≡◌ {A = ℕ} 0 1 = cc in absurd (omega arith)
+opens (Some s) room t e = elim (seen_gives (opened s) (initial_says s room) t e) [
   | saw a p q ↦
       let z = check_passed (setting_check s) (start_for s room) a (sym (initial_says_lem s room) ∙ p) in
       rw (← q, ← given_is (initial_order s room) (initial_state s) a p) (start_known s (accepts s z))
 ]
 
-asks : (m : Match) (t : State) (room cells : ℕ) (x : Line) (acts : List ℕ) (u : Turn) → Known m t → asked_by m (image_of t) room cells x acts ≡ gives u → Known u.game u.next
+asks : (m : Match) (t : State) (room cells : ℕ) (x : Line) (acts : List ℕ) (u : Turn) → Known m t → asked_by m (image_of t) room cells x acts ≡ Ok u → Known u.game u.next
 unfolding draw_says step_says moved_turn
 asks m t room cells NoLine acts u k e = let z : ◌≡◌ {A = ℕ} 0 1 = cc in absurd (omega arith)
 asks m t room cells (DrawLine i) acts u k e =
@@ -212,7 +211,7 @@ asks m t room cells MoveLine acts u k e =
           rw (← q, ← n, state_back t) (step_known m t l k)
     ]
 
-before_33 : (b : Bool) (x : Says Turn) (u : Turn) → (refuses (by 33) if b else x) ≡ gives u → x ≡ gives u
+before_33 : (b : Bool) (x : Says Turn) (u : Turn) → (Err Refusal.Over if b else x) ≡ Ok u → x ≡ Ok u
 before_33 true x u e = let z : ◌≡◌ {A = ℕ} 0 1 = cc in absurd (omega arith)
 before_33 false x u e = e
 
@@ -361,7 +360,7 @@ module _ (m : Match) (t : State) (k : Known m t) where
     second = longer_second;
     others = same_line;
     living = λ e i h a. as_before i h (none_led s t i h e) ∙ lives_first i h a;
-    dead = λ i h a. as_before i h (some_false (λ j. leads_in s t j i) (count t) (λ j _. corpse_unled (count t) (λ _. NoCause) (snake_of t) s.win_food_lead j i a));
+    dead = λ i h a. as_before i h (some_false (λ j. leads_in s t j i) (count t) (λ j _. corpse_unled (count t) (λ _. None) (snake_of t) s.win_food_lead j i a));
   }
 
 pub places_by_lead : (t : Turn) → Reached t → Placed t.game t.next
@@ -369,15 +368,15 @@ places_by_lead t r = placed_by t.game t.next (known t r)
 
 -- ---- every output
 
-ends_on : (lines : List (List ℕ)) (x : Says Turn) → ((t : Turn) → x ≡ gives t → Reached t) → Ending (play_on lines x)
+ends_on : (lines : List (List ℕ)) (x : Says Turn) → ((t : Turn) → x ≡ Ok t → Reached t) → Ending (play_on lines x)
 unfolding play_on
-ends_on [] (refuses k) r = refused [] k refl
-ends_on [] (gives t) r = placed t.text t (r t refl) refl
-ends_on (line ∷ lines) (refuses k) r = refused [] k refl
-ends_on (line ∷ lines) (gives t) r =
+ends_on [] (Err k) r = refused [] k refl
+ends_on [] (Ok t) r = placed t.text t (r t refl) refl
+ends_on (line ∷ lines) (Err k) r = refused [] k refl
+ends_on (line ∷ lines) (Ok t) r =
     let rest = ends_on lines (turn_says t.game (image_of t.next) line 9253 1024) (λ u e. taken t line 9253 1024 (r t refl) e) in
     elim rest [
-      | refused shown k q ↦ refused (t.text ++ shown) k (ap (λ (l : List ℕ). t.text ++ l) q ∙ sym (append_assoc t.text shown (refusal_text k.number)))
+      | refused shown k q ↦ refused (t.text ++ shown) k (ap (λ (l : List ℕ). t.text ++ l) q ∙ sym (append_assoc t.text shown (refusal_text code_of k)))
       | placed shown u v q ↦ placed (t.text ++ shown) u v (ap (λ (l : List ℕ). t.text ++ l) q ∙ sym (append_assoc t.text shown (end_text u.game)))
     ]
 
@@ -387,5 +386,5 @@ unfolding replay_of
 replay_ends input = go (lines_of input)
   where
     go : (lines : List (List ℕ)) → Ending (played lines)
-    go [] = refused [] (by 32) refl
+    go [] = refused [] Refusal.Line refl
     go (line ∷ lines) = ends_on lines (begin_says line 9253) (λ t e. begun line 9253 e)

@@ -1,6 +1,6 @@
 -- Not held: nothing; held: at its place.
+use Rattle.std.specs.Prelude.{Some}
 use mathlib.Core.Path.{sym, ap, ◌∙◌}
-use Rattle.lists.specs.declared.Found.TheVariants.{At}
 use Rattle.lists.proofs.Search.{found_none, found_at, found_position}
 use Rattle.lists.proofs.find.Goals as goal
 
@@ -12,7 +12,7 @@ returns-in-Some c =
     let a = c.args in
     let h = sym c.holds.ensures ∙ c.if-not-holds.false in
     let e = c.in-Some.ensures ∙ found_position a.x a.list.now h in
-    ap At (cc) ∙ sym (found_at _ _ h)
+    ap Some (cc) ∙ sym (found_at _ _ h)
 
 pub returns-in-None : goal.returns-in-None
 returns-in-None c =

@@ -1,3 +1,4 @@
+use Rattle.std.specs.Prelude.{None}
 use Prim.Native.Nat.{ℕ, ◌+◌}
 use mathlib.Core.Path.{◌≡◌, sym, ap, ◌∙◌}
 use mathlib.Core.List.{List}
@@ -10,7 +11,6 @@ use Rattle.lists.specs.Below.{all_below, filled}
 use Rattle.lists.proofs.Below.{all_none, all_more, all_fails, filled_none, filled_more}
 use Rattle.parsing.proofs.Reading.{was_number, no_number}
 use Rattle.parsing.proofs.Cutting.{from_at}
-use Rattle.parsing.specs.declared.Num.TheVariants.{NoNumber}
 use Rattle.parsing.specs.Fields.{field_at, fields_of, pieces_from}
 use Rattle.parsing.specs.Numbers.{decimal_of}
 use Rattle.parsing.specs.Lines.{is_action, action, actions_in}
@@ -52,5 +52,5 @@ returns-in_default c =
     let s = c.args.s.now in
     let fs = fields_of s in
     let l = c.loop-k in
-    let e : decimal_of (field_at fs (l.k + 1)) ≡ NoNumber = ap decimal_of (sym (from_at 32 s l.at (l.k + 1) l.invariant.0.stands)) ∙ sym c.next_number-got.ensures.number ∙ c.in_default.is in
+    let e : decimal_of (field_at fs (l.k + 1)) ≡ None = ap decimal_of (sym (from_at 32 s l.at (l.k + 1) l.invariant.0.stands)) ∙ sym c.next_number-got.ensures.number ∙ c.in_default.is in
     c.no_entry.ensures ∙ rw (all_fails (is_action fs) c.args.n l.k (omega arith) (no_number (field_at fs (l.k + 1)) e))
