@@ -1,16 +1,17 @@
 // A line of the input, taken: the first one begins the match, the others make its turns. Each answer is taken apart, and a refusal stops.
 ghost use Rattle.std.specs.Prelude.{◌≡◌, ◌≤◌, length};
 ghost use Rattle.rules.specs.Image.{snakes_in};
-ghost use Rattle.rules.specs.Says.{says, seen};
+ghost use Rattle.rules.specs.Refusals.{code_of};
+ghost use Rattle.rules.specs.Says.{seen};
 ghost use Rattle.rules.specs.Calls.{initial_says, step_says, draw_says};
-ghost use Rattle.referee.specs.Match.{opened, drawn_turn, moved_turn, asked, begin_says, turn_says, refusal_in, Plays, Stops, Shows};
+ghost use Rattle.referee.specs.Match.{opened, drawn_turn, moved_turn, asked, begin_says, turn_says, Plays, Stops, Shows};
 ghost use Rattle.standing.specs.Shown.{events_shown};
 ghost use Rattle.standing.specs.Standing.{moved, snakes_of};
 
 use crate::Turned;
 use events::no_events;
 use lists::word_at;
-use parsing::{Entry, Line, read_first, read_later};
+use parsing::{Line, read_first, read_later};
 use printing::put_refusal;
 use rules::{Event, Refusal, Setting};
 use standing::{Match, after_move, events_shown, new_match, put_line, snakes_of};
@@ -56,9 +57,9 @@ fn open(m: Match, setting: Setting, next: &mut [u16], out: &mut [u8]) -> Turned
     requires { 462 ≤ length out.old }
     ensures { Plays (seen (opened setting) (initial_says setting (length next.old))) m next.old next.new out.old out.new result }
 {
-    let answer = arena::initial_state(setting, next);
-    let Ok(words) = answer else {
-        return stop(m, out, number_of(answer));
+    let words = match arena::initial_state(setting, next) {
+        Ok(words) => words,
+        Err(why) => return stop(m, out, why),
     };
     show(
         new_match(setting),
@@ -81,12 +82,10 @@ fn play_draw(
     requires { 462 ≤ length out.old }
     ensures { Plays (seen (drawn_turn m) (draw_says image.now index (length next.old) (length list.old))) m next.old next.new out.old out.new result }
 {
-    let d = arena::draw(image, index, next, list);
-    let answer = d.answer;
-    let Ok(words) = answer else {
-        return stop(m, out, number_of(answer));
-    };
-    show(m, b'd', false, &next[0..words], no_events(), out)
+    match arena::draw(image, index, next, list) {
+        Ok(drawn) => show(m, b'd', false, &next[..drawn.words], no_events(), out),
+        Err(why) => stop(m, out, why),
+    }
 }
 
 // A move's line: its events, and the match after it.
@@ -103,20 +102,16 @@ fn play_move(m: Match, image: &[u16], acts: &[u64], next: &mut [u16], out: &mut 
     requires { 462 ≤ length out.old }
     ensures { Plays (seen (moved_turn m) (step_says m.setting image.now acts.now (length next.old))) m next.old next.new out.old out.new result }
 {
-    let setting = m.setting;
-    let s = arena::step(setting, image, acts, next);
-    let answer = s.answer;
-    let Ok(words) = answer else {
-        return stop(m, out, number_of(answer));
-    };
-    let events = s.events;
-    show_move(m, s.terminal, &next[0..words], events, out)
+    match arena::step(m.setting, image, acts, next) {
+        Ok(made) => show_move(m, made.terminal, &next[..made.words], made.events, out),
+        Err(why) => stop(m, out, why),
+    }
 }
 
 // A line after the first, as it was read.
 fn play_entry(
     m: Match,
-    e: Entry,
+    line: Option<Line>,
     n: usize,
     image: &[u16],
     next: &mut [u16],
@@ -124,16 +119,12 @@ fn play_entry(
     out: &mut [u8],
 ) -> Turned
     requires { (n ≡ snakes_of m) × (n ≤ 8) × (462 ≤ length out.old) }
-    ensures { Plays (asked m image.now (length next.old) (length list.old) e) m next.old next.new out.old out.new result }
+    ensures { Plays (asked m image.now (length next.old) (length list.old) line) m next.old next.new out.old out.new result }
 {
-    let line = e.line;
     match line {
-        Line::NoLine => stop(m, out, Refusal::Line),
-        Line::DrawLine(index) => play_draw(m, image, index, next, list, out),
-        Line::MoveLine => {
-            let acts = e.acts;
-            play_move(m, image, &acts[0..n], next, out)
-        }
+        None => stop(m, out, Refusal::Line),
+        Some(Line::Draw(index)) => play_draw(m, image, index, next, list, out),
+        Some(Line::Move(acts)) => play_move(m, image, &acts[..n], next, out),
     }
 }
 
@@ -142,11 +133,10 @@ pub fn begin(m: Match, line: &[u8], next: &mut [u16], out: &mut [u8]) -> Turned
     requires { 462 ≤ length out.old }
     ensures { Plays (begin_says line.now (length next.old)) m next.old next.new out.old out.new result }
 {
-    let first = read_first(line);
-    let Some(setting) = first else {
-        return stop(m, out, Refusal::Line);
-    };
-    open(m, setting, next, out)
+    match read_first(line) {
+        Some(setting) => open(m, setting, next, out),
+        None => stop(m, out, Refusal::Line),
+    }
 }
 
 // A line after the first, in match m with this image: the next image in `next`, the cells drawn in `list`, the line in `out`.
@@ -165,6 +155,5 @@ pub fn turn(
         return stop(m, out, Refusal::Over);
     }
     let n = snakes_of(m);
-    let e = read_later(line, n);
-    play_entry(m, e, n, image, next, list, out)
+    play_entry(m, read_later(line, n), n, image, next, list, out)
 }
