@@ -4,9 +4,8 @@ ghost use Rattle.rules.specs.Promises.{Ranks};
 ghost use Rattle.strips.specs.Marks.{unmarked, Counted, Free};
 ghost use Rattle.chance.specs.Ranking.{Placed, Rankable, Ranked};
 
-use rules::Refusal;
-
 use outcomes::odds_of;
+use rules::Refusal;
 use strips::{count_strips, free_below, is_marked, take};
 
 // The place of a free cell among the free ones, which it then leaves.
@@ -52,7 +51,7 @@ pub fn rank_due(image: &[u16], list: &[u16]) -> Result<u64, Refusal>
     }
     let mut strips = [0u64; 16];
     let found = odds_of(image, &mut strips);
-    if found.count == 0 {
+    if found.count.is_none() {
         return Err(Refusal::Count);
     }
     if list.len() != found.size {

@@ -12,8 +12,8 @@ returns-then-image-eq0 c = search rank_23
 pub odds_of-found-requires : goal.odds_of-found-requires
 odds_of-found-requires c = search (rules, strips_blank)
 
-pub returns-then-found-eq0 : goal.returns-then-found-eq0
-returns-then-found-eq0 c = search rank_28
+pub returns-then-is_none : goal.returns-then-is_none
+returns-then-is_none c = search rank_28
 
 pub returns-then-list-found : goal.returns-then-list-found
 returns-then-list-found c = search rank_30
