@@ -65,7 +65,7 @@ module _ (c : ℕ) (u : Float) where
 
 module _ (w : List ℕ) (i : ℕ) where
   -- where its row does not hold, no other gives 27
-  below_27 : i < outcomes (state_of w) → (old new list cells : List ℕ) (d : Says Drawn) → Draws w i old new list cells d → d.answer ≡ Err Refusal.Outcome → ⊥
+  below_27 : i < outcomes (state_of w) → (old new list cells : List ℕ) (d : Says Drawn) → Draws w i old new list cells d → d ≡ Err Refusal.Outcome → ⊥
   unfolding draw_says any image_rows
   below_27 h old new list cells d p e =
       let f : Draw → ℕ = λ x. length (image_of x.next) in
