@@ -26,13 +26,15 @@ pub fn side_of(grid: i32) -> u64
     grid.max(0) as u64
 }
 
-// Whether the product of k factors from `area` downward is above 2^53; a product that is 0 is one above 2^64 - 1.
+// Whether the product of k factors from `area` downward is above 2^53; no product is one above 2^64 - 1.
 fn too_many(area: usize, k: usize) -> bool
     requires { k ≤ area }
     ensures { result ≡ ltb (2 ^ 53) (falling area k) }
 {
-    let product = lists::product(area, k);
-    product == 0 || 9007199254740992 < product
+    match lists::product(area, k) {
+        Some(product) => 9007199254740992 < product,
+        None => true,
+    }
 }
 
 // Refusals 6 and 8.
