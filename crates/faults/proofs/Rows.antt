@@ -56,15 +56,15 @@ module _ (w : List ℕ) where
   here k x p e = record { answer = λ _. sym (table_at (image_rows w) k x (Ok tt) p.none e) }
 
   -- a row's refusal, of the word that was found
-  row : (n m : ℕ) (t : Bool) (x : Refusal) (k : ℕ) → x ≡ by_word n k → k ≡ m → t ≡ true → ◌≡◌ {A = Refusal × Bool} (by_word n m, t) (x, true)
-  row n m t x k q e h = rw (q, e, h)
+  row : (f : ℕ → Refusal) (m : ℕ) (t : Bool) (x : Refusal) (k : ℕ) → x ≡ f k → k ≡ m → t ≡ true → ◌≡◌ {A = Refusal × Bool} (f m, t) (x, true)
+  row f m t x k q e h = rw (q, e, h)
 
   -- ---- 50, and 51 of the first five words
 
   module _ (b : Bool) (e : b ≡ cut_short w) where
     pub at_50 : b ≡ true → (x : Refusal) → x ≡ Refusal.CutShort (length w) → Faulty w x
     unfolding image_rows
-    at_50 t x q = here 0 x past_none (row 50 (length w) _ x (length w) q refl (sym e ∙ t))
+    at_50 t x q = here 0 x past_none (row Refusal.CutShort (length w) _ x (length w) q refl (sym e ∙ t))
 
     module _ (t : b ≡ false) where
       uncut : cut_short w ≡ false
@@ -83,7 +83,7 @@ module _ (w : List ℕ) where
         unfolding image_rows ranges_fit range_word
         at_51 n m z x q =
             let g : contents_fit w ≡ false = sym f ∙ not-true c n in
-            here 1 x past_50 (row 51 (range_word w) _ x m q (z ∙ rw g) (rw g))
+            here 1 x past_50 (row Refusal.OutOfRange (range_word w) _ x m q (z ∙ rw g) (rw g))
 
         pub counted : not c ≡ false → Counted w
         unfolding contents_fit cut_short
@@ -109,7 +109,7 @@ module _ (w : List ℕ) where
     unfolding image_rows ranges_fit range_word
     at_record h m z x q =
         let out : all_below (snakes_in w) (record_fits w) ≡ false = some_out (record_fits w) (snakes_in w) (rw e at h) in
-        here 1 x k.past (row 51 (range_word w) _ x m q (z ∙ rw (k.fits, e)) (rw (k.fits, out)))
+        here 1 x k.past (row Refusal.OutOfRange (range_word w) _ x m q (z ∙ rw (k.fits, e)) (rw (k.fits, out)))
 
     pub in_range : snakes_in w ≤ i → InRange w
     unfolding image_rows ranges_fit
@@ -122,7 +122,7 @@ module _ (w : List ℕ) where
   module _ (k : InRange w) (r : Layout) (p : Adds w r) where
     pub at_52 : not r.fits ≡ true → (m : ℕ) → m ≡ start_word w → (x : Refusal) → x ≡ Refusal.Start m → Faulty w x
     unfolding image_rows
-    at_52 n m z x q = here 2 x k.past (row 52 (start_word w) _ x m q z (rw (sym p.starts ∙ not-true r.fits n)))
+    at_52 n m z x q = here 2 x k.past (row Refusal.Start (start_word w) _ x m q z (rw (sym p.starts ∙ not-true r.fits n)))
 
     module _ (n : not r.fits ≡ false) where
       started : starts_fit w ≡ true
@@ -135,7 +135,7 @@ module _ (w : List ℕ) where
       pub at_53 : (r.food + get_or w 4 0 ≡ length w → ⊥) → (m : ℕ) → m ≡ min (r.food + get_or w 4 0) (length w) → (x : Refusal) → x ≡ Refusal.Total m → Faulty w x
       unfolding image_rows total_fits total_word
       at_53 h m z x q =
-          here 3 x past_52 (row 53 (total_word w) _ x m q (z ∙ rw p.food_is) (rw (ne_eqb (food_start w + food_count_in w) (length w) (λ y. h (rw p.food_is y)))))
+          here 3 x past_52 (row Refusal.Total (total_word w) _ x m q (z ∙ rw p.food_is) (rw (ne_eqb (food_start w + food_count_in w) (length w) (λ y. h (rw p.food_is y)))))
 
       pub in_place : r.food + get_or w 4 0 ≡ length w → InPlace w
       unfolding image_rows total_fits
@@ -148,7 +148,7 @@ module _ (w : List ℕ) where
   module _ (k : InPlace w) (c : Bool) (f : c ≡ cells_fit w) where
     pub at_54 : not c ≡ true → (m : ℕ) → m ≡ cell_word w → (x : Refusal) → x ≡ Refusal.CellBeyond m → Faulty w x
     unfolding image_rows
-    at_54 n m z x q = here 4 x k.past (row 54 (cell_word w) _ x m q z (rw (sym f ∙ not-true c n)))
+    at_54 n m z x q = here 4 x k.past (row Refusal.CellBeyond (cell_word w) _ x m q z (rw (sym f ∙ not-true c n)))
 
     pub on_grid : not c ≡ false → OnGrid w
     unfolding image_rows
@@ -160,7 +160,7 @@ module _ (w : List ℕ) where
     pub at_55 : i < snakes_in w → (m : ℕ) → m ≡ start_at w i + twice_in (body_at w i) → (x : Refusal) → x ≡ Refusal.CellTwice m → Faulty w x
     unfolding image_rows bodies_fit twice_word
     at_55 h m z x q =
-        here 5 x k.past (row 55 (twice_word w) _ x m q (z ∙ rw e) (rw (some_out (λ i. distinct (body_at w i)) (snakes_in w) (rw e at h))))
+        here 5 x k.past (row Refusal.CellTwice (twice_word w) _ x m q (z ∙ rw e) (rw (some_out (λ i. distinct (body_at w i)) (snakes_in w) (rw e at h))))
 
     module _ (h : snakes_in w ≤ i) where
       past_55 : Past 6 w
@@ -174,7 +174,7 @@ module _ (w : List ℕ) where
 
       pub at_56 : (m : ℕ) → m ≡ food_word w → (x : Refusal) → x ≡ Refusal.FoodOrder m → Faulty w x
       unfolding image_rows
-      at_56 m z x q = record { answer = λ bad. (here 6 x past_55 (row 56 (food_word w) _ x m q z (rw (unfed bad)))).answer bad }
+      at_56 m z x q = record { answer = λ bad. (here 6 x past_55 (row Refusal.FoodOrder (food_word w) _ x m q z (rw (unfed bad)))).answer bad }
 
   -- ---- the check
 

@@ -42,10 +42,9 @@ pub(crate) fn layout_fault(image: &[u16]) -> Refusal
     if !found.fits {
         return Refusal::Start(first_start(image));
     }
-    let food = found.food;
-    let total = food + image[4] as usize;
+    let total = found.food + image[4] as usize;
     if total != image.len() {
         return Refusal::Total(smaller(total, image.len()));
     }
-    cells_fault(image, food)
+    cells_fault(image, found.food)
 }

@@ -14,10 +14,10 @@ use Rattle.lists.specs.Lists.{member, distinct}
 use Rattle.lists.proofs.Lowest.{lowest_le, Passing, pass_none, pass_from, pass_here, pass_on, pass_all, out_here, out_none}
 use Rattle.lists.proofs.Lists.{part_is}
 use Rattle.boards.specs.Boards.{Stamped}
-use Rattle.rules.specs.Image.{word, snakes_in, area_in, start_at, body_at, food_start}
+use Rattle.rules.specs.Image.{word, snakes_in, area_in, body_at, food_start}
 use Rattle.rules.specs.Faults.{first_out, cell_word, twice_in, food_word}
-use Rattle.wellformed.specs.Checked.{Laid, OnBoard}
-use Rattle.wellformed.proofs.Loops.{BodiesTo, body_is, body_ends, body_fits}
+use Rattle.wellformed.specs.Checked.{OnBoard}
+use Rattle.wellformed.proofs.Loops.{BodiesTo, body_ends, body_fits}
 
 module _ (w : List ℕ) where
   -- ---- `first_beyond`

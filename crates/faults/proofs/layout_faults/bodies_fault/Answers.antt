@@ -1,10 +1,6 @@
 -- `faults::bodies_fault` meets its contract: a body with a cell twice is 55; without one 56 alone is left (`at_56`). Assumes nothing.
-use Rattle.lists.proofs.Fits.{word_fits}
 use Rattle.faults.proofs.Rows.{at_55, at_56}
 use Rattle.faults.proofs.layout_faults.bodies_fault.Goals as goal
-
-pub overflow_cast-image : goal.overflow_cast-image
-overflow_cast-image c = search word_fits
 
 pub returns-then-i-image : goal.returns-then-i-image
 returns-then-i-image c = search at_55
