@@ -24,6 +24,6 @@ pub fn tell_words(a: Result<usize, Refusal>, written: &mut [u64; 1]) -> u64
             *written = [words as u64];
             0
         }
-        Err(r) => refusal_number(r),
+        Err(why) => refusal_number(why),
     }
 }
