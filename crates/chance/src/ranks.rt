@@ -4,9 +4,8 @@ ghost use Rattle.rules.specs.Promises.{Ranks};
 ghost use Rattle.strips.specs.Marks.{unmarked, Counted, Free};
 ghost use Rattle.chance.specs.Ranking.{Placed, Rankable, Ranked};
 
-use rules::Refusal;
-
 use outcomes::odds_of;
+use rules::Refusal;
 use strips::{count_strips, free_below, is_marked, take};
 
 // The place of a free cell among the free ones, which it then leaves.
