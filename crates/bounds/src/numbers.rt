@@ -1,23 +1,11 @@
 // Refusals 1 to 6 and 8: what a setting's numbers tell before any snake is placed.
 ghost use Rattle.std.specs.Prelude.{◌≡◌, ◌^◌, ◌≤◌, ltb};
 ghost use Rattle.lists.specs.Products.{falling};
-ghost use Rattle.rules.specs.Setting.{is_set, is_zero, side_of};
+ghost use Rattle.rules.specs.Setting.{side_of};
 ghost use Rattle.rules.specs.SettingParts.{limits_says};
 ghost use Rattle.bounds.specs.Crowds.{crowd_says};
 
 use rules::{Refusal, Setting};
-
-fn is_zero(lead: Option<u64>) -> bool
-    ensures { result ≡ is_zero lead }
-{
-    matches!(lead, Some(0))
-}
-
-fn is_set(lead: Option<u64>) -> bool
-    ensures { result ≡ is_set lead }
-{
-    matches!(lead, Some(_))
-}
 
 // The grid's side; 0 where the grid is negative.
 pub fn side_of(grid: i32) -> u64
@@ -64,10 +52,10 @@ pub fn limits(setting: Setting) -> Result<(), Refusal>
     if setting.initial_length == 0 {
         return Err(Refusal::LengthZero);
     }
-    if is_zero(setting.win_food_lead) {
+    if setting.win_food_lead == Some(0) {
         return Err(Refusal::LeadZero);
     }
-    if is_set(setting.win_food_lead) && n != 2 {
+    if setting.win_food_lead.is_some() && n != 2 {
         return Err(Refusal::LeadNotTwo);
     }
     if 32 < setting.grid_size {

@@ -86,7 +86,12 @@ fn draw_into(
 }
 
 // Refusals 23, 28, 27, 29; nothing is written before the last of them.
-pub fn draw_due(image: &[u16], index: u64, out: &mut [u16], list: &mut [u16]) -> Result<Drawn, Refusal>
+pub fn draw_due(
+    image: &[u16],
+    index: u64,
+    out: &mut [u16],
+    list: &mut [u16],
+) -> Result<Drawn, Refusal>
     requires { Sound image.now }
     ensures { Draws image.now index out.old out.new list.old list.new result }
 {
