@@ -95,8 +95,8 @@ module _ (w : List ℕ) (i : ℕ) (o : Odds) (strips : List ℕ) (room : ℕ) (l
             → Drew (draw_of w i) old new list (put_mid 0 (o.size - 0) list ys) (record { words = length w + o.size; cells = o.size })
         draw_done old new k = record {
           answer =
-            let l : length (image_of (after_draw (state_of w) i)) ≡ length w + o.size = next_long w p.sound i p.below ∙ ap (λ (n : ℕ). length w + n) (sym p.stands.size_is) in
-            rw (l, cells_long) refl;
+              let l : length (image_of (after_draw (state_of w) i)) ≡ length w + o.size = next_long w p.sound i p.below ∙ ap (λ (n : ℕ). length w + n) (sym p.stands.size_is) in
+              rw (l, cells_long) refl;
           words = k ∙ words_next old;
           list = list_after;
         }

@@ -1,11 +1,10 @@
 -- What count, draw and rank ask alike: the image's rows, 23, 28, whatever table stands after them. Assumes nothing.
 use Rattle.std.specs.Prelude.{Option, Ok, Err, Some, None, ok_or}
 use mathlib.Core.Path.{◌≡◌, refl, sym, ap, ◌∙◌}
-use mathlib.Core.Bool.{false}
 use mathlib.Core.List.{List, ◌++◌}
 use Prim.Native.Nat.{ℕ}
 use borrow.Author.Tests.{eq-eqb, ne_eqb}
-use Rattle.rules.specs.Image.{due_in, state_of, well_formed}
+use Rattle.rules.specs.Image.{due_in, state_of}
 use Rattle.rules.specs.Facts.{Sound}
 use Rattle.rules.specs.Chance.{outcomes}
 use Rattle.rules.specs.Tables.{Table}
@@ -20,7 +19,6 @@ use Rattle.outcomes.specs.Odds.{Stands}
 use Rattle.outcomes.specs.declared.odds.Odds.{Odds}
 use Rattle.outcomes.proofs.Checked.{checked_refuses}
 use Rattle.outcomes.proofs.Marking.{count_over, count_in, count_eq}
-use Rattle.rules.specs.declared.refusal.Refusal.TheVariants as Refusal
 
 -- what is handed on where there is no count
 pub count_none : (c : Option ℕ) (k : Refusal) → ok_or c Refusal.Count ≡ Err k → (c ≡ None) × (k ≡ Refusal.Count)
