@@ -1,5 +1,5 @@
 -- Which row of an image holds first, by the tests made so far: one law for each return, and what the rows before it tell. Assumes nothing.
-use Rattle.std.specs.Prelude.{Ok, Err}
+use Rattle.std.specs.Prelude.{Some, None, Ok, Err}
 use Prim.Native.Nat.{ℕ, zero, suc, ◌+◌, ◌*◌, ◌<◌, ◌≤◌, min}
 use native.Mathlib.Omega.{arith}
 use mathlib.Core.Path.{◌≡◌, refl, sym, ap, ◌∙◌}
@@ -12,7 +12,8 @@ use borrow.Author.Tests.{ltb-false, not-true, not-false, ne_eqb, eq-eqb}
 use Rattle.lists.specs.Below.{all_below}
 use Rattle.lists.specs.Lists.{all, distinct}
 use Rattle.lists.proofs.Tests.{tell, and_left, and_right, every_at, both, or_false_left, or_false_right}
-use Rattle.lists.proofs.Lowest.{some_out, none_out}
+use Rattle.lists.proofs.Below.{all_fails}
+use Rattle.lists.proofs.Lowest.{out_here}
 use Rattle.rules.specs.Tables.{Table, none_hold}
 use Rattle.rules.specs.Image.{front, snakes_in, food_count_in, food_start, start_at, body_at, contents_fit, record_fits, ranges_fit, starts_fit, total_fits, cells_fit, bodies_fit, food_fits, well_formed}
 use Rattle.rules.specs.Faults.{first_out, cut_short, contents_out, record_out, range_word, start_word, total_word, cell_word, twice_in, twice_word, food_word, image_rows}
@@ -21,7 +22,7 @@ use Rattle.rules.specs.Calls.{image_says}
 use Rattle.rules.specs.Promises.{Checks, Examines, Faulty}
 use Rattle.rules.specs.declared.refusal.Refusal.{Refusal}
 use Rattle.rules.proofs.Faults.{no_fault, image_given}
-use Rattle.wellformed.specs.Checked.{Adds}
+use Rattle.wellformed.specs.Checked.{Adds, FirstOut}
 use Rattle.wellformed.specs.declared.contents.Layout.{Layout}
 use Rattle.wellformed.proofs.Checked.{ranged_of, laid_of, board_of}
 use Rattle.faults.specs.Past.{Past, Counted, InRange, InPlace, OnGrid}
@@ -42,6 +43,15 @@ unfolding all
 none_next [] k h e = refl
 none_next (y ∷ t) zero h e = rw e
 none_next (y ∷ t) (suc k) h e = both (and_left (not y.1) _ h) (none_next t k (and_right (not y.1) _ h) e)
+
+-- ---- the first number that fails a test: it is the lowest, and not all pass
+
+module _ (fits : ℕ → Bool) (n i : ℕ) (e : FirstOut n fits (Some i)) where
+  first_is : i ≡ first_out n fits
+  first_is = out_here fits n i e.0 e.2 e.1
+
+  first_fails : all_below n fits ≡ false
+  first_fails = all_fails fits n i e.0 e.1
 
 module _ (w : List ℕ) where
   past_none : Past 0 w
@@ -96,26 +106,27 @@ module _ (w : List ℕ) where
               long = record { five = five; records_in = ltb-false (length w) (front (snakes_in w)) (rw two at (or_false_right (ltb (length w) 5) _ uncut)) };
             }
 
-  -- ---- 51 of the records: i is the first that does not fit
+  -- ---- 51 of the records
 
-  module _ (k : Counted w) (i : ℕ) (e : i ≡ first_out (snakes_in w) (record_fits w)) where
-    pub record_early : i < snakes_in w → snakes_in w < 65536 → i < 65536
-    record_early h s = omega arith
+  module _ (k : Counted w) where
+    -- i is the first that does not fit
+    module _ (i : ℕ) (e : FirstOut (snakes_in w) (record_fits w) (Some i)) where
+      pub record_early : snakes_in w < 65536 → i < 65536
+      record_early s = omega (arith, e.0)
 
-    pub record_in_lem : i < snakes_in w → 8 + 4 * i < length w
-    record_in_lem h = omega (arith, k.long.records_in)
+      pub record_in_lem : 8 + 4 * i < length w
+      record_in_lem = omega (arith, e.0, k.long.records_in)
 
-    pub at_record : i < snakes_in w → (m : ℕ) → m ≡ record_out w i → (x : Refusal) → x ≡ Refusal.OutOfRange m → Faulty w x
-    unfolding image_rows ranges_fit range_word
-    at_record h m z x q =
-        let out : all_below (snakes_in w) (record_fits w) ≡ false = some_out (record_fits w) (snakes_in w) (rw e at h) in
-        here 1 x k.past (row Refusal.OutOfRange (range_word w) _ x m q (z ∙ rw (k.fits, e)) (rw (k.fits, out)))
+      pub at_record : (m : ℕ) → m ≡ record_out w i → (x : Refusal) → x ≡ Refusal.OutOfRange m → Faulty w x
+      unfolding image_rows ranges_fit range_word
+      at_record m z x q =
+          let out : all_below (snakes_in w) (record_fits w) ≡ false = first_fails (record_fits w) (snakes_in w) i e in
+          let first : i ≡ first_out (snakes_in w) (record_fits w) = first_is (record_fits w) (snakes_in w) i e in
+          here 1 x k.past (row Refusal.OutOfRange (range_word w) _ x m q (z ∙ rw (k.fits, first)) (rw (k.fits, out)))
 
-    pub in_range : snakes_in w ≤ i → InRange w
+    pub in_range : FirstOut (snakes_in w) (record_fits w) None → InRange w
     unfolding image_rows ranges_fit
-    in_range h =
-        let fit : all_below (snakes_in w) (record_fits w) ≡ true = none_out (record_fits w) (snakes_in w) (rw e at h) in
-        record { past = on 1 k.past (rw (k.fits, fit)); ranged = ranged_of w k.long (rw (k.fits, fit)) }
+    in_range h = record { past = on 1 k.past (rw (k.fits, h)); ranged = ranged_of w k.long (rw (k.fits, h)) }
 
   -- ---- 52 and 53
 
@@ -154,18 +165,22 @@ module _ (w : List ℕ) where
     unfolding image_rows
     on_grid n = let g : cells_fit w ≡ true = sym f ∙ not-false c n in record { past = on 4 k.past (rw g); board = board_of w k.laid g }
 
-  -- ---- 55, and 56 where nothing else is left: i is the first snake with a cell twice
+  -- ---- 55, and 56 where nothing else is left
 
-  module _ (k : OnGrid w) (i : ℕ) (e : i ≡ first_out (snakes_in w) (λ i. distinct (body_at w i))) where
-    pub at_55 : i < snakes_in w → (m : ℕ) → m ≡ start_at w i + twice_in (body_at w i) → (x : Refusal) → x ≡ Refusal.CellTwice m → Faulty w x
+  abbrev once : ℕ → Bool
+  once i = distinct (body_at w i)
+
+  module _ (k : OnGrid w) where
+    -- i is the first snake with a cell twice
+    pub at_55 : (i : ℕ) → FirstOut (snakes_in w) once (Some i) → (m : ℕ) → m ≡ start_at w i + twice_in (body_at w i) → (x : Refusal) → x ≡ Refusal.CellTwice m → Faulty w x
     unfolding image_rows bodies_fit twice_word
-    at_55 h m z x q =
-        here 5 x k.past (row Refusal.CellTwice (twice_word w) _ x m q (z ∙ rw e) (rw (some_out (λ i. distinct (body_at w i)) (snakes_in w) (rw e at h))))
+    at_55 i e m z x q =
+        here 5 x k.past (row Refusal.CellTwice (twice_word w) _ x m q (z ∙ rw (first_is once (snakes_in w) i e)) (rw (first_fails once (snakes_in w) i e)))
 
-    module _ (h : snakes_in w ≤ i) where
+    module _ (h : FirstOut (snakes_in w) once None) where
       past_55 : Past 6 w
       unfolding image_rows bodies_fit
-      past_55 = on 5 k.past (rw (none_out (λ i. distinct (body_at w i)) (snakes_in w) (rw e at h)))
+      past_55 = on 5 k.past (rw h)
 
       -- with food in order too, no row would hold
       unfed : well_formed w ≡ false → food_fits w ≡ false

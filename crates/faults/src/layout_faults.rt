@@ -16,11 +16,10 @@ fn bodies_fault(image: &[u16], food: usize) -> Refusal
     requires food_value { food ≡ food_start image.now }
     ensures { Faulty image.now result }
 {
-    let i = first_twice(image);
-    if i < image[0] as usize {
-        return Refusal::CellTwice(twice_at(image, i));
+    match first_twice(image) {
+        Some(i) => Refusal::CellTwice(twice_at(image, i)),
+        None => Refusal::FoodOrder(first_fall(image, food)),
     }
-    Refusal::FoodOrder(first_fall(image, food))
 }
 
 fn cells_fault(image: &[u16], food: usize) -> Refusal
