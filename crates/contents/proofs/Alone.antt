@@ -21,7 +21,8 @@ use Rattle.rules.specs.declared.refusal.Refusal.{Refusal}
 use Rattle.contents.specs.Settings.{limit_at, limit_off, setting_in}
 use Rattle.contents.specs.Contents.{front, pages_in, start_in, end_in}
 use Rattle.contents.specs.Orders.{layout_rows, start_rows, contents_order, rises, outside}
-use Rattle.contents.specs.Calls.{Span, span_in, find_says}
+use Rattle.contents.specs.Calls.{span_in, find_says}
+use Rattle.contents.specs.declared.Span.{Span}
 use Rattle.contents.proofs.Finding.{find_parts}
 use Rattle.rules.specs.declared.refusal.Refusal.TheVariants as Refusal
 
