@@ -84,7 +84,7 @@ turn_says m w line room cells = Err Refusal.Over if m.over else asked m w room c
 
 -- what a line prints: a refusal its number
 abbrev pub said : Says Turn → List ℕ
-said (Err k) = refusal_text code_of k
+said (Err k) = refusal_text (code_of k)
 said (Ok t) = t.text
 
 -- the promise of a call that takes a line of match m: its answer, the next image in the lent words, the text in the lent bytes
@@ -128,7 +128,7 @@ close_text d = end_text d.game if d.begun else refusal_text 32
 
 -- what a line prints, and what is printed after it: 'A refusal prints `r` and its number and stops'
 abbrev pub onward : Says Turn → (Turn → List ℕ) → List ℕ
-onward (Err k) after = refusal_text code_of k
+onward (Err k) after = refusal_text (code_of k)
 onward (Ok t) after = t.text ++ after t
 
 -- 'At the end of input, `p`'
