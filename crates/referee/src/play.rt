@@ -58,11 +58,11 @@ pub fn take_line(
     requires { (d.words ≤ length image.old) × (length next.old ≤ length image.old) × (462 ≤ length out.old) }
     ensures { Plays (line_says d (take d.words image.old) line.now (length next.old) (length list.old)) d.game image.old image.new out.old out.new result }
 {
-    let t = ask(d, &image[0..d.words], next, list, line, out);
+    let t = ask(d, &image[..d.words], next, list, line, out);
     if !t.more {
         return t;
     }
-    lists::write_at(image, 0, &next[0..t.words]);
+    lists::write_at(image, 0, &next[..t.words]);
     t
 }
 
