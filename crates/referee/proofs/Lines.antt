@@ -16,7 +16,6 @@ use Rattle.rules.specs.declared.Event.{Event}
 use Rattle.rules.specs.declared.Setting.{Setting}
 use Rattle.parsing.specs.Lines.{read_first, read_later}
 use Rattle.parsing.specs.declared.Line.{Line}
-use Rattle.parsing.specs.declared.Line.TheVariants.{Draw as DrawLine, Move as MoveLine}
 use Rattle.printing.specs.Text.{Wrote, refusal_text}
 use Rattle.printing.proofs.Writing.{wider}
 use Rattle.standing.specs.Shown.{line_shown, events_shown}
@@ -49,18 +48,6 @@ module _ (m : Match) (old out exit : List ℕ) (r : Turned) where
     pub turn_plays : (new line : List ℕ) → m.over ≡ false → (n : ℕ) → n ≡ snakes_of m → (e : Option Line) → e ≡ read_later n line
         → Plays (asked m w room cells e) m old new out exit r → Plays (turn_says m w line room cells) m old new out exit r
     turn_plays new line o n pn e pe plays = rw (turn_on m w line room cells o, ← pn, ← pe) plays
-
-    module _ (e : Option Line) where
-      pub entry_none : e ≡ None → Stops m 32 out exit r → Plays (asked m w room cells e) m old old out exit r
-      entry_none q s = rw q (refused_line m Refusal.Line old out exit r s)
-
-      pub entry_draw : (new : List ℕ) (i : ℕ) → e ≡ Some (DrawLine i) → Plays (seen (drawn_turn m) (draw_says w i room cells)) m old new out exit r
-          → Plays (asked m w room cells e) m old new out exit r
-      entry_draw new i q plays = rw q plays
-
-      pub entry_move : (new acts : List ℕ) (n : ℕ) → n ≡ snakes_of m → e ≡ Some (MoveLine acts)
-          → Plays (seen (moved_turn m) (step_says m.setting w (take n acts) room)) m old new out exit r → Plays (asked m w room cells e) m old new out exit r
-      entry_move new acts n pn q plays = rw (q, ← pn) plays
 
 -- ---- at a desk
 
