@@ -15,7 +15,6 @@ use Rattle.rules.specs.View.{lit}
 use Rattle.rules.specs.Says.{box, by_table}
 use Rattle.rules.specs.Calls.{space_says}
 use Rattle.rules.specs.declared.refusal.Refusal.{Refusal}
-use Rattle.rules.specs.declared.refusal.Refusal.TheVariants as Refusal
 
 -- above a bound from 32 on, so above 32
 higher : (k : ℕ) (g : ℤ) → T (leb 32 k) → lt_z (pos k) g ≡ true → lt_z (pos 32) g ≡ true

@@ -26,7 +26,6 @@ use Rattle.wellformed.specs.Checked.{Adds, FirstOut}
 use Rattle.wellformed.specs.declared.contents.Layout.{Layout}
 use Rattle.wellformed.proofs.Checked.{ranged_of, laid_of, board_of}
 use Rattle.faults.specs.Past.{Past, Counted, InRange, InPlace, OnGrid}
-use Rattle.rules.specs.declared.refusal.Refusal.TheVariants as Refusal
 
 -- ---- a table, row by row
 

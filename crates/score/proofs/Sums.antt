@@ -10,7 +10,6 @@ use Rattle.rules.specs.Reward.{all_finite, reward_dead, reward_living, reward_of
 use Rattle.rules.specs.declared.Event.{Event}
 use Rattle.rules.specs.declared.refusal.Refusal.{Refusal}
 use Rattle.rules.specs.declared.Weights.{Weights}
-use Rattle.rules.specs.declared.refusal.Refusal.TheVariants as Refusal
 
 module _ (w : Weights) (e : Event) (b : Bool) (a : b ≡ all_finite w) where
   -- 31: a weight is not finite
