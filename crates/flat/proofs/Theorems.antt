@@ -29,7 +29,6 @@ use Rattle.standing.specs.declared.Match.{Match}
 use Rattle.flat.specs.Flat.{flag_in, limit_in, grid_in, setting_in, event_in, event_bytes, events_bytes, refusal_number, refusal_in}
 use Rattle.flat.specs.Games.{events_in, match_in, match_numbers}
 use Rattle.flat.proofs.Read.{no_grid}
-use Rattle.rules.specs.declared.refusal.Refusal.TheVariants as Refusal
 use Rattle.rules.specs.Refusals.{word_shown, refusal_by}
 
 -- ---- an event

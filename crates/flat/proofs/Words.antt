@@ -25,7 +25,6 @@ use Rattle.wellformed.specs.Checked.{Adds, FirstOut}
 use Rattle.wellformed.specs.declared.contents.Layout.{Layout}
 use Rattle.faults.specs.Past.{Counted, InRange, InPlace, OnGrid}
 use Rattle.faults.proofs.Rows.{at_50, at_51, counted, at_record, in_range, at_52, at_53, in_place, at_54, on_grid, at_55, at_56}
-use Rattle.rules.specs.declared.refusal.Refusal.TheVariants as Refusal
 use Rattle.rules.specs.Refusals.{code_of, word_shown}
 
 -- a refusal that is the image's, with a small word
