@@ -7,7 +7,7 @@ ghost use Rattle.rules.specs.Chance.{drawn_from};
 ghost use Rattle.rules.specs.Promises.{Draws};
 ghost use Rattle.strips.specs.Marks.{unmarked, Open};
 ghost use Rattle.chance.specs.Next.{next_words, Growing};
-ghost use Rattle.chance.specs.Answers.{draw_of, Ready, Answers};
+ghost use Rattle.chance.specs.Answers.{draw_of, Ready, Drew};
 
 use image::{put_all, write_contents};
 use lists::write_at;
@@ -32,19 +32,13 @@ fn due_after(due: usize, birth: bool, free: usize) -> usize
     requires { 0 < due }
     ensures { result ≡ (due - 1 if birth && not (eqb free 0) else 0) }
 {
-    if !birth {
-        return 0;
-    }
-    if free == 0 {
-        return 0;
-    }
-    due - 1
+    if birth && free != 0 { due - 1 } else { 0 }
 }
 
 fn birth_after(due: usize, birth: bool, free: usize) -> bool
     ensures { result ≡ (birth && not (eqb free 0 || eqb due 1)) }
 {
-    birth & !((free == 0) | (due == 1))
+    birth && !(free == 0 || due == 1)
 }
 
 // The image copied, words 2 to 4 anew, and each cell put into the food.
@@ -74,27 +68,30 @@ fn draw_into(
     strips: &mut [u64; 16],
     out: &mut [u16],
     list: &mut [u16],
-) -> Result<Drawn, Refusal>
+) -> Drawn
     requires { Ready image.now index found strips.old (length out.old) (length list.old) }
-    ensures { Answers (Ok (draw_of image.now index)) out.old out.new list.old list.new result }
+    ensures { Drew (draw_of image.now index) out.old out.new list.old list.new result }
 {
-    let size = found.size;
-    let free = found.free;
     let g = image[1] as usize;
     let due = image[2] as usize;
     let birth = image[3] == 1;
-    draw_list(&mut list[0..size], index, free, g * g, strips);
-    let left = due_after(due, birth, free);
-    let stays = birth_after(due, birth, free);
-    write_next(image, left, stays, &list[0..size], out);
-    Ok(Drawn {
+    draw_list(&mut list[0..found.size], index, found.free, g * g, strips);
+    let left = due_after(due, birth, found.free);
+    let stays = birth_after(due, birth, found.free);
+    write_next(image, left, stays, &list[0..found.size], out);
+    Drawn {
         words: image.len() + found.size,
         cells: found.size,
-    })
+    }
 }
 
 // Refusals 23, 28, 27, 29; nothing is written before the last of them.
-pub fn draw_due(image: &[u16], index: u64, out: &mut [u16], list: &mut [u16]) -> Result<Drawn, Refusal>
+pub fn draw_due(
+    image: &[u16],
+    index: u64,
+    out: &mut [u16],
+    list: &mut [u16],
+) -> Result<Drawn, Refusal>
     requires { Sound image.now }
     ensures { Draws image.now index out.old out.new list.old list.new result }
 {
@@ -103,17 +100,12 @@ pub fn draw_due(image: &[u16], index: u64, out: &mut [u16], list: &mut [u16]) ->
     }
     let mut strips = [0u64; 16];
     let found = odds_of(image, &mut strips);
-    if found.count == 0 {
-        return Err(Refusal::Count);
-    }
-    if found.count <= index {
+    let count = found.count.ok_or(Refusal::Count)?;
+    if count <= index {
         return Err(Refusal::Outcome);
     }
-    if out.len() < image.len() + found.size {
+    if out.len() < image.len() + found.size || list.len() < found.size {
         return Err(Refusal::Buffer);
     }
-    if list.len() < found.size {
-        return Err(Refusal::Buffer);
-    }
-    draw_into(image, index, found, &mut strips, out, list)
+    Ok(draw_into(image, index, found, &mut strips, out, list))
 }

@@ -17,7 +17,7 @@ use Rattle.standing.specs.Shown.{line_shown}
 use Rattle.standing.specs.Standing.{fresh, snakes_of, ends_by, moved, end_text}
 use Rattle.printing.specs.Text.{line_text, refusal_text, Wrote}
 use Rattle.parsing.specs.declared.Line.{Line}
-use Rattle.parsing.specs.declared.Line.TheVariants.{Draw as DrawLine, Move as MoveLine}
+use Rattle.parsing.specs.declared.Line.TheVariants as Line
 use Rattle.standing.specs.declared.Match.{Match}
 use Rattle.referee.specs.declared.Desk.{Desk}
 use Rattle.referee.specs.declared.Turned.{Turned}
@@ -75,8 +75,8 @@ moved_turn m o =
 
 abbrev pub asked : Match → List ℕ → ℕ → ℕ → Option Line → Says Turn
 asked m w room cells None = Err Refusal.Line
-asked m w room cells (Some (DrawLine i)) = seen (drawn_turn m) (draw_says w i room cells)
-asked m w room cells (Some (MoveLine acts)) = seen (moved_turn m) (step_says m.setting w (take (snakes_of m) acts) room)
+asked m w room cells (Some (Line.Draw i)) = seen (drawn_turn m) (draw_says w i room cells)
+asked m w room cells (Some (Line.Move acts)) = seen (moved_turn m) (step_says m.setting w (take (snakes_of m) acts) room)
 
 -- w is the image; room and cells are the lengths of the lent buffers of the next image and of the cells drawn
 unfoldable pub turn_says : Match → List ℕ → List ℕ → ℕ → ℕ → Says Turn
@@ -95,6 +95,11 @@ pub record Plays (turn : Says Turn) (m : Match) (old new out exit : List ℕ) (r
   pub image : new ≡ lent (λ t. image_of t.next) old turn
   pub long : length new ≡ length old
   pub text : Wrote out exit 0 r.text (said turn) 462
+
+-- its number, where it is a refusal
+abbrev pub refusal_in : {A : Type 0} → Says A → ℕ
+refusal_in (Err k) = code_of k
+refusal_in (Ok a) = 0
 
 -- the two ways in which a call ends: a refusal printed, or the line of an image w
 pub record Stops (m : Match) (k : ℕ) (out exit : List ℕ) (r : Turned) : Type 0 where

@@ -27,7 +27,13 @@ pub fn rank(s: &[u8], words: &mut [u16]) -> Reply {
     outcome(arena::rank(&words[0..n], &list[0..k]))
 }
 
-fn put_draw(text: &mut [u8], at: usize, drawn: Result<Drawn, Refusal>, out: &[u16], list: &[u16]) -> usize {
+fn put_draw(
+    text: &mut [u8],
+    at: usize,
+    drawn: Result<Drawn, Refusal>,
+    out: &[u16],
+    list: &[u16],
+) -> usize {
     let k = drawn.cells;
     let answer = drawn.answer;
     match answer {

@@ -2,7 +2,7 @@
 ghost use Rattle.std.specs.Prelude.{◌≤◌, length};
 
 use events::cause_in;
-use parsing::{next_number};
+use parsing::next_number;
 use rules::Event;
 
 // Where no field starts: what follows one that is none. Above every length.

@@ -1,7 +1,7 @@
 // The reward, whose floats stand in a line as bits.
 use crate::fields::{event_of, is_event, numbers_in};
 use crate::reply::{NO_CALL, Reply, number, refused};
-use rules::{Weights};
+use rules::Weights;
 
 // The float of that pattern. A NaN's pattern has none: it is read as an infinity, which the reward refuses by 31 too, and the outcome of a unit
 // number by 81.

@@ -3,7 +3,7 @@ use crate::fields::numbers_in;
 use crate::reply::{NO_CALL, Reply, number, refused};
 use grid::action_of;
 use image::{heading_of, number_of};
-use parsing::{grid_in};
+use parsing::grid_in;
 use rules::{Refusal, Space};
 
 fn shape(space: Result<Space, Refusal>) -> Reply {

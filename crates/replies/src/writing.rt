@@ -2,7 +2,7 @@
 // What was put is written out from 32,768 bytes on, before each answer and among many words, so that the room of 65,536 never ends.
 use crate::buffers::kept;
 use printing::put_item;
-use rules::{Refusal};
+use rules::Refusal;
 
 // Standard output, as `io` numbers it.
 const STDOUT: i32 = 1;
@@ -90,7 +90,12 @@ pub fn refuse(text: &mut [u8], at: usize, r: Refusal, kept: bool) -> usize {
 }
 
 // The line of an answer that is the words of a lent buffer.
-pub fn put_written(text: &mut [u8], at: usize, answer: Result<usize, Refusal>, out: &[u16]) -> usize {
+pub fn put_written(
+    text: &mut [u8],
+    at: usize,
+    answer: Result<usize, Refusal>,
+    out: &[u16],
+) -> usize {
     match answer {
         Ok(n) => {
             let i = put(text, at, b'a');
