@@ -81,8 +81,8 @@ module _ (d : Desk) (out exit : List ℕ) (k : ℕ) where
   pub close_ends : d.begun ≡ true → Wrote out exit 0 k (end_text d.game) 170 → Wrote out exit 0 k (close_text d) 170
   close_ends b p = rw (close_begun d b) p
 
-  pub close_refuses : d.begun ≡ false → Wrote out exit 0 k (refusal_text 32) 23 → Wrote out exit 0 k (close_text d) 170
-  close_refuses b p = rw (close_new d b) (wider 170 p (omega arith))
+  pub close_refuses : d.begun ≡ false → (why : ℕ) → why ≡ 32 → Wrote out exit 0 k (refusal_text why) 23 → Wrote out exit 0 k (close_text d) 170
+  close_refuses b why e p = rw (close_new d b, ← e) (wider 170 p (omega arith))
 
 -- ---- the line of an image
 

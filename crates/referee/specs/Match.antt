@@ -96,11 +96,6 @@ pub record Plays (turn : Says Turn) (m : Match) (old new out exit : List ℕ) (r
   pub long : length new ≡ length old
   pub text : Wrote out exit 0 r.text (said turn) 462
 
--- its number, where it is a refusal
-abbrev pub refusal_in : {A : Type 0} → Says A → ℕ
-refusal_in (Err k) = code_of k
-refusal_in (Ok a) = 0
-
 -- the two ways in which a call ends: a refusal printed, or the line of an image w
 pub record Stops (m : Match) (k : ℕ) (out exit : List ℕ) (r : Turned) : Type 0 where
   pub more : r.more ≡ false

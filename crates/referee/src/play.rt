@@ -6,7 +6,7 @@ ghost use Rattle.referee.specs.Match.{line_says, close_text, Plays};
 use crate::turns::{begin, turn};
 use crate::{Desk, Turned};
 use printing::put_refusal;
-use rules::Setting;
+use rules::{Refusal, Setting};
 use standing::{new_match, put_end};
 
 // Before the first line.
@@ -74,5 +74,5 @@ pub fn close(d: Desk, out: &mut [u8]) -> usize
     if d.begun {
         return put_end(out, d.game);
     }
-    put_refusal(out, 32)
+    put_refusal(out, u64::from(Refusal::Line.number()))
 }
