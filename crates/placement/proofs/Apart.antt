@@ -21,7 +21,6 @@ use Rattle.rules.specs.Grid.{cell_of}
 use Rattle.rules.specs.Placement.{start_place, tracing, even, unblocked, trail, traced, placed}
 use Rattle.rules.specs.Setting.{side_of, some_short}
 use Rattle.rules.specs.SettingParts.{Limited, place_says, cells_of}
-use Rattle.rules.specs.Says.{Says}
 use Rattle.rules.specs.declared.refusal.Refusal.TheVariants as Refusal
 use Rattle.std.specs.Prelude.{Ok, Err}
 use Rattle.rules.specs.declared.Place.{Place}
