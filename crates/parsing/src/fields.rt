@@ -3,8 +3,8 @@ ghost use Rattle.std.specs.Prelude.{◌≡◌, ◌==◌, ◌+◌, ◌≤◌, len
 ghost use Rattle.parsing.specs.Numbers.{decimal_of, grid_of, bound_of, flag_of, is_byte};
 ghost use Rattle.parsing.specs.Fields.{up_to, pieces_from, fields_of, field_at, Spans};
 
+use crate::Span;
 use crate::numbers::{bound_in, decimal, flag_by, grid_in, is_byte};
-use crate::{Span};
 
 // One more than the line has spaces.
 pub fn field_count(s: &[u8]) -> usize

@@ -107,9 +107,5 @@ pub fn read_later(s: &[u8], n: usize) -> Option<Line>
     requires { n ≤ 8 }
     ensures { result ≡ read_later n s.now }
 {
-    if 200 < s.len() {
-        None
-    } else {
-        line_in(s, n)
-    }
+    if 200 < s.len() { None } else { line_in(s, n) }
 }

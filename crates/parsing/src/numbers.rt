@@ -2,7 +2,6 @@
 ghost use Rattle.std.specs.Prelude.{◌≡◌};
 ghost use Rattle.parsing.specs.Numbers.{is_digit, unpadded, digits_fit, read_on, number_by, decimal_of, grid_of, grid_above, grid_below, bound_of, bound_by, flag_by, is_byte};
 
-
 fn is_digit(b: u8) -> bool
     ensures { result ≡ is_digit b }
 {
@@ -42,11 +41,7 @@ fn digits(s: &[u8]) -> Option<u64>
 pub fn decimal(s: &[u8]) -> Option<u64>
     ensures { result ≡ decimal_of s.now }
 {
-    if is_unpadded(s) {
-        digits(s)
-    } else {
-        None
-    }
+    if is_unpadded(s) { digits(s) } else { None }
 }
 
 // A grid that has a minus sign: nonzero, down to -2^31.

@@ -27,16 +27,11 @@ fn call(letter: u8, s: &[u8], words: &mut [u16], text: &mut [u8], at: usize) -> 
 
 // Only `q` has no fields.
 fn answer(s: &[u8], words: &mut [u16], text: &mut [u8], at: usize) -> usize {
-    if s.len() == 0 {
-        return NOWHERE;
+    match s {
+        [letter] => put_reply(text, at, replies::action_space(*letter)),
+        [letter, b' ', fields @ ..] => call(*letter, fields, words, text, at),
+        _ => NOWHERE,
     }
-    if s.len() == 1 {
-        return put_reply(text, at, replies::action_space(s[0]));
-    }
-    if s[1] != b' ' {
-        return NOWHERE;
-    }
-    call(s[0], &s[2..], words, text, at)
 }
 
 // Answers a line that has ended; one that fills its room is longer than any call. A line that is no call has nowhere put an answer.
@@ -51,7 +46,7 @@ pub fn answer_line(
     if line.len() <= held {
         return put_reply(text, from, NO_CALL);
     }
-    let end = answer(&line[0..held], words, text, from);
+    let end = answer(&line[..held], words, text, from);
     if end == NOWHERE {
         return put_reply(text, from, NO_CALL);
     }

@@ -1,6 +1,6 @@
 // The calls on books: `B` writes one, `P` reads a page.
-use contents::PageFound;
-use parsing::{read_first};
+use contents::Span;
+use parsing::read_first;
 use replies::{
     NOWHERE, PATTERN, book_room, last_words, numbers_in, put, put_each, put_number, put_written,
     refuse,
@@ -21,7 +21,7 @@ fn write_long(
         return NOWHERE;
     };
     let mut room = book_room();
-    let out = &mut room[0..cap as usize];
+    let out = &mut room[..cap as usize];
     let answer = book::write(setting, pages, row, out);
     put_written(text, at, answer, out)
 }
@@ -35,7 +35,7 @@ fn write(setting: &[u8], pages: u64, row: &[u16], cap: u64, text: &mut [u8], at:
         return NOWHERE;
     };
     let mut room = [PATTERN; 16384];
-    let out = &mut room[0..cap as usize];
+    let out = &mut room[..cap as usize];
     let answer = book::write(setting, pages, row, out);
     put_written(text, at, answer, out)
 }
@@ -54,13 +54,13 @@ pub fn write_line(
     if words.len() < n {
         return NOWHERE;
     }
-    write(setting, values[1], &words[0..n], values[0], text, at)
+    write(setting, values[1], &words[..n], values[0], text, at)
 }
 
 // The place by one call, the words by the other.
 fn put_page(text: &mut [u8], at: usize, book: &[u16], page: u64) -> usize {
     match book::page_in(book, page) {
-        Ok(Span { start, len } => {
+        Ok(Span { start, len }) => {
             let a = put(text, at, b'a');
             let b = put_number(text, a, start as u64);
             let c = put_number(text, b, len as u64);
@@ -79,5 +79,5 @@ pub fn page_line(s: &[u8], words: &mut [u16], text: &mut [u8], at: usize) -> usi
     if words.len() < n {
         return NOWHERE;
     }
-    put_page(text, at, &words[0..n], values[0])
+    put_page(text, at, &words[..n], values[0])
 }

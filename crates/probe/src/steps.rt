@@ -36,19 +36,18 @@ fn initial_line(setting: &[u8], s: &[u8], text: &mut [u8], at: usize) -> usize {
         return NOWHERE;
     };
     let mut room = [PATTERN; 16384];
-    let out = &mut room[0..cap as usize];
+    let out = &mut room[..cap as usize];
     let answer = arena::initial_state(setting, out);
     put_written(text, at, answer, out)
 }
 
 fn put_step(text: &mut [u8], at: usize, stepped: Result<Stepped, Refusal>, out: &[u16]) -> usize {
-    let answer = stepped.answer;
-    match answer {
-        Ok(n) => {
+    match stepped {
+        Ok(stepped) => {
+            let n = stepped.words;
             let a = put(text, at, b'a');
             let b = put_number(text, a, bit(stepped.terminal));
-            let events = stepped.events;
-            let c = put_events(text, b, events);
+            let c = put_events(text, b, stepped.events);
             let d = put_words(text, c, out, n);
             end(text, d, kept(out, n))
         }
@@ -75,8 +74,8 @@ fn step(
         return NOWHERE;
     };
     let mut room = [PATTERN; 16384];
-    let out = &mut room[0..cap as usize];
-    let stepped = arena::step(setting, words, &actions[0..k], out);
+    let out = &mut room[..cap as usize];
+    let stepped = arena::step(setting, words, &actions[..k], out);
     put_step(text, at, stepped, out)
 }
 
@@ -94,12 +93,9 @@ fn struck(
     let Some(setting) = read_first(setting) else {
         return NOWHERE;
     };
-    let struck = arena::struck(setting, words, &actions[0..k]);
-    let verdict = struck.verdict;
-    match verdict {
-        Ok(()) => {
+    match arena::struck(setting, words, &actions[..k]) {
+        Ok(hits) => {
             let a = put(text, at, b'a');
-            let hits = struck.hits;
             let b = put_hits(text, a, hits);
             end(text, b, true)
         }
@@ -131,17 +127,17 @@ fn acting_line(
         return NOWHERE;
     }
     let mut actions = [0u64; 64];
-    let next = numbers_in(s, from, &mut actions[0..k as usize]);
+    let next = numbers_in(s, from, &mut actions[..k as usize]);
     let n = last_words(s, next, 16384, words);
     if words.len() < n {
         return NOWHERE;
     }
     if letter == b'H' {
-        return struck(setting, &words[0..n], actions, k as usize, text, at);
+        return struck(setting, &words[..n], actions, k as usize, text, at);
     }
     step(
         setting,
-        &words[0..n],
+        &words[..n],
         actions,
         k as usize,
         values[0],
@@ -153,13 +149,10 @@ fn acting_line(
 // `i`, `s`, `H` or `B`: S stands before the eighth field.
 pub fn setting_line(letter: u8, s: &[u8], words: &mut [u16], text: &mut [u8], at: usize) -> usize {
     let eighth = start_of(s, 7);
-    if eighth < 1 {
+    if eighth < 1 || s.len() < eighth {
         return NOWHERE;
     }
-    if s.len() < eighth {
-        return NOWHERE;
-    }
-    let setting = &s[0..eighth - 1];
+    let setting = &s[..eighth - 1];
     let rest = &s[eighth..];
     match letter {
         b'i' => initial_line(setting, rest, text, at),

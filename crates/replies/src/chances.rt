@@ -16,28 +16,29 @@ pub fn outcome(answer: Result<u64, Refusal>) -> Reply {
 pub fn rank(s: &[u8], words: &mut [u16]) -> Reply {
     let mut list = [PATTERN; 2048];
     let got = words_in(s, 0, &mut list);
-    let k = got.count;
     let n = last_words(s, got.next, 16384, words);
-    if words.len() < n {
+    if words.len() < n || list.len() < got.count {
         return NO_CALL;
     }
-    if 2048 < k {
-        return NO_CALL;
-    }
-    outcome(arena::rank(&words[0..n], &list[0..k]))
+    outcome(arena::rank(&words[..n], &list[..got.count]))
 }
 
-fn put_draw(text: &mut [u8], at: usize, drawn: Result<Drawn, Refusal>, out: &[u16], list: &[u16]) -> usize {
-    let k = drawn.cells;
-    let answer = drawn.answer;
-    match answer {
-        Ok(n) => {
+fn put_draw(
+    text: &mut [u8],
+    at: usize,
+    drawn: Result<Drawn, Refusal>,
+    out: &[u16],
+    list: &[u16],
+) -> usize {
+    match drawn {
+        Ok(drawn) => {
+            let n = drawn.words;
             let a = put(text, at, b'a');
             let b = put_words(text, a, out, n);
-            let c = put_words(text, b, list, k);
-            end(text, c, kept(out, n) & kept(list, k))
+            let c = put_words(text, b, list, drawn.cells);
+            end(text, c, kept(out, n) && kept(list, drawn.cells))
         }
-        Err(r) => refuse(text, at, r, kept(out, 0) & kept(list, 0)),
+        Err(r) => refuse(text, at, r, kept(out, 0) && kept(list, 0)),
     }
 }
 
@@ -45,16 +46,13 @@ fn put_draw(text: &mut [u8], at: usize, drawn: Result<Drawn, Refusal>, out: &[u1
 pub fn draw_line(values: [u64; 9], words: &[u16], text: &mut [u8], at: usize) -> usize {
     let cap = values[0];
     let cap_list = values[1];
-    if 16384 < cap {
-        return NOWHERE;
-    }
-    if 16384 < cap_list {
+    if 16384 < cap || 16384 < cap_list {
         return NOWHERE;
     }
     let mut out_room = [PATTERN; 16384];
     let mut list_room = [PATTERN; 16384];
-    let out = &mut out_room[0..cap as usize];
-    let list = &mut list_room[0..cap_list as usize];
+    let out = &mut out_room[..cap as usize];
+    let list = &mut list_room[..cap_list as usize];
     let drawn = arena::draw(words, values[2], out, list);
     put_draw(text, at, drawn, out, list)
 }

@@ -2,7 +2,7 @@
 ghost use Rattle.std.specs.Prelude.{◌≤◌, length};
 
 use events::cause_in;
-use parsing::{next_number};
+use parsing::next_number;
 use rules::Event;
 
 // Where no field starts: what follows one that is none. Above every length.
@@ -19,19 +19,16 @@ pub struct Words {
 // Nowhere where one is none.
 pub fn numbers_in(s: &[u8], from: usize, values: &mut [u64]) -> usize {
     let mut at = from;
-    let mut k = 0;
-    while k < values.len() {
+    for value in values {
         if s.len() < at {
             return NOWHERE;
         }
         let got = next_number(s, at);
-        let num = got.num;
-        let Some(v) = num else {
+        let Some(v) = got.num else {
             return NOWHERE;
         };
-        values[k] = v;
+        *value = v;
         at = got.next;
-        k += 1;
     }
     at
 }
@@ -39,22 +36,19 @@ pub fn numbers_in(s: &[u8], from: usize, values: &mut [u64]) -> usize {
 // The same for words, straight into the room, since a book's may be many.
 fn each_word(s: &[u8], from: usize, words: &mut [u16]) -> usize {
     let mut at = from;
-    let mut k = 0;
-    while k < words.len() {
+    for word in words {
         if s.len() < at {
             return NOWHERE;
         }
         let got = next_number(s, at);
-        let num = got.num;
-        let Some(v) = num else {
+        let Some(v) = got.num else {
             return NOWHERE;
         };
         if 65535 < v {
             return NOWHERE;
         }
-        words[k] = v as u16;
+        *word = v as u16;
         at = got.next;
-        k += 1;
     }
     at
 }
@@ -71,17 +65,14 @@ pub fn words_in(s: &[u8], from: usize, words: &mut [u16]) -> Words {
         };
     }
     let count = n as usize;
-    let next = each_word(s, start, &mut words[0..count]);
+    let next = each_word(s, start, &mut words[..count]);
     Words { count, next }
 }
 
 // W as the line's last part, of at most so many words: its count. Nowhere where there are no such words, or something follows them.
 pub fn last_words(s: &[u8], from: usize, most: usize, words: &mut [u16]) -> usize {
     let got = words_in(s, from, words);
-    if got.next != s.len() + 1 {
-        return NOWHERE;
-    }
-    if most < got.count {
+    if got.next != s.len() + 1 || most < got.count {
         return NOWHERE;
     }
     got.count
@@ -100,11 +91,10 @@ pub fn is_event(e: &[u64]) -> bool {
 pub fn event_of(e: &[u64]) -> Event
     requires { 8 ≤ length e.now }
 {
-    let cause = cause_in((e[2] % 65536) as u16);
     Event {
         ate_food: e[0] == 1,
         died: e[1] == 1,
-        death_cause: cause,
+        death_cause: cause_in((e[2] % 65536) as u16),
         killed_opponent: e[3] == 1,
         won: e[4] == 1,
         lost: e[5] == 1,

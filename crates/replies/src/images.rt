@@ -14,13 +14,7 @@ pub fn check_image(words: &[u16]) -> Reply {
 
 // The start word of a snake's record; 0 for a malformed image or no such snake.
 fn start_of(words: &[u16], snake: u64) -> u64 {
-    if !arena::well_formed(words) {
-        return 0;
-    }
-    if word_at(words, 0) <= snake {
-        return 0;
-    }
-    if 7 < snake {
+    if !arena::well_formed(words) || word_at(words, 0) <= snake || 7 < snake {
         return 0;
     }
     word_at(words, start_at(snake as usize))

@@ -9,11 +9,10 @@ pub fn bit(flag: bool) -> u64 {
 
 // E, an event's eight numbers.
 pub fn event_numbers(e: Event) -> [u64; 8] {
-    let cause = e.death_cause;
     [
         bit(e.ate_food),
         bit(e.died),
-        cause_number(cause) as u64,
+        cause_number(e.death_cause) as u64,
         bit(e.killed_opponent),
         bit(e.won),
         bit(e.lost),
@@ -24,27 +23,20 @@ pub fn event_numbers(e: Event) -> [u64; 8] {
 
 pub fn put_events(text: &mut [u8], from: usize, events: [Event; 8]) -> usize {
     let mut at = from;
-    let mut i = 0;
-    while i < 8 {
-        let e = events[i];
-        at = put_numbers(text, at, event_numbers(e), 8);
-        i += 1;
+    for event in events {
+        at = put_numbers(text, at, &event_numbers(event));
     }
     at
 }
 
-// A hit's two numbers, of eight.
-fn hit_numbers(h: Hit) -> [u64; 8] {
-    [h.snake as u64, h.position as u64, 0, 0, 0, 0, 0, 0]
-}
-
-pub fn put_hits(text: &mut [u8], from: usize, hits: [Hit; 8]) -> usize {
+pub fn put_hits(text: &mut [u8], from: usize, hits: [Option<Hit>; 8]) -> usize {
     let mut at = from;
-    let mut i = 0;
-    while i < 8 {
-        let h = hits[i];
-        at = put_numbers(text, at, hit_numbers(h), 2);
-        i += 1;
+    for hit in hits {
+        let (snake, position) = match hit {
+            Some(hit) => (u64::from(hit.snake), u64::from(hit.position)),
+            None => (8, 0),
+        };
+        at = put_numbers(text, at, &[snake, position]);
     }
     at
 }

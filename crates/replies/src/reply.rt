@@ -35,35 +35,26 @@ fn refusal(r: Refusal, count: usize) -> Reply {
     Reply {
         letter: b'r',
         count,
-        numbers: [r.number as u64, r.word as u64, 0, 0, 0, 0, 0, 0],
+        numbers: [u64::from(r.number()), r.word() as u64, 0, 0, 0, 0, 0, 0],
     }
 }
 
 // Its number, and for 50 to 56 the word.
 pub fn refused(r: Refusal) -> Reply {
-    if has_word(r) {
-        return refusal(r, 2);
-    }
-    refusal(r, 1)
+    refusal(r, if has_word(r) { 2 } else { 1 })
 }
 
-// The first so many numbers, each after a space.
-pub fn put_numbers(text: &mut [u8], from: usize, numbers: [u64; 8], count: usize) -> usize {
+// Each number, after a space.
+pub fn put_numbers(text: &mut [u8], from: usize, numbers: &[u64]) -> usize {
     let mut at = from;
-    let mut k = 0;
-    while k < 8 {
-        if count <= k {
-            return at;
-        }
-        at = put_number(text, at, numbers[k]);
-        k += 1;
+    for number in numbers {
+        at = put_number(text, at, *number);
     }
     at
 }
 
 pub fn put_reply(text: &mut [u8], at: usize, reply: Reply) -> usize {
-    let numbers = reply.numbers;
     let i = put(text, at, reply.letter);
-    let j = put_numbers(text, i, numbers, reply.count);
+    let j = put_numbers(text, i, &reply.numbers[..reply.count.min(8)]);
     put(text, j, b'\n')
 }

@@ -1,23 +1,21 @@
 // The reward, whose floats stand in a line as bits.
 use crate::fields::{event_of, is_event, numbers_in};
 use crate::reply::{NO_CALL, Reply, number, refused};
-use rules::{Weights};
+use rules::Weights;
 
 // The float of that pattern. A NaN's pattern has none: it is read as an infinity, which the reward refuses by 31 too, and the outcome of a unit
 // number by 81.
 pub fn float_of(bits: u64) -> f64 {
     if 9218868437227405312 < bits % 9223372036854775808 {
-        return 1.0 / 0.0;
+        1.0 / 0.0
+    } else {
+        f64::from_bits(bits)
     }
-    f64::from_bits(bits)
 }
 
 // The pattern of a float that is no NaN, as no sum of finite weights is.
 fn bits_of(x: f64) -> u64 {
-    if x != x {
-        return 0;
-    }
-    f64::to_bits(x)
+    if x != x { 0 } else { f64::to_bits(x) }
 }
 
 fn weights_in(w: &[u64; 15]) -> Weights {
@@ -36,10 +34,7 @@ fn weights_in(w: &[u64; 15]) -> Weights {
 pub fn reward(s: &[u8]) -> Reply {
     let mut values = [0u64; 15];
     let next = numbers_in(s, 0, &mut values);
-    if next != s.len() + 1 {
-        return NO_CALL;
-    }
-    if !is_event(&values[7..15]) {
+    if next != s.len() + 1 || !is_event(&values[7..15]) {
         return NO_CALL;
     }
     let event = event_of(&values[7..15]);

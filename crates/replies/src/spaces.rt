@@ -3,10 +3,10 @@ use crate::fields::numbers_in;
 use crate::reply::{NO_CALL, Reply, number, refused};
 use grid::action_of;
 use image::{heading_of, number_of};
-use parsing::{grid_in};
-use rules::{Refusal, Space};
+use parsing::grid_in;
+use rules::Space;
 
-fn shape(space: Result<Space, Refusal>) -> Reply {
+fn shape(space: Space) -> Reply {
     match space {
         Space::Box {
             planes,
@@ -19,25 +19,26 @@ fn shape(space: Result<Space, Refusal>) -> Reply {
             count: 3,
             numbers: [planes as u64, rows as u64, cols as u64, 0, 0, 0, 0, 0],
         },
-        Ok(Space::Discrete(n)) => number(n as u64),
-        Err(r) => refused(r),
+        Space::Discrete(n) => number(n as u64),
     }
 }
 
 // `p GRID`
 pub fn observation_space(s: &[u8]) -> Reply {
-    match grid_in(s) {
+    match grid_in(s).map(arena::observation_space) {
         None => NO_CALL,
-        Some(grid) => shape(arena::observation_space(grid)),
+        Some(Ok(space)) => shape(space),
+        Some(Err(r)) => refused(r),
     }
 }
 
 // `q`, and no other letter.
 pub fn action_space(letter: u8) -> Reply {
-    if letter != b'q' {
-        return NO_CALL;
+    if letter == b'q' {
+        shape(arena::action_space())
+    } else {
+        NO_CALL
     }
-    shape(arena::action_space())
 }
 
 // `h HEADING ACTION`
@@ -47,12 +48,8 @@ pub fn turn(s: &[u8]) -> Reply {
     if next != s.len() + 1 {
         return NO_CALL;
     }
-    let heading = values[0];
-    let action = values[1];
-    if 3 < heading {
-        return NO_CALL;
-    }
-    if 2 < action {
+    let [heading, action] = values;
+    if 3 < heading || 2 < action {
         return NO_CALL;
     }
     let turned = arena::relative_to_absolute(heading_of(heading as u16), action_of(action));

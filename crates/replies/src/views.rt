@@ -10,23 +10,18 @@ use rules::{Actor, Legal, Refusal};
 fn put_light(text: &mut [u8], at: usize, x: f32) -> usize {
     let i = put(text, at, b' ');
     if x == 0.0 {
-        return put(text, i, b'0');
+        put(text, i, b'0')
+    } else if x == 1.0 {
+        put(text, i, b'1')
+    } else {
+        put(text, i, b'?')
     }
-    if x == 1.0 {
-        return put(text, i, b'1');
-    }
-    put(text, i, b'?')
 }
 
 fn put_lights(text: &mut [u8], from: usize, planes: &[f32], n: usize) -> usize {
     let mut at = from;
-    let mut k = 0;
-    while k < n {
-        if planes.len() <= k {
-            return at;
-        }
-        at = put_light(text, at, planes[k]);
-        k += 1;
+    for light in planes.iter().take(n) {
+        at = put_light(text, at, *light);
     }
     at
 }
@@ -50,7 +45,7 @@ pub fn observe_line(values: [u64; 9], words: &[u16], text: &mut [u8], at: usize)
         return NOWHERE;
     }
     let mut room = [0.5f32; 8192];
-    let planes = &mut room[0..cap as usize];
+    let planes = &mut room[..cap as usize];
     let answer = arena::observe(words, values[0], planes);
     put_planes(text, at, answer, planes)
 }

@@ -13,12 +13,8 @@ pub struct Head {
 // How many numbers stand before a call's words; nowhere for a letter that has none.
 fn numbers_before(letter: u8) -> usize {
     match letter {
-        b'c' => 0,
-        b't' => 0,
-        b'z' => 0,
-        b'x' => 0,
-        b'b' => 1,
-        b'l' => 1,
+        b'c' | b't' | b'z' | b'x' => 0,
+        b'b' | b'l' => 1,
         b'o' => 2,
         b'd' => 3,
         b'u' => 9,
@@ -36,7 +32,7 @@ fn head_of(letter: u8, s: &[u8], words: &mut [u16]) -> Head {
             words: NOWHERE,
         };
     }
-    let from = numbers_in(s, 0, &mut values[0..k]);
+    let from = numbers_in(s, 0, &mut values[..k]);
     let n = last_words(s, from, 16384, words);
     Head { values, words: n }
 }
@@ -44,19 +40,17 @@ fn head_of(letter: u8, s: &[u8], words: &mut [u16]) -> Head {
 // The calls that say few numbers.
 pub fn image_reply(letter: u8, s: &[u8], words: &mut [u16]) -> Reply {
     let head = head_of(letter, s, words);
-    let values = head.values;
-    let n = head.words;
-    if words.len() < n {
+    if words.len() < head.words {
         return NO_CALL;
     }
-    let image = &words[0..n];
+    let image = &words[..head.words];
     match letter {
         b'c' => chances::outcome(arena::count(image)),
         b't' => views::actor(image),
         b'z' => views::length_cell(image),
         b'x' => images::check_image(image),
-        b'l' => views::legal(values[0], image),
-        b'u' => views::truncation(values, image),
+        b'l' => views::legal(head.values[0], image),
+        b'u' => views::truncation(head.values, image),
         _ => NO_CALL,
     }
 }
@@ -64,15 +58,13 @@ pub fn image_reply(letter: u8, s: &[u8], words: &mut [u16]) -> Reply {
 // The others: the draw, the observation and the body.
 pub fn image_line(letter: u8, s: &[u8], words: &mut [u16], text: &mut [u8], at: usize) -> usize {
     let head = head_of(letter, s, words);
-    let values = head.values;
-    let n = head.words;
-    if words.len() < n {
+    if words.len() < head.words {
         return NOWHERE;
     }
-    let image = &words[0..n];
+    let image = &words[..head.words];
     match letter {
-        b'd' => chances::draw_line(values, image, text, at),
-        b'o' => views::observe_line(values, image, text, at),
-        _ => images::body_line(values[0], image, text, at),
+        b'd' => chances::draw_line(head.values, image, text, at),
+        b'o' => views::observe_line(head.values, image, text, at),
+        _ => images::body_line(head.values[0], image, text, at),
     }
 }
