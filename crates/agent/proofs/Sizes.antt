@@ -6,9 +6,9 @@ use mathlib.Core.Path.{◌≡◌, sym, ap, ◌∙◌}
 use mathlib.Core.Bool.{true, false, true≢false, or-true}
 use lib.Dec.{T, leb, leb→le}
 use lib.IntN.{ℤ, pos, negsuc, nat_abs}
-use lib.Signed.{lt_z, non_neg, nat_abs-le}
-use mir.Syntax.{w32, w64}
-use mir.Val.{Fits, SFits, to_z, of_z}
+use lib.Signed.{lt_z}
+use mir.Syntax.{w32}
+use mir.Val.{SFits, to_z, of_z}
 use mir.Facts.{to_z-of_z}
 use borrow.Author.Tests.{lt-ltb, ltb-true}
 use Rattle.rules.specs.View.{lit}
@@ -16,10 +16,6 @@ use Rattle.rules.specs.Says.{box, by_table}
 use Rattle.rules.specs.Calls.{space_says}
 use Rattle.rules.specs.declared.refusal.Refusal.{Refusal}
 use Rattle.rules.specs.declared.refusal.Refusal.TheVariants as Refusal
-
-plain : (g : ℤ) → lt_z g (pos 1) ≡ false → T (non_neg g)
-plain (pos g) l = tt
-plain (negsuc g) l = absurd (true≢false l)
 
 -- above a bound from 32 on, so above 32
 higher : (k : ℕ) (g : ℤ) → T (leb 32 k) → lt_z (pos k) g ≡ true → lt_z (pos 32) g ≡ true
@@ -41,10 +37,6 @@ module _ (g : ℤ) (f : SFits w32 g) where
   unfolding space_says by_table
   space_low l x r = let u = rw (to_z-of_z f) at l in rw (r, u, or-true (lt_z (pos 32) g))
 
-  pub side_fits : Fits w64 (nat_abs (to_z w32 (of_z w32 g)))
-  side_fits = rw (to_z-of_z f) (record { fits = omega (arith, nat_abs-le g f.sfits) })
-
-  module _ (l : lt_z (to_z w32 (of_z w32 g)) (pos 1) ≡ false) where
-    pub space_box : lt_z (pos 32) (to_z w32 (of_z w32 g)) ≡ false
-        → Ok (box 5 (nat_abs (to_z w32 (of_z w32 g))) (nat_abs (to_z w32 (of_z w32 g))) (lit false) (lit true)) ≡ space_says g
-    space_box h = boxed (to_z w32 (of_z w32 g)) h l ∙ ap space_says (to_z-of_z f)
+  pub space_box : lt_z (to_z w32 (of_z w32 g)) (pos 1) ≡ false → lt_z (pos 32) (to_z w32 (of_z w32 g)) ≡ false
+      → Ok (box 5 (nat_abs (to_z w32 (of_z w32 g))) (nat_abs (to_z w32 (of_z w32 g))) (lit false) (lit true)) ≡ space_says g
+  space_box l h = boxed (to_z w32 (of_z w32 g)) h l ∙ ap space_says (to_z-of_z f)

@@ -16,7 +16,7 @@ use Rattle.rules.specs.Setting.{setting_order}
 use Rattle.rules.proofs.Tables.{and_then, table_both, table_after, table_given}
 use Rattle.rules.specs.declared.Setting.{Setting}
 use Rattle.contents.specs.Orders.{layout_rows, start_rows, contents_order, find_order}
-use Rattle.contents.specs.Calls.{Span}
+use Rattle.contents.specs.declared.Span.{Span}
 use Rattle.contents.specs.Settings.{setting_in}
 use Rattle.book.specs.Book.{page_in}
 use Rattle.book.specs.Rows.{row_start, row_page}

@@ -1,11 +1,10 @@
 -- The flat answers lose nothing: refusal 0 says that an answer came, reading the flat form back gives what the call says, and two answers that meet
 -- one promise are equal, with the lent memory. Assumes nothing.
-use Rattle.std.specs.Prelude.{Ok, Err}
+use Rattle.std.specs.Prelude.{Option, Some, None, Ok, Err}
 use Prim.Native.Nat.{ℕ, ◌<◌}
 use mathlib.Core.Path.{◌≡◌, refl, sym, ap, ◌∙◌}
 use mathlib.Core.Bool.{Bool, true, false, not, ◌&&◌}
 use mathlib.Core.List.{List, [], ◌∷◌, ◌++◌, append-nil}
-use mathlib.Core.Option.{Option, none, some}
 use lib.Dec.{eqb, ltb}
 use borrow.Author.Tests.{ltb-true, lt-ltb, ne_eqb}
 use native.Mathlib.Omega.{arith}
@@ -43,15 +42,15 @@ use Rattle.rules.specs.declared.Setting.{Setting}
 use Rattle.rules.specs.declared.Weights.{Weights}
 use Rattle.rules.specs.declared.Event.{Event}
 use Rattle.rules.specs.declared.Hit.{Hit}
-use Rattle.flat.specs.Flat.{flag_in, event_in, refusal_number, refusal_in, events_bytes, unhit, hits_words}
+use Rattle.flat.specs.Flat.{flag_in, event_in, refusal_number, refusal_in, events_bytes, unhit, hit_words, hits_words}
 use Rattle.flat.proofs.Theorems.{flag_back, event_back, refusal_back}
 use Rattle.bindings.specs.Exports.{one, bit_number, key_numbers, action_numbers, shape_numbers, shape_bounds, Tells, Writes, FlatSpace, FlatSteps, FlatDraws, FlatBody}
-use Rattle.rules.specs.Refusals.{code_of}
+use Rattle.rules.specs.Refusals.{code_of, word_shown}
 
 -- ---- no call refuses by 0, so that refusal 0 says that an answer came; each number is below 256 and each word below 65,536, so that one number tells both
 
 abbrev pub tellable : Refusal → Bool
-tellable k = ltb 0 code_of k && (ltb code_of k 256 && ltb k.word 65536)
+tellable k = ltb 0 (code_of k) && (ltb (code_of k) 256 && ltb (word_shown k) 65536)
 
 unfoldable pub named : {A : Type 0} → Says A → Bool
 named (Err k) = tellable k
@@ -88,7 +87,7 @@ module _ (w : List ℕ) where
   image_named = go (image_says w) refl
     where
       go : (x : Says (Unit {0})) → image_says w ≡ x → named x ≡ true
-      go (Err k) e = let f = fault_word w k e in both (lt-ltb 0 code_of k (omega (arith, f.0))) (both (lt-ltb code_of k 256 (omega (arith, f.1))) (lt-ltb k.word 65536 f.2))
+      go (Err k) e = let f = fault_word w k e in both (lt-ltb 0 (code_of k) (omega (arith, f.0))) (both (lt-ltb (code_of k) 256 (omega (arith, f.1))) (lt-ltb (word_shown k) 65536 f.2))
       go (Ok u) e = refl
 
   -- a table that begins with an image's rows
@@ -189,13 +188,10 @@ read_as g r new = Ok (g new) if eqb r 0 else Err (refusal_in r)
 -- both are told by one number
 module _ (k : Refusal) (h : tellable k ≡ true) where
   number_some : 0 < code_of k
-  number_some = ltb-true 0 code_of k (and_left _ _ h)
+  number_some = ltb-true 0 (code_of k) (and_left _ _ h)
 
-  number_few : code_of k < 256
-  number_few = ltb-true code_of k 256 (and_left _ _ (and_right (ltb 0 code_of k) _ h))
-
-  word_few : k.word < 65536
-  word_few = ltb-true k.word 65536 (and_right (ltb code_of k 256) _ (and_right (ltb 0 code_of k) _ h))
+  word_few : word_shown k < 65536
+  word_few = ltb-true (word_shown k) 65536 (and_right (ltb (code_of k) 256) _ (and_right (ltb 0 (code_of k)) _ h))
 
   told_some : eqb (refusal_number k) 0 ≡ false
   told_some = ne_eqb (refusal_number k) 0 (λ e. omega (arith, number_some))
@@ -203,7 +199,7 @@ module _ (k : Refusal) (h : tellable k ≡ true) where
 module _ {A B : Type 0} (f : A → List B) (g : List B → A) (back : (a : A) → g (f a) ≡ a) (old new : List B) (r : ℕ) where
   pub read_back : (x : Says A) → named x ≡ true → Tells f x old new r → read_as g r new ≡ x
   unfolding named read_as
-  read_back (Err k) h t = rw (t.refusal, told_some k h) (ap Err (refusal_back k (number_few k h) (word_few k h)))
+  read_back (Err k) h t = rw (t.refusal, told_some k h) (ap Err (refusal_back k (word_few k h)))
   read_back (Ok a) h t = rw t.refusal (ap Ok (ap g t.answer ∙ back a))
 
 -- what each array is read by: a number, a flag, a key, an event, a sum
@@ -217,11 +213,11 @@ pub bit_back : (b : Bool) → flag_in (get_or (bit_number b) 0 0) ≡ b
 bit_back b = flag_back b
 
 abbrev key_in : List ℕ → Option ℕ
-key_in l = some (get_or l 1 0) if flag_in (get_or l 0 0) else none
+key_in l = Some (get_or l 1 0) if flag_in (get_or l 0 0) else None
 
 pub key_back : (k : Option ℕ) → key_in (key_numbers k) ≡ k
-key_back none = refl
-key_back (some n) = refl
+key_back None = refl
+key_back (Some n) = refl
 
 -- the actions below a number: of 3 all, of 0 none, which is what a snake may do
 actions_in_lem : (b : Bool) → let l : List ℕ = (0 ∷ 1 ∷ 2 ∷ []) if b else [] in each_below (length l) (λ i. i) ≡ l
@@ -252,13 +248,24 @@ eight_back : (es : List Event) → each_below 8 (λ i. event_in (get_or (events_
 unfolding each_below events_bytes
 eight_back es = simp event_back
 
--- eight hits
+-- eight hits, each of nobody or of a snake below 8
 abbrev hit_in : List ℕ → Option Hit
-hit_in l = record { snake = get_or l 0 0; position = get_or l 1 0 }
+hit_in l = None if eqb (get_or l 0 0) 8 else Some (record { snake = get_or l 0 0; position = get_or l 1 0 })
 
-pub hits_back : (hs : List (Option Hit)) → each_below 8 (λ i. hit_in (get_or (hits_words hs) i [])) ≡ each_below 8 (λ i. get_or hs i unhit)
+abbrev pub snake_few : Option Hit → Bool
+snake_few None = true
+snake_few (Some h) = ltb h.snake 8
+
+hit_back : (h : Option Hit) → snake_few h ≡ true → hit_in (hit_words h) ≡ h
+hit_back None p = refl
+hit_back (Some h) p = rw (ne_eqb h.snake 8 (λ e. omega (arith, ltb-true h.snake 8 p)))
+
+pub hits_back : (hs : List (Option Hit)) → ((i : ℕ) → i < 8 → snake_few (get_or hs i unhit) ≡ true)
+    → each_below 8 (λ i. hit_in (get_or (hits_words hs) i [])) ≡ each_below 8 (λ i. get_or hs i unhit)
 unfolding each_below hits_words
-hits_back hs = refl
+hits_back hs h =
+    let b : (i : ℕ) → i < 8 → hit_in (hit_words (get_or hs i unhit)) ≡ get_or hs i unhit = λ i l. hit_back (get_or hs i unhit) (h i l) in
+    rw (b 0 (omega arith), b 1 (omega arith), b 2 (omega arith), b 3 (omega arith), b 4 (omega arith), b 5 (omega arith), b 6 (omega arith), b 7 (omega arith))
 
 module _ (o : Transition) (old new : List ℕ) (events tells : List (List ℕ)) (end now : List ℕ) (r : ℕ) (t : FlatSteps (Ok o) old new events tells end now r) where
   pub next_back : take (get_or now 0 0) new ≡ image_of o.next

@@ -8,7 +8,7 @@ use Rattle.rules.specs.Step.{Transition}
 use Rattle.rules.specs.View.{lit}
 use Rattle.rules.specs.Says.{Says, lent, Shape, box, discrete}
 use Rattle.rules.specs.Calls.{Draw}
-use Rattle.contents.specs.Calls.{Span}
+use Rattle.contents.specs.declared.Span.{Span}
 use Rattle.standing.specs.Calls.{Move}
 use Rattle.flat.specs.Flat.{events_bytes}
 use Rattle.flat.specs.Games.{match_numbers}

@@ -1,4 +1,5 @@
 // The calls on a match as a value: nineteen numbers beside the setting, all 0 before the first move.
+ghost use Rattle.std.specs.Prelude.{Ok};
 ghost use Rattle.standing.specs.Calls.{move_says};
 ghost use Rattle.standing.specs.Standing.{places_of};
 ghost use Rattle.flat.specs.Flat.{flag_in, setting_in};
@@ -19,17 +20,11 @@ pub extern "C" fn lundaspro_flat_take_move(
 ) -> u64
     ensures { FlatMoves (move_says (match_in (setting_in setting.now) game.old) (flag_in terminal) image.now (events_in events.old)) events.old events.new game.old game.new result }
 {
-    let s = setting_in(setting);
-    let m = match_in(s, game);
-    let es = events_in(events);
-    let t = standing::take_move(m, terminal != 0, image, es);
-    let verdict = t.verdict;
-    match verdict {
-        Ok(()) => {
-            let shown = t.events;
-            let after = t.game;
-            *events = events_bytes(shown);
-            *game = match_numbers(after);
+    let m = match_in(setting_in(setting), game);
+    match standing::take_move(m, terminal != 0, image, events_in(events)) {
+        Ok(taken) => {
+            *events = events_bytes(taken.events);
+            *game = match_numbers(taken.game);
             0
         }
         Err(r) => refusal_number(r),
@@ -45,8 +40,6 @@ pub extern "C" fn lundaspro_flat_places(
 ) -> u64
     ensures { Tells whole (Ok (places_of (match_in (setting_in setting.now) game.now))) places.old places.new result }
 {
-    let s = setting_in(setting);
-    let m = match_in(s, game);
-    *places = standing::places(m);
+    *places = standing::places(match_in(setting_in(setting), game));
     0
 }

@@ -1,7 +1,7 @@
 // The calls on what an agent sees, may do and gets.
-ghost use Rattle.std.specs.Prelude.{◌≡◌, length};
+ghost use Rattle.std.specs.Prelude.{◌≡◌, length, Ok};
 ghost use Rattle.rules.specs.Headings.{number_of, heading_of, action_of, turned};
-ghost use Rattle.rules.specs.Says.{says_space};
+ghost use Rattle.rules.specs.Says.{seen, shape_of};
 ghost use Rattle.rules.specs.Calls.{observe_says, actor_says, legal_says, key_says, truncation_says, reward_says, space_says, action_says};
 ghost use Rattle.flat.specs.Flat.{grid_in, weights_in, event_in, event_bytes};
 ghost use Rattle.bindings.specs.Exports.{one, whole, bit_number, key_numbers, action_numbers, Tells, Writes, FlatSpace};
@@ -20,22 +20,23 @@ pub extern "C" fn lundaspro_flat_observe(
 ) -> u64
     ensures { Writes whole (observe_says image.now agent (length obs.old)) obs.old obs.new written.old written.new result }
 {
-    let a = arena::observe(image, agent, obs);
-    tell_words(a, written)
+    tell_words(arena::observe(image, agent, obs), written)
 }
 
 // A space's five numbers and two bounds.
 fn tell_space(a: Result<Space, Refusal>, sizes: &mut [u64; 5], bounds: &mut [f32; 2]) -> u64
-    ensures { FlatSpace (says_space a) sizes.old sizes.new bounds.old bounds.new result }
+    ensures { FlatSpace (seen shape_of a) sizes.old sizes.new bounds.old bounds.new result }
 {
     match a {
-        Space::Box {
-            planes,
-            rows,
-            cols,
-            low,
-            high,
-        } => {
+        Ok(
+            Space::Box {
+                planes,
+                rows,
+                cols,
+                low,
+                high,
+            },
+        ) => {
             *sizes = [0, 0, planes as u64, rows as u64, cols as u64];
             *bounds = [low, high];
             0
@@ -58,8 +59,7 @@ pub extern "C" fn lundaspro_flat_observation_space(
 ) -> u64
     ensures { FlatSpace (space_says (grid_in grid)) sizes.old sizes.new bounds.old bounds.new result }
 {
-    let a = arena::observation_space(grid_in(grid));
-    tell_space(a, sizes, bounds)
+    tell_space(arena::observation_space(grid_in(grid)), sizes, bounds)
 }
 
 // Never refused.
@@ -67,8 +67,7 @@ pub extern "C" fn lundaspro_flat_observation_space(
 pub extern "C" fn lundaspro_flat_action_space(sizes: &mut [u64; 5], bounds: &mut [f32; 2]) -> u64
     ensures { FlatSpace action_says sizes.old sizes.new bounds.old bounds.new result }
 {
-    let a = arena::action_space();
-    tell_space(a, sizes, bounds)
+    tell_space(Ok(arena::action_space()), sizes, bounds)
 }
 
 // Whether there is a key, and the key. Refusals 50 to 56.
@@ -76,8 +75,7 @@ pub extern "C" fn lundaspro_flat_action_space(sizes: &mut [u64; 5], bounds: &mut
 pub extern "C" fn lundaspro_flat_length_cell(image: &[u16], key: &mut [u64; 2]) -> u64
     ensures { Tells key_numbers (key_says image.now) key.old key.new result }
 {
-    let a = arena::length_cell(image);
-    match a {
+    match arena::length_cell(image) {
         Ok(Some(n)) => {
             *key = [1, n];
             0
@@ -95,8 +93,7 @@ pub extern "C" fn lundaspro_flat_length_cell(image: &[u16], key: &mut [u64; 2]) 
 pub extern "C" fn lundaspro_flat_actor(image: &[u16], chance: &mut [u64; 1]) -> u64
     ensures { Tells bit_number (actor_says image.now) chance.old chance.new result }
 {
-    let a = arena::actor(image);
-    match a {
+    match arena::actor(image) {
         Ok(Actor::Chance) => {
             *chance = [1];
             0
@@ -118,8 +115,7 @@ pub extern "C" fn lundaspro_flat_legal_actions(
 ) -> u64
     ensures { Tells action_numbers (legal_says image.now agent) actions.old actions.new result }
 {
-    let a = arena::legal_actions(image, agent);
-    match a {
+    match arena::legal_actions(image, agent) {
         Ok(Legal::AnyAction) => {
             *actions = [3];
             0
@@ -142,11 +138,9 @@ pub extern "C" fn lundaspro_flat_truncation(
 ) -> u64
     ensures { Tells event_bytes (truncation_says image.now agent (event_in event.now)) marked.old marked.new result }
 {
-    let e = event_in(event);
-    let a = arena::truncation(image, agent, e);
-    match a {
-        Ok(m) => {
-            *marked = event_bytes(m);
+    match arena::truncation(image, agent, event_in(event)) {
+        Ok(told) => {
+            *marked = event_bytes(told);
             0
         }
         Err(r) => refusal_number(r),
@@ -162,10 +156,7 @@ pub extern "C" fn lundaspro_flat_reward(
 ) -> u64
     ensures { Tells one (reward_says (weights_in weights.now) (event_in event.now)) sum.old sum.new result }
 {
-    let w = weights_in(weights);
-    let e = event_in(event);
-    let a = arena::reward(w, e);
-    match a {
+    match arena::reward(weights_in(weights), event_in(event)) {
         Ok(x) => {
             *sum = [x];
             0
@@ -194,9 +185,7 @@ pub extern "C" fn lundaspro_flat_relative_to_absolute(
 ) -> u64
     ensures { Tells one (Ok (number_of (turned (heading_of heading) (action_of action)))) after.old after.new result }
 {
-    let h = heading_in(heading);
-    let a = grid::action_of(action);
-    let to = arena::relative_to_absolute(h, a);
+    let to = arena::relative_to_absolute(heading_in(heading), grid::action_of(action));
     *after = [image::number_of(to) as u64];
     0
 }

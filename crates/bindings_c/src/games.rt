@@ -1,4 +1,5 @@
 // The calls on a match as a value: nineteen numbers beside the setting, all 0 before the first move.
+ghost use Rattle.std.specs.Prelude.{Ok};
 ghost use Rattle.standing.specs.Calls.{move_says};
 ghost use Rattle.standing.specs.Standing.{places_of};
 ghost use Rattle.flat.specs.Flat.{flag_in, setting_in};

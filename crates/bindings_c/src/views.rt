@@ -1,7 +1,6 @@
 // The calls on what an agent sees, may do and gets.
-ghost use Rattle.std.specs.Prelude.{◌≡◌, length};
+ghost use Rattle.std.specs.Prelude.{◌≡◌, length, Ok};
 ghost use Rattle.rules.specs.Headings.{number_of, heading_of, action_of, turned};
-ghost use Rattle.rules.specs.Says.{says_space};
 ghost use Rattle.rules.specs.Calls.{observe_says, actor_says, legal_says, key_says, truncation_says, reward_says, space_says, action_says};
 ghost use Rattle.flat.specs.Flat.{grid_in, weights_in, event_in, event_bytes};
 ghost use Rattle.bindings.specs.Exports.{one, whole, bit_number, key_numbers, action_numbers, Tells, Writes, FlatSpace};

@@ -5,7 +5,7 @@ ghost use Rattle.book_words.specs.Settings.{amount, limit_of, limit_at, setting_
 ghost use Rattle.book_words.specs.Written.{Five, Wordy, Fronted};
 
 use crate::words::{four, word};
-use rules::{Setting};
+use rules::Setting;
 
 fn limit_of(set: bool, number: u64) -> Option<u64>
     ensures { result ≡ limit_of set number }

@@ -1,23 +1,11 @@
 // Refusals 1 to 6 and 8: what a setting's numbers tell before any snake is placed.
 ghost use Rattle.std.specs.Prelude.{◌≡◌, ◌^◌, ◌≤◌, ltb};
 ghost use Rattle.lists.specs.Products.{falling};
-ghost use Rattle.rules.specs.Setting.{is_set, is_zero, side_of};
+ghost use Rattle.rules.specs.Setting.{side_of};
 ghost use Rattle.rules.specs.SettingParts.{limits_says};
 ghost use Rattle.bounds.specs.Crowds.{crowd_says};
 
 use rules::{Refusal, Setting};
-
-fn is_zero(lead: Option<u64>) -> bool
-    ensures { result ≡ is_zero lead }
-{
-    matches!(lead, Some(0))
-}
-
-fn is_set(lead: Option<u64>) -> bool
-    ensures { result ≡ is_set lead }
-{
-    matches!(lead, Some(_))
-}
 
 // The grid's side; 0 where the grid is negative.
 pub fn side_of(grid: i32) -> u64
@@ -26,13 +14,15 @@ pub fn side_of(grid: i32) -> u64
     grid.max(0) as u64
 }
 
-// Whether the product of k factors from `area` downward is above 2^53; a product that is 0 is one above 2^64 - 1.
+// Whether the product of k factors from `area` downward is above 2^53; no product is one above 2^64 - 1.
 fn too_many(area: usize, k: usize) -> bool
     requires { k ≤ area }
     ensures { result ≡ ltb (2 ^ 53) (falling area k) }
 {
-    let product = lists::product(area, k);
-    product == 0 || 9007199254740992 < product
+    match lists::product(area, k) {
+        Some(product) => 9007199254740992 < product,
+        None => true,
+    }
 }
 
 // Refusals 6 and 8.
@@ -62,10 +52,10 @@ pub fn limits(setting: Setting) -> Result<(), Refusal>
     if setting.initial_length == 0 {
         return Err(Refusal::LengthZero);
     }
-    if is_zero(setting.win_food_lead) {
+    if setting.win_food_lead == Some(0) {
         return Err(Refusal::LeadZero);
     }
-    if is_set(setting.win_food_lead) && n != 2 {
+    if setting.win_food_lead.is_some() && n != 2 {
         return Err(Refusal::LeadNotTwo);
     }
     if 32 < setting.grid_size {

@@ -1,12 +1,9 @@
--- What bounds a draw: the squares of the grid, the free cells, 64 bits; and what stays due after it. Assumes nothing.
+-- What bounds a draw: the squares of the grid, the free cells, 64 bits. Assumes nothing.
 use mathlib.Core.Path.{◌≡◌, sym, ap, ◌∙◌}
-use mathlib.Core.Bool.{Bool, true, false, not, ◌&&◌}
 use mathlib.Core.List.{List}
 use Prim.Native.Nat.{ℕ, ◌-◌, ◌≤◌, ◌<◌, ◌^◌}
 use native.Mathlib.Omega.{arith}
-use lib.Dec.{eqb}
-use borrow.Author.Tests.{ltb-false, not-true, not-false, eq-eqb, ne_eqb}
-use Rattle.lists.specs.Choice.{◌if◌else◌}
+use borrow.Author.Tests.{ltb-false}
 use Rattle.lists.specs.Products.{falling}
 use Rattle.rules.specs.Image.{state_of}
 use Rattle.rules.specs.Chance.{outcomes, digits, pick, drawn_from}
@@ -41,16 +38,3 @@ module _ (w strips : List ℕ) (r : Odds) (o : Stands w strips r) where
   pub count_fits : (r.count ≡ 0 → ⊥) → falling r.free r.size < 2 ^ 64
   unfolding outcomes
   count_fits n = rw (o.free_is, o.size_is) (let l = ltb-false (2 ^ 64 - 1) (outcomes (state_of w)) (count_in w strips r o n) in omega arith)
-
--- ---- what stays due after a draw
-
-module _ (b : Bool) (due left : ℕ) where
-  pub due_none : not b ≡ true → 0 ≡ (due - 1 if b && not (eqb left 0) else 0)
-  due_none t = rw (not-true b t)
-
-  module _ (t : not b ≡ false) where
-    pub due_full : left ≡ 0 → 0 ≡ (due - 1 if b && not (eqb left 0) else 0)
-    due_full e = rw (not-false b t, eq-eqb left 0 e)
-
-    pub due_less : (left ≡ 0 → ⊥) → due - 1 ≡ (due - 1 if b && not (eqb left 0) else 0)
-    due_less n = rw (not-false b t, ne_eqb left 0 n)

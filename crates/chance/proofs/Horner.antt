@@ -1,6 +1,6 @@
 -- The rank as a loop adds it up, cell by cell, and the test that each cell is there when its turn comes. Assumes nothing.
 use Rattle.std.specs.Prelude.{Ok, Err}
-use mathlib.Core.Path.{◌≡◌, refl, sym, ap, ap₂, ◌∙◌}
+use mathlib.Core.Path.{◌≡◌, refl, sym, ap, ap₂, ◌∙◌, subst}
 use mathlib.Core.Bool.{Bool, true, false, ◌&&◌}
 use mathlib.Core.List.{List, [], ◌∷◌}
 use Prim.Native.Nat.{ℕ, suc, ◌+◌, ◌-◌, ◌*◌, ◌≤◌, ◌<◌, ◌^◌}
@@ -121,7 +121,7 @@ module _ (b new l : List ℕ) (area free j r p : ℕ) where
   abbrev x : ℕ
   x = get_or l j 0
 
-  module _ (h : j < length l) (g : x < area) (u : marked b x ≡ false) (m : Ok x b new) (n : length (unmarked b area) + j ≡ free) (e : p ≡ length (unmarked b x)) where
+  module _ (h : j < length l) (g : x < area) (u : marked b x ≡ false) (m : Marked x b new) (n : length (unmarked b area) + j ≡ free) (e : p ≡ length (unmarked b x)) where
     here : member x (unmarked b area) ≡ true
     here = open_member b area x g u
 
@@ -174,32 +174,37 @@ module _ (l : List ℕ) (area free : ℕ) (start : List ℕ) where
       pub ranked_times : Rankable l area free start → Fits w64 (r * (free - j))
       ranked_times q = let f = fits q 0 (omega (arith, q.few)) in omega arith
 
-      pub ranked_off : area ≤ get_or l j 0 → (x : Refusal) → x ≡ Refusal.List → Ranked (unmarked start area) l (Err x)
-      ranked_off g = refused (off_area b area (get_or l j 0) g)
+      -- the cell that stands next
+      module _ (c : ℕ) (z : c ≡ get_or l j 0) where
+        pub ranked_off : area ≤ c → (x : Refusal) → x ≡ Refusal.List → Ranked (unmarked start area) l (Err x)
+        ranked_off g = refused (rw (← z) (off_area b area c g))
 
-      module _ (t : Bool) (m : t ≡ marked b (get_or l j 0)) where
-        pub ranked_taken : t ≡ true → (x : Refusal) → x ≡ Refusal.List → Ranked (unmarked start area) l (Err x)
-        ranked_taken y = refused (taken_square b area (get_or l j 0) (sym m ∙ y))
+        module _ (t : Bool) (m : t ≡ marked b c) where
+          pub ranked_taken : t ≡ true → (x : Refusal) → x ≡ Refusal.List → Ranked (unmarked start area) l (Err x)
+          ranked_taken y = refused (rw (← z) (taken_square b area c (sym m ∙ y)))
 
-        module _ (y : t ≡ false) (g : get_or l j 0 < area) where
-          pub ranked_free : Free area b tally (get_or l j 0)
-          ranked_free = record { counted = v.counted; inside = g; clear = sym m ∙ y }
+          module _ (y : t ≡ false) (g : c < area) where
+            pub ranked_free : Free area b tally c
+            ranked_free = record { counted = v.counted; inside = g; clear = sym m ∙ y }
 
-          module _ (q : Rankable l area free start) (p : ℕ) (new after : List ℕ) (k : Placed area (get_or l j 0) b new after p) where
-            small : p < free - j
-            small = omega (arith, place_under b area (get_or l j 0) p g (sym m ∙ y) k.place, v.left)
+            module _ (q : Rankable l area free start) (p : ℕ) (new after : List ℕ) (k : Placed area c b new after p) where
+              small : p < free - j
+              small = omega (arith, place_under b area c p g (sym m ∙ y) k.place, v.left)
 
-            pub ranked_room : Fits w64 (r * (free - j) + p)
-            ranked_room = omega (arith, fits q p small)
+              pub ranked_room : Fits w64 (r * (free - j) + p)
+              ranked_room = omega (arith, fits q p small)
 
-            pub ranked_next : RankedTo l area free start new after (r * (free - j) + p) (j + 1)
-            ranked_next =
-                let o = k.took.marks in
-                record {
-                  within = omega arith;
-                  counted = k.took.counted;
-                  left = left_one b new l area free j r p h g (sym m ∙ y) o v.left k.place;
-                  turn = turn_one b new l area free j r p h g (sym m ∙ y) o v.left k.place ∙ v.turn;
-                  rest = rank_one b new l area free j r p h g (sym m ∙ y) o v.left k.place ∙ v.rest;
-                  below = rank_below free j 0 r p v.below small;
-                }
+              pub ranked_next : RankedTo l area free start new after (r * (free - j) + p) (j + 1)
+              ranked_next =
+                  let i : get_or l j 0 < area = subst (λ (n : ℕ). n < area) z g in
+                  let u : marked b (get_or l j 0) ≡ false = subst (λ (n : ℕ). marked b n ≡ false) z (sym m ∙ y) in
+                  let k' : Placed area (get_or l j 0) b new after p = subst (λ (n : ℕ). Placed area n b new after p) z k in
+                  let o = k'.took.marks in
+                  record {
+                    within = omega arith;
+                    counted = k.took.counted;
+                    left = left_one b new l area free j r p h i u o v.left k'.place;
+                    turn = turn_one b new l area free j r p h i u o v.left k'.place ∙ v.turn;
+                    rest = rank_one b new l area free j r p h i u o v.left k'.place ∙ v.rest;
+                    below = rank_below free j 0 r p v.below small;
+                  }

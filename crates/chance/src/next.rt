@@ -32,19 +32,13 @@ fn due_after(due: usize, birth: bool, free: usize) -> usize
     requires { 0 < due }
     ensures { result ≡ (due - 1 if birth && not (eqb free 0) else 0) }
 {
-    if !birth {
-        return 0;
-    }
-    if free == 0 {
-        return 0;
-    }
-    due - 1
+    if birth && free != 0 { due - 1 } else { 0 }
 }
 
 fn birth_after(due: usize, birth: bool, free: usize) -> bool
     ensures { result ≡ (birth && not (eqb free 0 || eqb due 1)) }
 {
-    birth & !((free == 0) | (due == 1))
+    birth && !(free == 0 || due == 1)
 }
 
 // The image copied, words 2 to 4 anew, and each cell put into the food.
@@ -78,15 +72,13 @@ fn draw_into(
     requires { Ready image.now index found strips.old (length out.old) (length list.old) }
     ensures { Answers (Ok (draw_of image.now index)) out.old out.new list.old list.new result }
 {
-    let size = found.size;
-    let free = found.free;
     let g = image[1] as usize;
     let due = image[2] as usize;
     let birth = image[3] == 1;
-    draw_list(&mut list[0..size], index, free, g * g, strips);
-    let left = due_after(due, birth, free);
-    let stays = birth_after(due, birth, free);
-    write_next(image, left, stays, &list[0..size], out);
+    draw_list(&mut list[0..found.size], index, found.free, g * g, strips);
+    let left = due_after(due, birth, found.free);
+    let stays = birth_after(due, birth, found.free);
+    write_next(image, left, stays, &list[0..found.size], out);
     Ok(Drawn {
         words: image.len() + found.size,
         cells: found.size,
@@ -94,7 +86,12 @@ fn draw_into(
 }
 
 // Refusals 23, 28, 27, 29; nothing is written before the last of them.
-pub fn draw_due(image: &[u16], index: u64, out: &mut [u16], list: &mut [u16]) -> Result<Drawn, Refusal>
+pub fn draw_due(
+    image: &[u16],
+    index: u64,
+    out: &mut [u16],
+    list: &mut [u16],
+) -> Result<Drawn, Refusal>
     requires { Sound image.now }
     ensures { Draws image.now index out.old out.new list.old list.new result }
 {
@@ -109,10 +106,7 @@ pub fn draw_due(image: &[u16], index: u64, out: &mut [u16], list: &mut [u16]) ->
     if found.count <= index {
         return Err(Refusal::Outcome);
     }
-    if out.len() < image.len() + found.size {
-        return Err(Refusal::Buffer);
-    }
-    if list.len() < found.size {
+    if out.len() < image.len() + found.size || list.len() < found.size {
         return Err(Refusal::Buffer);
     }
     draw_into(image, index, found, &mut strips, out, list)

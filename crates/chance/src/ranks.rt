@@ -4,9 +4,8 @@ ghost use Rattle.rules.specs.Promises.{Ranks};
 ghost use Rattle.strips.specs.Marks.{unmarked, Counted, Free};
 ghost use Rattle.chance.specs.Ranking.{Placed, Rankable, Ranked};
 
-use rules::Refusal;
-
 use outcomes::odds_of;
+use rules::Refusal;
 use strips::{count_strips, free_below, is_marked, take};
 
 // The place of a free cell among the free ones, which it then leaves.
@@ -32,17 +31,12 @@ fn rank_cells(
     ensures { Ranked (unmarked strips.old area) list.now result }
 {
     let mut rank: u64 = 0;
-    let mut j = 0;
-    while j < list.len() {
-        let c = list[j] as usize;
-        if area <= c {
+    for (j, word) in list.iter().enumerate() {
+        let cell = usize::from(*word);
+        if area <= cell || is_marked(strips, cell) {
             return Err(Refusal::List);
         }
-        if is_marked(strips, c) {
-            return Err(Refusal::List);
-        }
-        rank = rank * (free - j) as u64 + take_place(strips, tally, area, c) as u64;
-        j += 1;
+        rank = rank * (free - j) as u64 + take_place(strips, tally, area, cell) as u64;
     }
     Ok(rank)
 }

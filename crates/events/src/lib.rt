@@ -14,6 +14,7 @@ pub fn is_death(cause: Option<Cause>) -> bool
     cause.is_some()
 }
 
+// No From: an event without a cause has a number too, and an Option takes no impl from here.
 pub fn cause_number(cause: Option<Cause>) -> u16
     ensures { (result ≡ cause_number cause) × (result ≤ 4) }
 {

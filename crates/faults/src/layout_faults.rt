@@ -16,11 +16,10 @@ fn bodies_fault(image: &[u16], food: usize) -> Refusal
     requires food_value { food ≡ food_start image.now }
     ensures { Faulty image.now result }
 {
-    let i = first_twice(image);
-    if i < image[0] as usize {
-        return Refusal::CellTwice(twice_at(image, i));
+    match first_twice(image) {
+        Some(i) => Refusal::CellTwice(twice_at(image, i)),
+        None => Refusal::FoodOrder(first_fall(image, food)),
     }
-    Refusal::FoodOrder(first_fall(image, food))
 }
 
 fn cells_fault(image: &[u16], food: usize) -> Refusal
@@ -42,10 +41,9 @@ pub(crate) fn layout_fault(image: &[u16]) -> Refusal
     if !found.fits {
         return Refusal::Start(first_start(image));
     }
-    let food = found.food;
-    let total = food + image[4] as usize;
+    let total = found.food + image[4] as usize;
     if total != image.len() {
         return Refusal::Total(smaller(total, image.len()));
     }
-    cells_fault(image, food)
+    cells_fault(image, found.food)
 }

@@ -8,7 +8,7 @@ ghost use Rattle.rules.specs.Promises.{Examines, Faulty};
 ghost use Rattle.faults.specs.Past.{Counted};
 
 use layout_faults::layout_fault;
-use rules::{Refusal};
+use rules::Refusal;
 use wellformed::contents_fit;
 use wrong_contents::{contents_out, cut_short, first_record, record_out};
 
@@ -19,11 +19,10 @@ fn records_fault(image: &[u16]) -> Refusal
 {
     let n = image[0] as usize;
     let g = image[1] as usize;
-    let i = first_record(image, g * g, n);
-    if i < n {
-        return Refusal::OutOfRange(record_out(image, g * g, i));
+    match first_record(image, g * g, n) {
+        Some(i) => Refusal::OutOfRange(record_out(image, g * g, i)),
+        None => layout_fault(image),
     }
-    layout_fault(image)
 }
 
 // The fault of an image that is not well-formed.

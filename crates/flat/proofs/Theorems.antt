@@ -2,7 +2,7 @@
 -- by the grid's own number. Assumes nothing.
 use Rattle.std.specs.Prelude.{Option, Some, None, Err}
 use Prim.Native.Nat.{ℕ, ◌+◌, ◌-◌, ◌*◌, ◌/◌, ◌%◌, ◌<◌, ◌≤◌}
-use mathlib.Core.Path.{◌≡◌, refl, sym, ap, ◌∙◌}
+use mathlib.Core.Path.{◌≡◌, refl, sym, ap, ap₂, ◌∙◌}
 use mathlib.Core.Bool.{Bool, true, false}
 use mathlib.Core.List.{List, [], ◌∷◌}
 use native.Mathlib.Omega.{arith}
@@ -30,7 +30,7 @@ use Rattle.flat.specs.Flat.{flag_in, limit_in, grid_in, setting_in, event_in, ev
 use Rattle.flat.specs.Games.{events_in, match_in, match_numbers}
 use Rattle.flat.proofs.Read.{no_grid}
 use Rattle.rules.specs.declared.refusal.Refusal.TheVariants as Refusal
-use Rattle.rules.specs.Refusals.{code_of}
+use Rattle.rules.specs.Refusals.{word_shown, refusal_by}
 
 -- ---- an event
 
@@ -93,18 +93,51 @@ match_back m p q = λ i. record {
 -- ---- a refusal
 
 -- a number below 256 and a word below 65,536 are told by one number
-module _ (k : Refusal) (n : code_of k < 256) (s : k.word < 65536) where
-  told_is : refusal_number k ≡ code_of k + 256 * k.word
-  told_is = omega arith
+told_back : (n at : ℕ) → n < 256 → at < 65536 → refusal_in (n + 256 * (at % 65536)) ≡ refusal_by n at
+told_back n at h s =
+    let e : n + 256 * (at % 65536) ≡ n + 256 * at = omega arith in
+    let p : (n + 256 * at) % 256 ≡ n = omega arith in
+    let q : (n + 256 * at) / 256 ≡ at = omega arith in
+    ap refusal_in e ∙ ap₂ refusal_by p q
 
-  number_told : refusal_number k % 256 ≡ code_of k
-  number_told = omega (arith, told_is)
-
-  word_told : refusal_number k / 256 ≡ k.word
-  word_told = omega (arith, told_is)
-
-  pub refusal_back : refusal_in (refusal_number k) ≡ k
-  refusal_back = λ i. by_word (number_told i) (word_told i)
+pub refusal_back : (k : Refusal) → word_shown k < 65536 → refusal_in (refusal_number k) ≡ k
+refusal_back Refusal.Snakes s = refl
+refusal_back Refusal.LengthZero s = refl
+refusal_back Refusal.LeadZero s = refl
+refusal_back Refusal.LeadNotTwo s = refl
+refusal_back Refusal.Grid s = refl
+refusal_back Refusal.FoodArea s = refl
+refusal_back Refusal.Chain s = refl
+refusal_back Refusal.Product s = refl
+refusal_back Refusal.Untraceable s = refl
+refusal_back Refusal.CellOutside s = refl
+refusal_back Refusal.CellTaken s = refl
+refusal_back Refusal.FoodFree s = refl
+refusal_back Refusal.OtherSetting s = refl
+refusal_back Refusal.FoodDue s = refl
+refusal_back Refusal.NoneDue s = refl
+refusal_back Refusal.ActionCount s = refl
+refusal_back Refusal.Action s = refl
+refusal_back Refusal.Agent s = refl
+refusal_back Refusal.Outcome s = refl
+refusal_back Refusal.Count s = refl
+refusal_back Refusal.Buffer s = refl
+refusal_back Refusal.List s = refl
+refusal_back Refusal.Weight s = refl
+refusal_back Refusal.Line s = refl
+refusal_back Refusal.Over s = refl
+refusal_back Refusal.Contents s = refl
+refusal_back Refusal.Page s = refl
+refusal_back Refusal.Pages s = refl
+refusal_back (Refusal.CutShort at) s = told_back 50 at (omega arith) s
+refusal_back (Refusal.OutOfRange at) s = told_back 51 at (omega arith) s
+refusal_back (Refusal.Start at) s = told_back 52 at (omega arith) s
+refusal_back (Refusal.Total at) s = told_back 53 at (omega arith) s
+refusal_back (Refusal.CellBeyond at) s = told_back 54 at (omega arith) s
+refusal_back (Refusal.CellTwice at) s = told_back 55 at (omega arith) s
+refusal_back (Refusal.FoodOrder at) s = told_back 56 at (omega arith) s
+refusal_back Refusal.UnitCount s = refl
+refusal_back Refusal.UnitNumber s = refl
 
 -- ---- a setting, as a caller says it
 

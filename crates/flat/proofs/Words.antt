@@ -25,7 +25,7 @@ use Rattle.wellformed.specs.declared.contents.Layout.{Layout}
 use Rattle.faults.specs.Past.{Counted, InRange, InPlace, OnGrid}
 use Rattle.faults.proofs.Rows.{at_50, at_51, counted, at_record, in_range, at_52, at_53, in_place, at_54, on_grid, at_55, at_56}
 use Rattle.rules.specs.declared.refusal.Refusal.TheVariants as Refusal
-use Rattle.rules.specs.Refusals.{code_of}
+use Rattle.rules.specs.Refusals.{code_of, word_shown}
 
 -- a refusal that is the image's, with a small word
 pub record Known (w : List ℕ) : Type 0 where
@@ -33,7 +33,7 @@ pub record Known (w : List ℕ) : Type 0 where
   pub faulty : Faulty w why
   pub low : 50 ≤ code_of why
   pub high : code_of why ≤ 56
-  pub small : why.word < 65536
+  pub small : word_shown why < 65536
 
 few : (a b c d : Bool) → (0 if a else 1 if b else 2 if c else 3 if d else 4) ≤ 4
 few true b c d = omega arith
@@ -48,12 +48,12 @@ near i false true = omega arith
 near i false false = omega arith
 
 module _ (w : List ℕ) where
-  known : (n m : ℕ) → 50 ≤ n → n ≤ 56 → m < 65536 → Faulty w (by_word n m) → Known w
-  known n m l h s f = record { why = by_word n m; faulty = f; low = l; high = h; small = s }
+  known : (k : Refusal) (n m : ℕ) → code_of k ≡ n → word_shown k ≡ m → 50 ≤ n → n ≤ 56 → m < 65536 → Faulty w k → Known w
+  known k n m p q l h s f = record { why = k; faulty = f; low = rw p l; high = rw p h; small = rw q s }
 
   cut_known : cut_short w ≡ true → Known w
   unfolding cut_short
-  cut_known t = known 50 (length w) (omega arith) (omega arith) short (at_50 w (cut_short w) refl t (Refusal.CutShort (length w)) refl)
+  cut_known t = known (Refusal.CutShort (length w)) 50 (length w) refl refl (omega arith) (omega arith) short (at_50 w (cut_short w) refl t (Refusal.CutShort (length w)) refl)
     where
       short : length w < 65536
       short = elim (ordered (length w) 5) [
@@ -69,7 +69,7 @@ module _ (w : List ℕ) where
     contents_known : contents_fit w ≡ false → Known w
     unfolding contents_out
     contents_known t =
-        known 51 (contents_out w) (omega arith) (omega arith)
+        known (Refusal.OutOfRange (contents_out w)) 51 (contents_out w) refl refl (omega arith) (omega arith)
         (let f = few (not (between 2 (snakes_in w) 8)) (not (between 1 (side_in w) 32)) (ltb 1024 (due_in w)) (ltb 1 (birth_in w)) in omega arith)
         (at_51 w (cut_short w) refl c (contents_fit w) refl (ap not t) (contents_out w) refl (Refusal.OutOfRange (contents_out w)) refl)
 
@@ -91,7 +91,7 @@ module _ (w : List ℕ) where
   record_known : Counted w → bad_record < snakes_in w → Known w
   unfolding record_out
   record_known k h =
-      known 51 (record_out w bad_record) (omega arith) (omega arith)
+      known (Refusal.OutOfRange (record_out w bad_record)) 51 (record_out w bad_record) refl refl (omega arith) (omega arith)
       (let f = near bad_record (ltb (area_in w) (length_at w bad_record) || (eqb (alive_at w bad_record) 1 && eqb (length_at w bad_record) 0)) (ltb 3 (heading_at w bad_record)) in
       omega (arith, snakes_few k.fits))
       (at_record w k bad_record refl h (record_out w bad_record) refl (Refusal.OutOfRange (record_out w bad_record)) refl)
@@ -106,7 +106,7 @@ module _ (w : List ℕ) where
     start_known : starts_fit w ≡ false → Known w
     unfolding start_word
     start_known t =
-        known 52 (start_word w) (omega arith) (omega arith)
+        known (Refusal.Start (start_word w)) 52 (start_word w) refl refl (omega arith) (omega arith)
         (omega (arith, lowest_le (λ i. not (eqb (start_at w i) (start_due w i))) 0 (snakes_in w), k.ranged.snakes_max))
         (at_52 w k layout laid (ap not t) (start_word w) refl (Refusal.Start (start_word w)) refl)
 
@@ -117,7 +117,7 @@ module _ (w : List ℕ) where
       total_known : (food_start w + food_count_in w ≡ length w → ⊥) → Known w
       unfolding total_word
       total_known n =
-          known 53 (total_word w) (omega arith) (omega arith) (omega (arith, early, min-le_left (food_start w + food_count_in w) (length w)))
+          known (Refusal.Total (total_word w)) 53 (total_word w) refl refl (omega arith) (omega arith) (omega (arith, early, min-le_left (food_start w + food_count_in w) (length w)))
           (at_53 w k layout laid (ap not t) n (total_word w) refl (Refusal.Total (total_word w)) refl)
 
       placed : food_start w + food_count_in w ≡ length w → InPlace w
@@ -128,7 +128,7 @@ module _ (w : List ℕ) where
       cell_known : cells_fit w ≡ false → Known w
       unfolding cell_word
       cell_known t =
-          known 54 (cell_word w) (omega arith) (omega arith)
+          known (Refusal.CellBeyond (cell_word w)) 54 (cell_word w) refl refl (omega arith) (omega arith)
           (omega (arith, lowest_le (λ j. leb (area_in w) (word w j)) (front (snakes_in w)) (length w - front (snakes_in w)), k.laid.ranged.long.records_in))
           (at_54 w k (cells_fit w) refl (ap not t) (cell_word w) refl (Refusal.CellBeyond (cell_word w)) refl)
 
@@ -145,7 +145,7 @@ module _ (w : List ℕ) where
       twice_known : twice < snakes_in w → Known w
       unfolding twice_in
       twice_known h =
-          known 55 place (omega arith) (omega arith)
+          known (Refusal.CellTwice place) 55 place refl refl (omega arith) (omega arith)
           (omega (
             arith,
             lowest_le (λ j. member (get_or (body_at w twice) j 0) (take j (body_at w twice))) 0 (length (body_at w twice)),
@@ -159,7 +159,7 @@ module _ (w : List ℕ) where
       food_known : snakes_in w ≤ twice → Known w
       unfolding food_word
       food_known h =
-          known 56 (food_word w) (omega arith) (omega arith)
+          known (Refusal.FoodOrder (food_word w)) 56 (food_word w) refl refl (omega arith) (omega arith)
           (omega (arith, lowest_le (λ j. leb (word w j) (word w (j - 1))) (food_start w + 1) (length w - (food_start w + 1)), k.board.laid.ranged.food_early))
           (at_56 w k twice refl h (food_word w) refl (Refusal.FoodOrder (food_word w)) refl)
 
@@ -193,7 +193,7 @@ module _ (w : List ℕ) where
   accepted f = image_given w (Ok tt) f
 
   -- what is said of an image that is refused is that
-  pub fault_word : (k : Refusal) → image_says w ≡ Err k → (50 ≤ code_of k) × (code_of k ≤ 56) × (k.word < 65536)
+  pub fault_word : (k : Refusal) → image_says w ≡ Err k → (50 ≤ code_of k) × (code_of k ≤ 56) × (word_shown k < 65536)
   fault_word k e =
       let z : fault_known.why ≡ k = go (well_formed w) refl in
       (rw z at fault_known.low, rw z at fault_known.high, rw z at fault_known.small)

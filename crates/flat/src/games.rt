@@ -49,27 +49,25 @@ pub fn match_in(setting: Setting, m: &[u64; 19]) -> Match
 pub fn match_numbers(m: Match) -> [u64; 19]
     ensures { result ≡ match_numbers m }
 {
-    let d = m.deaths;
-    let b = m.behind;
     [
         m.moves,
         bit(m.over),
         bit(m.timeout),
-        d[0],
-        d[1],
-        d[2],
-        d[3],
-        d[4],
-        d[5],
-        d[6],
-        d[7],
-        bit(b[0]),
-        bit(b[1]),
-        bit(b[2]),
-        bit(b[3]),
-        bit(b[4]),
-        bit(b[5]),
-        bit(b[6]),
-        bit(b[7]),
+        m.deaths[0],
+        m.deaths[1],
+        m.deaths[2],
+        m.deaths[3],
+        m.deaths[4],
+        m.deaths[5],
+        m.deaths[6],
+        m.deaths[7],
+        bit(m.behind[0]),
+        bit(m.behind[1]),
+        bit(m.behind[2]),
+        bit(m.behind[3]),
+        bit(m.behind[4]),
+        bit(m.behind[5]),
+        bit(m.behind[6]),
+        bit(m.behind[7]),
     ]
 }

@@ -8,11 +8,7 @@ use rules::{Event, Setting, Weights};
 fn limit_in(set: u64, number: u64) -> Option<u64>
     ensures { result ≡ limit_in set number }
 {
-    if set == 0 {
-        None
-    } else {
-        Some(number)
-    }
+    if set == 0 { None } else { Some(number) }
 }
 
 // What no 32 bits hold is above every grid.
@@ -33,17 +29,14 @@ pub fn grid_in(number: u64) -> i32
 pub fn setting_in(s: &[u64; 9]) -> Setting
     ensures { result ≡ setting_in s.now }
 {
-    let grid = grid_in(s[1]);
-    let lead = limit_in(s[4], s[5]);
-    let ticks = limit_in(s[7], s[8]);
     Setting {
         num_snakes: s[0],
-        grid_size: grid,
+        grid_size: grid_in(s[1]),
         initial_length: s[2],
         play_to_last: s[3] != 0,
-        win_food_lead: lead,
+        win_food_lead: limit_in(s[4], s[5]),
         initial_food_count: s[6],
-        max_ticks: ticks,
+        max_ticks: limit_in(s[7], s[8]),
     }
 }
 
@@ -62,21 +55,14 @@ pub fn weights_in(w: &[f64; 7]) -> Weights
     }
 }
 
-fn wide(byte: u8) -> u16
-    ensures { result ≡ byte }
-{
-    byte as u16
-}
-
 // ate_food, died, death_cause, killed_opponent, won, lost, drew, survived_to_max_ticks.
 pub fn event_in(e: &[u8; 8]) -> Event
     ensures { result ≡ event_in e.now }
 {
-    let cause = cause_in(wide(e[2]));
     Event {
         ate_food: e[0] != 0,
         died: e[1] != 0,
-        death_cause: cause,
+        death_cause: cause_in(e[2] as u16),
         killed_opponent: e[3] != 0,
         won: e[4] != 0,
         lost: e[5] != 0,

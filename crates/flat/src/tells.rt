@@ -16,23 +16,22 @@ pub fn refusal_number(r: Refusal) -> u64
 pub fn bit(flag: bool) -> u64
     ensures { result ≡ bit flag }
 {
-    if flag { 1 } else { 0 }
+    u64::from(flag)
 }
 
 fn byte(flag: bool) -> u8
     ensures { result ≡ bit flag }
 {
-    if flag { 1 } else { 0 }
+    u8::from(flag)
 }
 
 pub fn event_bytes(e: Event) -> [u8; 8]
     ensures { result ≡ event_bytes e }
 {
-    let cause = e.death_cause;
     [
         byte(e.ate_food),
         byte(e.died),
-        cause_number(cause) as u8,
+        cause_number(e.death_cause) as u8,
         byte(e.killed_opponent),
         byte(e.won),
         byte(e.lost),

@@ -31,7 +31,7 @@ pub fn heading_of(word: u16) -> Heading
 pub fn flag(b: bool) -> u16
     ensures { result ≡ bit b }
 {
-    if b { 1 } else { 0 }
+    u16::from(b)
 }
 
 // Words 0 to 4.

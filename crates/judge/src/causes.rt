@@ -93,9 +93,7 @@ pub fn judge(image: &[u16], actions: &[u64]) -> Judged
 {
     let moves = move_all(image, actions);
     let n = actions.len();
-    let mut fates = [Fate {
-        cause: None,
-    }; 8];
+    let mut fates = [Fate { cause: None }; 8];
     for i in 0..n {
         fates[i] = Fate {
             cause: cause_of(image, moves, n, i),

@@ -2,7 +2,7 @@
 ghost use Rattle.std.specs.Prelude.{◌+◌, ◌*◌, ◌≤◌, length};
 
 use crate::words::{put_words, wide};
-use rules::{Setting};
+use rules::Setting;
 
 // A start is counted from the book's first word: past the contents, and the pages before it.
 fn write_starts(lengths: &[u16; 65535], p: usize, contents: &mut [u16])

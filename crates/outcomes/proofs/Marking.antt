@@ -6,7 +6,6 @@ use Prim.Native.Nat.{ℕ, ◌+◌, ◌-◌, ◌*◌, ◌<◌, ◌^◌, min}
 use native.Mathlib.Omega.{arith}
 use lib.Dec.{eqb, ltb}
 use lib.ListN.{length, take, drop}
-use borrow.Author.Tests.{eq-eqb, ne_eqb}
 use Rattle.lists.specs.Choice.{◌if◌else◌}
 use Rattle.boards.specs.Boards.{Under}
 use Rattle.lists.specs.Products.{falling, fitted}
@@ -28,15 +27,6 @@ use Rattle.outcomes.specs.declared.odds.Odds.{Odds}
 outcomes_some : (t : State) → 0 < outcomes t
 unfolding outcomes
 outcomes_some t = falling_pos (length (free t)) (draw_size t) (omega arith)
-
--- ---- how many cells a draw takes
-
-module _ (birth due left r : ℕ) where
-  pub size_birth : birth ≡ 1 → r ≡ min 1 left → r ≡ min (1 if eqb birth 1 else due) left
-  size_birth e q = rw (eq-eqb birth 1 e) q
-
-  pub size_due : (birth ≡ 1 → ⊥) → r ≡ min due left → r ≡ min (1 if eqb birth 1 else due) left
-  size_due n q = rw (ne_eqb birth 1 n) q
 
 -- ---- the words from k on, past the records
 

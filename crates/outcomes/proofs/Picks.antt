@@ -1,5 +1,4 @@
 -- What the loop goes by in which each digit gives way to the cell that it picks. Assumes nothing.
-use Rattle.std.specs.Prelude.{Ok}
 use mathlib.Core.Path.{◌≡◌, refl, sym, ap, ◌∙◌}
 use mathlib.Core.List.{List, [], ◌∷◌, ◌++◌, append_assoc, append-nil}
 use Prim.Native.Nat.{ℕ, ◌+◌, ◌<◌, ◌≤◌}
@@ -29,7 +28,7 @@ listed_next : (list : List ℕ) (j x : ℕ) (rest : List ℕ) → j < length lis
 listed_next list j x rest h = rw (add-one j, take-suc-set list j x h) (append_assoc (take j list) (x ∷ []) rest)
 
 -- one cell drawn, marked and listed: what is listed and what is still to be picked stay the same together
-pick_turn : (list ds strips new : List ℕ) (j n x : ℕ) → Ok x strips new → j < length ds → j < length list → x ≡ get_or (unmarked strips n) (get_or ds j 0) 0
+pick_turn : (list ds strips new : List ℕ) (j n x : ℕ) → Marked x strips new → j < length ds → j < length list → x ≡ get_or (unmarked strips n) (get_or ds j 0) 0
     → take (j + 1) (set list j x) ++ pick (unmarked new n) (drop (j + 1) ds) ≡ take j list ++ pick (unmarked strips n) (drop j ds)
 pick_turn list ds strips new j n x m h k e =
     listed_next list j x (pick (unmarked new n) (drop (j + 1) ds)) k

@@ -6,10 +6,9 @@ ghost use Rattle.rules.specs.Facts.{Sound};
 ghost use Rattle.rules.specs.Promises.{Counts};
 ghost use Rattle.outcomes.specs.Odds.{Stands};
 
-use rules::Refusal;
-
 use layout::front;
 use lists::product;
+use rules::Refusal;
 use strips::{count_open, mark_all};
 
 // The free cells, how many of them a draw takes, and the count of outcomes; 0 for one above 2^64 - 1.

@@ -23,7 +23,7 @@ fn all_new(cells: &[u16]) -> bool
 }
 
 // Refusal 12: what the bodies leave of the area is less than the food.
-fn full(area: u64, total: u64, food: u64) -> Result<(), Refusal>
+fn check_food(area: u64, total: u64, food: u64) -> Result<(), Refusal>
     requires { (total ≤ 1024) × (food ≤ 1024) }
     ensures { result ≡ (Err Refusal.FoodFree if ltb (area - total) food else Ok tt) }
 {
@@ -40,25 +40,23 @@ fn judge(cells: &mut [u16], g: u16, n: u16, size: usize, food: usize) -> Result<
     requires food_bound { food ≤ 1024 }
     ensures { Tested (place_says (pos g) n size food) (concat_below n (cells_of g n size)) cells.old cells.new result }
 {
-    if !place_snakes(cells, g, n, size) {
-        return Err(Refusal::Untraceable);
-    }
+    place_snakes(cells, g, n, size)?;
     let total = n as usize * size;
     if !all_new(&cells[..total]) {
         return Err(Refusal::CellTaken);
     }
-    full(g as u64 * g as u64, total as u64, food as u64)
+    check_food(g as u64 * g as u64, total as u64, food as u64)
 }
 
 // Some body cannot be traced beyond `reach`; up to that length its first bad cell is outside.
-fn beyond(reach: u64, size: u64) -> Result<(), Refusal>
-    ensures { result ≡ (Err (Refusal.Untraceable if ltb reach size else Refusal.CellOutside)) }
+fn beyond(reach: u64, size: u64) -> Refusal
+    ensures { result ≡ (Refusal.Untraceable if ltb reach size else Refusal.CellOutside) }
 {
-    Err(if reach < size {
+    if reach < size {
         Refusal::Untraceable
     } else {
         Refusal::CellOutside
-    })
+    }
 }
 
 // On grids below 3 column g - g/3 is off the grid, so that none is accepted: a trace reaches 3 places on grid 2, else 1.
@@ -70,14 +68,14 @@ pub fn place_check(setting: Setting, cells: &mut [u16]) -> Result<(), Refusal>
     let grid = setting.grid_size;
     let size = setting.initial_length;
     if grid < 2 {
-        return beyond(1, size);
+        return Err(beyond(1, size));
     }
     if grid < 3 {
-        return beyond(3, size);
+        return Err(beyond(3, size));
     }
     let n = setting.num_snakes as u16;
     let food = setting.initial_food_count as usize;
-    judge(cells, grid::plain(grid), n, size as usize, food)
+    judge(cells, grid as u16, n, size as usize, food)
 }
 
 // The same where no cell is asked for: bodies below the span need no trace.
@@ -89,7 +87,7 @@ pub fn check_places(setting: Setting) -> Result<(), Refusal>
     let g = side_of(setting.grid_size);
     let size = setting.initial_length;
     if size < span(g, n) {
-        return full(g * g, n * size, setting.initial_food_count);
+        return check_food(g * g, n * size, setting.initial_food_count);
     }
     let mut cells = [0u16; 1024];
     place_check(setting, &mut cells)

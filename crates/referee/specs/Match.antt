@@ -17,7 +17,7 @@ use Rattle.standing.specs.Shown.{line_shown}
 use Rattle.standing.specs.Standing.{fresh, snakes_of, ends_by, moved, end_text}
 use Rattle.printing.specs.Text.{line_text, refusal_text, Wrote}
 use Rattle.parsing.specs.declared.Line.{Line}
-use Rattle.parsing.specs.declared.Line.TheVariants.{Draw, Move}
+use Rattle.parsing.specs.declared.Line.TheVariants as Line
 use Rattle.standing.specs.declared.Match.{Match}
 use Rattle.referee.specs.declared.Desk.{Desk}
 use Rattle.referee.specs.declared.Turned.{Turned}
@@ -75,8 +75,8 @@ moved_turn m o =
 
 abbrev pub asked : Match → List ℕ → ℕ → ℕ → Option Line → Says Turn
 asked m w room cells None = Err Refusal.Line
-asked m w room cells (Some (Draw i)) = seen (drawn_turn m) (draw_says w i room cells)
-asked m w room cells (Some (Move acts)) = seen (moved_turn m) (step_says m.setting w (take (snakes_of m) acts) room)
+asked m w room cells (Some (Line.Draw i)) = seen (drawn_turn m) (draw_says w i room cells)
+asked m w room cells (Some (Line.Move acts)) = seen (moved_turn m) (step_says m.setting w (take (snakes_of m) acts) room)
 
 -- w is the image; room and cells are the lengths of the lent buffers of the next image and of the cells drawn
 unfoldable pub turn_says : Match → List ℕ → List ℕ → ℕ → ℕ → Says Turn
@@ -84,7 +84,7 @@ turn_says m w line room cells = Err Refusal.Over if m.over else asked m w room c
 
 -- what a line prints: a refusal its number
 abbrev pub said : Says Turn → List ℕ
-said (Err k) = refusal_text code_of k
+said (Err k) = refusal_text (code_of k)
 said (Ok t) = t.text
 
 -- the promise of a call that takes a line of match m: its answer, the next image in the lent words, the text in the lent bytes
@@ -128,7 +128,7 @@ close_text d = end_text d.game if d.begun else refusal_text 32
 
 -- what a line prints, and what is printed after it: 'A refusal prints `r` and its number and stops'
 abbrev pub onward : Says Turn → (Turn → List ℕ) → List ℕ
-onward (Err k) after = refusal_text code_of k
+onward (Err k) after = refusal_text (code_of k)
 onward (Ok t) after = t.text ++ after t
 
 -- 'At the end of input, `p`'

@@ -6,7 +6,7 @@ ghost use Rattle.referee.specs.Match.{line_says, close_text, Plays};
 use crate::turns::{begin, turn};
 use crate::{Desk, Turned};
 use printing::put_refusal;
-use rules::{Setting};
+use rules::Setting;
 use standing::{new_match, put_end};
 
 // Before the first line.

@@ -71,7 +71,7 @@ module _ (g n k : ℕ) (side : 3 ≤ g) (small : g ≤ 32) (some : 1 ≤ k) wher
 
   pub check_cells : (f : ℕ) → place_says (pos g) n k f
       ≡ (Err Refusal.Untraceable if some_short (pos g) n k else Err Refusal.CellTaken if not (distinct (concat_below n (cells_of g n k))) else
-        Err Refusal.FoodFree if ltb (g * g - length (all_placed (pos g) n k)) f else Ok tt)
+      Err Refusal.FoodFree if ltb (g * g - length (all_placed (pos g) n k)) f else Ok tt)
   unfolding place_says by_table
   check_cells f =
       chosen (some_short (pos g) n k) (distinct (concat_below n (cells_of g n k))) (bad_cell (pos g) [] (all_placed (pos g) n k)) _

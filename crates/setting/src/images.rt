@@ -10,6 +10,5 @@ pub fn differs(setting: Setting, image: &[u16]) -> bool
     requires { Sound image.now }
     ensures { result ≡ differs setting image.now }
 {
-    (image[0] as u64 != setting.num_snakes)
-        | !grid::equal(grid::signed(image[1]), setting.grid_size)
+    u64::from(image[0]) != setting.num_snakes || i32::from(image[1]) != setting.grid_size
 }

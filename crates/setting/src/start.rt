@@ -14,17 +14,17 @@ fn start_heading(i: usize) -> Heading
     ensures { result ≡ start_heading i }
 {
     if i % 2 == 0 {
-        return Heading::Right;
+        Heading::Right
+    } else {
+        Heading::Left
     }
-    Heading::Left
 }
 
 fn write_records(out: &mut [u16], n: usize, size: usize)
     requires { RecordRoom n size out.old }
     ensures { RecordsWritten n size n out.old out.new }
 {
-    let mut i = 0;
-    while i < n {
+    for i in 0..n {
         image::write_record(
             out,
             start_at(i),
@@ -33,7 +33,6 @@ fn write_records(out: &mut [u16], n: usize, size: usize)
             start_heading(i),
             true,
         );
-        i += 1;
     }
 }
 

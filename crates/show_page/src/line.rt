@@ -6,7 +6,7 @@ use events::no_events;
 use lists::word_at;
 use page_file::{load, moves_to, put_entry};
 use referee::Desk;
-use rules::{Setting};
+use rules::Setting;
 use std::io::{Read, Seek};
 
 // Whether it is known what leads to the page, and whether the line could be written.

@@ -10,7 +10,7 @@ use crate::Match;
 use events::{mark, no_events};
 use layout::alive_at;
 use lists::word_at;
-use rules::{Event};
+use rules::Event;
 
 fn at_most_eight(n: u64) -> usize
     ensures { (result ≡ few n) × (result ≤ 8) }

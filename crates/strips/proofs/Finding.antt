@@ -1,5 +1,4 @@
 -- What the searches go by: from strip to strip, below a square; and what a square taken leaves. Assumes nothing.
-use Rattle.std.specs.Prelude.{Ok}
 use mathlib.Core.Path.{◌≡◌, refl, sym, ap, ap₂, ◌∙◌}
 use mathlib.Core.Bool.{Bool, true, false, ◌||◌}
 use mathlib.Core.List.{List, ◌++◌}
@@ -163,7 +162,7 @@ module _ (strips : List ℕ) (c : ℕ) where
 
 -- ---- a square taken
 
-module _ (old new : List ℕ) (x : ℕ) (m : Ok x old new) where
+module _ (old new : List ℕ) (x : ℕ) (m : Marked x old new) where
   -- it is no longer among those without a mark
   pub unmarked_less : (n : ℕ) → unmarked new n ≡ without x (unmarked old n)
   unfolding unmarked
@@ -192,7 +191,7 @@ module _ (area : ℕ) (old tally : List ℕ) (x : ℕ) (p : Counted area old tal
   pub take_some : 1 ≤ get_or tally (x / 64) 0
   take_some = omega (arith, counted_here, length_without x (free_from (marked old) (x / 64 * 64) 64) is_open)
 
-  module _ (new : List ℕ) (m : Ok x old new) where
+  module _ (new : List ℕ) (m : Marked x old new) where
     counts_after : (s : ℕ) → s * 64 < area → get_or (set tally (x / 64) (get_or tally (x / 64) 0 - 1)) s 0 ≡ length (free_from (marked new) (s * 64) 64)
     counts_after s l = elim (compared s (x / 64)) [
       | same e t ↦

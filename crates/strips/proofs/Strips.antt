@@ -1,5 +1,4 @@
 -- The strips as one board: what one more mark changes, what a list of marks leaves, and the squares of a strip. Assumes nothing.
-use Rattle.std.specs.Prelude.{Ok}
 use mathlib.Core.Path.{◌≡◌, refl, sym, ap, ap₂, ◌∙◌, subst}
 use mathlib.Core.Bool.{Bool, true, false, ◌||◌, or-false}
 use mathlib.Core.List.{List, [], ◌∷◌, ◌++◌}
@@ -102,7 +101,7 @@ module _ (strips : List ℕ) (x : ℕ) (size : length strips ≡ 16) (h : x < 10
   bit_is : 1 * 2 ^ (x % 64) % 2 ^ 64 ≡ 2 ^ (x % 64)
   bit_is = shl_exact 1 (x % 64) 64 (let l : 1 < 2 ^ 1 = omega arith in l) (omega (arith, mod-lt x (let p : 0 < 64 = omega arith in p))) ∙ one-mul (2 ^ (x % 64))
 
-  pub marks : Ok x strips (set strips (x / 64) (bit_or (get_or strips (x / 64) 0) (1 * 2 ^ (x % 64) % 2 ^ 64)))
+  pub marks : Marked x strips (set strips (x / 64) (bit_or (get_or strips (x / 64) 0) (1 * 2 ^ (x % 64) % 2 ^ 64)))
   marks = rw bit_is (record { size = simp length-set size; shows = shown })
 
 -- ---- the marks of a list
@@ -124,7 +123,7 @@ adds_both front back old mid new a b = record {
       ∙ sym (ap (λ (t : Bool). t || marked old c) (member_append c front back));
 }
 
-adds_one : (x : ℕ) (old new : List ℕ) → Ok x old new → Adds (x ∷ []) old new
+adds_one : (x : ℕ) (old new : List ℕ) → Marked x old new → Adds (x ∷ []) old new
 unfolding member
 adds_one x old new m = record { size = m.size; shows = λ c. m.shows c ∙ sym (ap (λ (t : Bool). t || marked old c) (or-false (eqb c x))) }
 
@@ -134,7 +133,7 @@ module _ (cells old : List ℕ) where
   adds_none e = record { size = e; shows = λ c. refl }
 
   -- x is the cell that stands next
-  pub adds_next : (i x : ℕ) (mid new : List ℕ) → i < length cells → x ≡ get_or cells i 0 → Adds (take i cells) old mid → Ok x mid new → Adds (take (i + 1) cells) old new
+  pub adds_next : (i x : ℕ) (mid new : List ℕ) → i < length cells → x ≡ get_or cells i 0 → Adds (take i cells) old mid → Marked x mid new → Adds (take (i + 1) cells) old new
   adds_next i x mid new l e a m =
       rw (add-one i, take-suc cells i 0 l, ← e) (adds_both (take i cells) (x ∷ []) old mid new a (adds_one x mid new m))
 
@@ -143,7 +142,7 @@ module _ (cells old : List ℕ) where
 
   module _ (n : length cells ≡ 4) (e : length old ≡ 16) (x y z w : ℕ) where
     pub four_marked : (s t u new : List ℕ) → x ≡ get_or cells 0 0 → y ≡ get_or cells 1 0 → z ≡ get_or cells 2 0 → w ≡ get_or cells 3 0
-        → Ok x old s → Ok y s t → Ok z t u → Ok w u new → Adds cells old new
+        → Marked x old s → Marked y s t → Marked z t u → Marked w u new → Adds cells old new
     four_marked s t u new a b c d p q r v =
         let f = adds_next 0 x old s (omega arith) a (adds_none e) p in
         let g = adds_next 1 y s t (omega arith) b f q in

@@ -1,5 +1,5 @@
 -- Squares as bits: 16 strips of 64 squares, on which taken cells have a mark. Assumes nothing.
-use Rattle.std.specs.Prelude.{ℕ, ◌-◌, ◌*◌, ◌/◌, ◌%◌, ◌^◌, ◌<◌, ◌≤◌, Bool, false, ◌||◌, List, ◌≡◌, eqb, length, get_or, Ok}
+use Rattle.std.specs.Prelude.{ℕ, ◌-◌, ◌*◌, ◌/◌, ◌%◌, ◌^◌, ◌<◌, ◌≤◌, Bool, false, ◌||◌, List, ◌≡◌, eqb, length, get_or}
 use Rattle.lists.specs.Lists.{member}
 use Rattle.boards.specs.Free.{free_from}
 
@@ -30,7 +30,7 @@ pub record Blank (strips : List ℕ) : Type 0 where
   pub none : (c : ℕ) → marked strips c ≡ false
 
 -- one square more has its mark
-pub record Ok (x : ℕ) (old new : List ℕ) : Type 0 where
+pub record Marked (x : ℕ) (old new : List ℕ) : Type 0 where
   pub size : length new ≡ 16
   pub shows : (c : ℕ) → marked new c ≡ (eqb c x || marked old c)
 
@@ -71,5 +71,5 @@ pub record Free (area : ℕ) (strips tally : List ℕ) (c : ℕ) : Type 0 where
 
 -- one square more has its mark, and the counts say so
 pub record Took (area x : ℕ) (old new tally : List ℕ) : Type 0 where
-  pub marks : Ok x old new
+  pub marks : Marked x old new
   pub counted : Counted area new tally

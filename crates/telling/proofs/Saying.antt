@@ -21,14 +21,8 @@ module _ {A B : Type 0} (f : A → List B) (x : Says A) (old : List B) where
   pub tells_by : (y : Says A) (new : List B) (r : ℕ) → Tells f x old new r → x ≡ y → Tells f y old new r
   tells_by y new r t e = record { refusal = t.refusal ∙ ap refusal_of e; answer = t.answer ∙ ap (told f old) e }
 
-pub value_told : (a : Says ℕ) (n : ℕ) → a ≡ Ok n → (old : List ℕ) → Tells one (a) old (n ∷ []) 0
-value_told a n e old = given one (a) old n ((sym e))
+pub number_told : (a : Says ℕ) (n : ℕ) → a ≡ Ok n → (old : List ℕ) → Tells one a old (n ∷ []) 0
+number_told a n e old = given one a old n (sym e)
 
-pub number_refused : (a : Says ℕ) (k : Refusal) → a ≡ Err k → (old : List ℕ) (r : ℕ) → r ≡ refusal_number k → Tells one (a) old old r
-number_refused a k e old = refused one (a) old k ((sym e))
-
-pub words_told : (a : Says ℕ) (n : ℕ) → a ≡ Ok n → (old : List ℕ) → Tells one (a) old (n ∷ []) 0
-words_told a n e old = given one (a) old n ((sym e))
-
-pub words_refused : (a : Says ℕ) (k : Refusal) → a ≡ Err k → (old : List ℕ) (r : ℕ) → r ≡ refusal_number k → Tells one (a) old old r
-words_refused a k e old = refused one (a) old k ((sym e))
+pub number_refused : (a : Says ℕ) (k : Refusal) → a ≡ Err k → (old : List ℕ) (r : ℕ) → r ≡ refusal_number k → Tells one a old old r
+number_refused a k e old = refused one a old k (sym e)

@@ -1,13 +1,11 @@
 // What several calls tell: a number, how many words were written.
-ghost use Rattle.rules.specs.Says.{says, says_number};
 ghost use Rattle.telling.specs.Told.{one, Tells};
 
+use flat::refusal_number;
 use rules::Refusal;
 
-use flat::refusal_number;
-
 pub fn tell_number(a: Result<u64, Refusal>, out: &mut [u64; 1]) -> u64
-    ensures { Tells one (says_number a) out.old out.new result }
+    ensures { Tells one a out.old out.new result }
 {
     match a {
         Ok(n) => {
@@ -19,13 +17,13 @@ pub fn tell_number(a: Result<u64, Refusal>, out: &mut [u64; 1]) -> u64
 }
 
 pub fn tell_words(a: Result<usize, Refusal>, written: &mut [u64; 1]) -> u64
-    ensures { Tells one (says a) written.old written.new result }
+    ensures { Tells one a written.old written.new result }
 {
     match a {
         Ok(words) => {
             *written = [words as u64];
             0
         }
-        Err(r) => refusal_number(r),
+        Err(why) => refusal_number(why),
     }
 }

@@ -19,8 +19,8 @@ use Rattle.rules.specs.View.{view, lit}
 use Rattle.rules.specs.LengthKey.{length_key}
 use Rattle.rules.specs.Turns.{chance_acts, legal_for, truncated}
 use Rattle.rules.specs.Reward.{reward_of}
-use Rattle.rules.specs.Says.{Says, by_table, box, seen, beside, lent, chance_of, actions_of}
-use Rattle.rules.specs.Calls.{setting_says, image_says, initial_says, step_says, observe_says, count_says, Draw, draw_says, rank_says, actor_says, legal_says, key_says, truncation_says, reward_says, space_says, body_asked}
+use Rattle.rules.specs.Says.{shape_of, discrete, Says, by_table, box, seen, beside, lent, chance_of, actions_of}
+use Rattle.rules.specs.Calls.{stepped_of, drawn_of, setting_says, image_says, initial_says, step_says, observe_says, count_says, Draw, draw_says, rank_says, actor_says, legal_says, key_says, truncation_says, reward_says, space_says, body_asked}
 use Rattle.rules.specs.Promises.{Turns, Checks, Examines, Validates, Starts, Steps, Observes, Counts, Draws, Ranks, ActsNext, Allows, Keys, Truncates, Rewards, ObservationSpace, ActionSpace, Parts}
 use Rattle.rules.specs.declared.Heading.{Heading}
 use Rattle.rules.specs.declared.RelativeAction.{RelativeAction}
@@ -33,7 +33,7 @@ use Rattle.rules.specs.declared.Actor.{Actor}
 use Rattle.rules.specs.declared.Legal.{Legal}
 use Rattle.rules.specs.declared.Space.{Space}
 use Rattle.rules.specs.declared.Space.TheVariants.{Box, Discrete}
-use Rattle.rules.proofs.Answers.{space_one}
+use Rattle.rules.proofs.Answers.{seen_one, space_of}
 use denote.Ref.{Bor}
 use Rattle.image.specs.Memory.{word_place, start_asked}
 use Rattle.rules.specs.Tables.{Table, none_hold}
@@ -86,10 +86,8 @@ step_is s w acts old new r p h =
     let e = lawful (step_order s w acts (length old)) o h in
     let t = image_of o.next in
     record {
-      answer = (p.answer ∙ ap (seen (λ (o : Transition). length (image_of o.next))) e);
+      answer = p.answer ∙ ap (seen stepped_of) e;
       image = ap (take (length t)) (p.words ∙ ap (lent (λ (o : Transition). image_of o.next) old) e) ∙ over_take t old;
-      terminal = p.terminal ∙ ap (beside (λ (o : Transition). o.terminal) false) e;
-      events = p.events ∙ ap (beside (λ (o : Transition). eight o.events) (replicate 8 blank)) e;
     }
 
 -- the numbers written are the agent's view
@@ -116,9 +114,8 @@ draw_is w i old new list cells r p h =
     let t = image_of (after_draw (state_of w) i) in
     let l = drawn (state_of w) i in
     record {
-      answer = (p.answer ∙ ap (seen (λ (d : Draw). length (image_of d.next))) e);
+      answer = p.answer ∙ ap (seen drawn_of) e;
       image = ap (take (length t)) (p.words ∙ ap (lent (λ (d : Draw). image_of d.next) old) e) ∙ over_take t old;
-      many = p.cells ∙ ap (beside (λ (d : Draw). length d.cells) 0) e;
       list = ap (take (length l)) (p.list ∙ ap (lent (λ (d : Draw). d.cells) list) e) ∙ over_take l list;
     }
 
@@ -152,13 +149,13 @@ unfolding reward_says
 reward_is w e r p h = (p.answer ∙ lawful (reward_order w) (reward_of w e) h)
 
 -- five planes of the grid's side, from 0.0 to 1.0
-pub space_is : (g : ℤ) (r : Says Space) → ObservationSpace g r → none_hold (space_order g) ≡ true → r ≡ Box 5 (side_of g) (side_of g) (lit false) (lit true)
+pub space_is : (g : ℤ) (r : Says Space) → ObservationSpace g r → none_hold (space_order g) ≡ true → r ≡ Ok (Box 5 (side_of g) (side_of g) (lit false) (lit true))
 unfolding space_says
-space_is g r p h = space_one r (Box 5 (side_of g) (side_of g) (lit false) (lit true)) (p.answer ∙ lawful (space_order g) (box 5 (side_of g) (side_of g) (lit false) (lit true)) h)
+space_is g r p h = seen_one shape_of space_of r (Ok (Box 5 (side_of g) (side_of g) (lit false) (lit true))) (p.answer ∙ lawful (space_order g) (box 5 (side_of g) (side_of g) (lit false) (lit true)) h)
 
 -- three actions
-pub action_space_is : (r : Says Space) → ActionSpace r → r ≡ Discrete 3
-action_space_is r p = space_one r (Discrete 3) p.answer
+pub action_space_is : (r : Space) → ActionSpace r → r ≡ Discrete 3
+action_space_is r p = let e : shape_of r ≡ discrete 3 = let h = p.answer in cc in space_of r (Discrete 3) e
 
 -- ---- two answers of the body query are one
 

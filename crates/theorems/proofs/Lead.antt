@@ -28,14 +28,14 @@ use Rattle.theorems.specs.Lead.{leads_in, led_in, by_lead, LostToLead}
 -- ---- someone below n who passes
 
 pub data Found (n : ℕ) (p : ℕ → Bool) : Type 0 where
-  found : (i : ℕ) → i < n → p i ≡ true → Option ℕ n p
+  found : (i : ℕ) → i < n → p i ≡ true → Found n p
 
-pub some_one : (n : ℕ) (p : ℕ → Bool) → some_below n p ≡ true → Option ℕ n p
+pub some_one : (n : ℕ) (p : ℕ → Bool) → some_below n p ≡ true → Found n p
 unfolding some_below
 some_one zero p e = absurd (false≢true e)
 some_one (suc n) p e = go (some_below n p) (p n) (some_one n p) refl e
   where
-    go : (a b : Bool) → (a ≡ true → Option ℕ n p) → b ≡ p n → (a || b) ≡ true → Option ℕ (suc n) p
+    go : (a b : Bool) → (a ≡ true → Found n p) → b ≡ p n → (a || b) ≡ true → Found (suc n) p
     go true b rest q e = elim (rest refl) [ found i h t ↦ found i (omega arith) t ]
     go false b rest q e = found n (le_refl _) (sym q ∙ e)
 

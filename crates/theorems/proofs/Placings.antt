@@ -21,7 +21,7 @@ use Rattle.rules.specs.Setting.{setting_check, initial_state}
 use Rattle.rules.specs.SettingFacts.{Accepts}
 use Rattle.rules.specs.Step.{Moved, Transition, stays, moved_of, cause_of, after, transition_of, stepped}
 use Rattle.rules.specs.Chance.{drawn, after_draw}
-use Rattle.rules.specs.Says.{Says, first, seen}
+use Rattle.rules.specs.Says.{Says, seen}
 use Rattle.rules.specs.Calls.{initial_says, step_says, draw_says}
 use Rattle.rules.specs.Orders.{initial_order, step_order, draw_order}
 use Rattle.rules.specs.declared.Cause.{Cause}
@@ -34,17 +34,20 @@ use Rattle.rules.proofs.Tables.{given_is, initial_says_lem, start_for}
 use Rattle.parsing.specs.Lines.{read_first, read_later}
 use Rattle.parsing.specs.Split.{lines_of}
 use Rattle.parsing.specs.declared.Line.{Line}
-use Rattle.parsing.specs.declared.Line.TheVariants.{NoLine, DrawLine, MoveLine}
+use Rattle.parsing.specs.declared.Line.TheVariants as Line
 use Rattle.printing.specs.Text.{digits_up_to, decimal_text, refusal_text, placings_text}
 use Rattle.standing.specs.Placings.{placing_of, end_placing, placings_of}
 use Rattle.standing.specs.Standing.{fresh, snakes_of, counted, death_at, behind_at, lost_alive, ends_by, moved, end_text}
 use Rattle.standing.specs.declared.Match.{Match}
-use Rattle.referee.specs.Match.{Turn, opened, opened_by, begin_says, drawn_turn, moved_turn, asked_by, asked, turn_says, play_on, played, replay_of}
+use Rattle.referee.specs.Match.{Turn, opened, opened_by, begin_says, drawn_turn, moved_turn, asked, turn_says, play_on, played, replay_of}
 use Rattle.referee.proofs.Saying.{snakes_kept}
 use Rattle.theorems.specs.Lead.{leads_in, led_in, by_lead, end_before, two_places, Reached, begun, taken, Ending, refused, placed, place_of, Placed}
 use Rattle.theorems.proofs.Lead.{Leading, leading, found, some_one, corpse_unled, living_lost, lead_terminal}
 use Rattle.rules.specs.declared.refusal.Refusal.TheVariants as Refusal
 use Rattle.rules.specs.Refusals.{code_of}
+use Rattle.rules.proofs.SettingParts.{says_accepted}
+use Rattle.rules.proofs.Tables.{then_first}
+use Rattle.rules.specs.Calls.{setting_says}
 
 -- ---- what is known of a match m and its state t
 
@@ -179,30 +182,26 @@ seen_gives : {A B : Type 0} (f : A → B) (x : Says A) (b : B) → seen f x ≡ 
 seen_gives f (Err k) b e = let z : ◌≡◌ {A = ℕ} 0 1 = cc in absurd (omega arith)
 seen_gives f (Ok a) b e = saw a refl cc
 
-check_passed : (k : ℕ) (r : Says State) (t : State) → first k r ≡ Ok t → k ≡ 0
-check_passed zero r t e = refl
-check_passed (suc k) r t e = let z : ◌≡◌ {A = ℕ} 0 1 = cc in absurd (omega arith)
-
 opens : (x : Option Setting) (room : ℕ) (t : Turn) → opened_by x room ≡ Ok t → Known t.game t.next
 unfolding initial_says
 opens None room t e = let z : ◌≡◌ {A = ℕ} 0 1 = cc in absurd (omega arith)
 opens (Some s) room t e = elim (seen_gives (opened s) (initial_says s room) t e) [
   | saw a p q ↦
-      let z = check_passed (setting_check s) (start_for s room) a (sym (initial_says_lem s room) ∙ p) in
+      let z = says_accepted s (then_first (setting_says s) (start_for s room) a (sym (initial_says_lem s room) ∙ p)) in
       rw (← q, ← given_is (initial_order s room) (initial_state s) a p) (start_known s (accepts s z))
 ]
 
-asks : (m : Match) (t : State) (room cells : ℕ) (x : Line) (acts : List ℕ) (u : Turn) → Known m t → asked_by m (image_of t) room cells x acts ≡ Ok u → Known u.game u.next
+asks : (m : Match) (t : State) (room cells : ℕ) (x : Option Line) (u : Turn) → Known m t → asked m (image_of t) room cells x ≡ Ok u → Known u.game u.next
 unfolding draw_says step_says moved_turn
-asks m t room cells NoLine acts u k e = let z : ◌≡◌ {A = ℕ} 0 1 = cc in absurd (omega arith)
-asks m t room cells (DrawLine i) acts u k e =
+asks m t room cells None u k e = let z : ◌≡◌ {A = ℕ} 0 1 = cc in absurd (omega arith)
+asks m t room cells (Some (Line.Draw i)) u k e =
     let w = image_of t in
     elim (seen_gives (drawn_turn m) (draw_says w i room cells) u e) [
       | saw d p q ↦
           let n = given_is (draw_order w i room cells) (record { next = after_draw (state_of w) i; cells = drawn (state_of w) i }) d p in
           rw (← q, ← n, state_back t) (drawn_known m t i k)
     ]
-asks m t room cells MoveLine acts u k e =
+asks m t room cells (Some (Line.Move acts)) u k e =
     let w = image_of t in
     let l = take (snakes_of m) acts in
     elim (seen_gives (moved_turn m) (step_says m.setting w l room) u e) [
@@ -221,7 +220,7 @@ known t (begun line room e) = opens (read_first line) room t e
 known t (taken v line room cells r e) =
     let x = read_later (snakes_of v.game) line in
     let k = known v r in
-    asks v.game v.next room cells x.line x.acts t k (before_33 v.game.over (asked v.game (image_of v.next) room cells x) t e)
+    asks v.game v.next room cells x t k (before_33 v.game.over (asked v.game (image_of v.next) room cells x) t e)
 
 -- ---- its placings
 
@@ -376,7 +375,7 @@ ends_on (line ∷ lines) (Err k) r = refused [] k refl
 ends_on (line ∷ lines) (Ok t) r =
     let rest = ends_on lines (turn_says t.game (image_of t.next) line 9253 1024) (λ u e. taken t line 9253 1024 (r t refl) e) in
     elim rest [
-      | refused shown k q ↦ refused (t.text ++ shown) k (ap (λ (l : List ℕ). t.text ++ l) q ∙ sym (append_assoc t.text shown (refusal_text code_of k)))
+      | refused shown k q ↦ refused (t.text ++ shown) k (ap (λ (l : List ℕ). t.text ++ l) q ∙ sym (append_assoc t.text shown (refusal_text (code_of k))))
       | placed shown u v q ↦ placed (t.text ++ shown) u v (ap (λ (l : List ℕ). t.text ++ l) q ∙ sym (append_assoc t.text shown (end_text u.game)))
     ]
 

@@ -17,19 +17,20 @@ use Rattle.rules.specs.Calls.{initial_says, step_says}
 use Rattle.rules.specs.declared.Event.{Event}
 use Rattle.parsing.specs.Lines.{read_first, read_later}
 use Rattle.parsing.specs.declared.Line.{Line}
-use Rattle.parsing.specs.declared.Line.TheVariants.{NoLine, DrawLine, MoveLine}
+use Rattle.parsing.specs.declared.Line.TheVariants as Line
 use Rattle.printing.specs.Text.{line_text}
 use Rattle.standing.specs.Calls.{Move, move_says, Takes}
 use Rattle.standing.specs.Shown.{events_shown}
 use Rattle.standing.specs.Standing.{snakes_of, moved, end_text}
 use Rattle.standing.specs.declared.Match.{Match}
 use Rattle.standing.specs.declared.Taken.{Taken}
-use Rattle.referee.specs.Match.{Turn, opened, opened_by, begin_says, moved_turn, asked_by, asked, turn_says}
+use Rattle.referee.specs.Match.{Turn, opened, opened_by, begin_says, moved_turn, asked, turn_says}
 use Rattle.referee.proofs.Playing.{events_shown_lem}
 use Rattle.referee.proofs.Saying.{step_fits}
 use Rattle.theorems.specs.Lead.{Reached, begun, taken}
 use Rattle.theorems.specs.Server.{moved_on, move_served, served_by, places_shown, Served, starts, draws, moves}
 use Rattle.rules.specs.declared.refusal.Refusal.TheVariants as Refusal
+use Rattle.rules.specs.declared.Setting.{Setting}
 
 -- ---- a move
 
@@ -57,30 +58,26 @@ pub over_served : (m : Match) → m.over ≡ true → (over : Bool) (w : List �
 over_served m h over w es = ap (λ (b : Bool). Err Refusal.Over if b else Ok (record { game = moved m over es; events = events_shown m over w es })) h
 
 -- two answers that meet the promise are equal
-pub one_taken : (x : Says Move) (m : Match) (es : List Event) (r r' : Taken) → Takes x m es r → Takes x m es r' → r ≡ r'
-one_taken x m es r r' p p' = λ i. record {
-  verdict = (p.verdict ∙ sym p'.verdict) i;
-  game = (p.game ∙ sym p'.game) i;
-  events = (p.events ∙ sym p'.events) i;
-}
+pub one_taken : (x : Says Move) (r r' : Says Taken) → Takes x r → Takes x r' → r ≡ r'
+one_taken x r r' p p' = p.answer ∙ sym p'.answer
 
 -- ---- a line
 
-asked_served : (m : Match) → m.over ≡ false → (w : List ℕ) (room cells : ℕ) (x : Line) (acts : List ℕ) → asked_by m w room cells x acts ≡ served_by m w room cells x acts
-asked_served m on w room cells NoLine acts = refl
-asked_served m on w room cells (DrawLine i) acts = refl
-asked_served m on w room cells MoveLine acts = sym (move_served_lem m on w (take (snakes_of m) acts) room)
+asked_served : (m : Match) → m.over ≡ false → (w : List ℕ) (room cells : ℕ) (x : Option Line) → asked m w room cells x ≡ served_by m w room cells x
+asked_served m on w room cells None = refl
+asked_served m on w room cells (Some (Line.Draw i)) = refl
+asked_served m on w room cells (Some (Line.Move acts)) = sym (move_served_lem m on w (take (snakes_of m) acts) room)
 
 -- a line after the first: what the replay makes of it is what the server's calls make of it
 pub line_served : (m : Match) (w line : List ℕ) (room cells : ℕ)
-    → let e = read_later (snakes_of m) line in turn_says m w line room cells ≡ (Err Refusal.Over if m.over else served_by m w room cells e.line e.acts)
+    → turn_says m w line room cells ≡ (Err Refusal.Over if m.over else served_by m w room cells (read_later (snakes_of m) line))
 unfolding turn_says
 line_served m w line room cells = go m.over refl
   where
     go : (b : Bool) → m.over ≡ b
-        → let e = read_later (snakes_of m) line in (Err Refusal.Over if b else asked m w room cells e) ≡ (Err Refusal.Over if b else served_by m w room cells e.line e.acts)
+        → let x = read_later (snakes_of m) line in (Err Refusal.Over if b else asked m w room cells x) ≡ (Err Refusal.Over if b else served_by m w room cells x)
     go true h = refl
-    go false h = let e = read_later (snakes_of m) line in asked_served m h w room cells e.line e.acts
+    go false h = asked_served m h w room cells (read_later (snakes_of m) line)
 
 -- the last line shows `places`
 pub places_served : (m : Match) → end_text m ≡ places_shown m
@@ -101,10 +98,10 @@ begins (Some s) room t e = go (initial_says s room) refl e
     go (Err k) p q = let z : ◌≡◌ {A = ℕ} 0 1 = cc in absurd (omega arith)
     go (Ok a) p q = let r : opened s a ≡ t = cc in rw (← r) (starts s room p)
 
-goes : (t : Turn) (room cells : ℕ) (x : Line) (acts : List ℕ) (u : Turn) → Served t → t.game.over ≡ false → asked_by t.game (image_of t.next) room cells x acts ≡ Ok u → Served u
-goes t room cells NoLine acts u s on e = let z : ◌≡◌ {A = ℕ} 0 1 = cc in absurd (omega arith)
-goes t room cells (DrawLine i) acts u s on e = draws t i room cells s on e
-goes t room cells MoveLine acts u s on e = let l = take (snakes_of t.game) acts in moves t l room s (move_served_lem t.game on (image_of t.next) l room ∙ e)
+goes : (t : Turn) (room cells : ℕ) (x : Option Line) (u : Turn) → Served t → t.game.over ≡ false → asked t.game (image_of t.next) room cells x ≡ Ok u → Served u
+goes t room cells None u s on e = let z : ◌≡◌ {A = ℕ} 0 1 = cc in absurd (omega arith)
+goes t room cells (Some (Line.Draw i)) u s on e = draws t i room cells s on e
+goes t room cells (Some (Line.Move acts)) u s on e = let l = take (snakes_of t.game) acts in moves t l room s (move_served_lem t.game on (image_of t.next) l room ∙ e)
 
 -- the match, the image and the line of every turn are a server's, by its calls
 pub replay_served : (t : Turn) → Reached t → Served t
@@ -113,4 +110,4 @@ replay_served t (begun line room e) = begins (read_first line) room t e
 replay_served t (taken v line room cells r e) =
     let x = read_later (snakes_of v.game) line in
     let p = no_turn v.game.over (asked v.game (image_of v.next) room cells x) t e in
-    goes v room cells x.line x.acts t (replay_served v r) p.0 p.1
+    goes v room cells x t (replay_served v r) p.0 p.1

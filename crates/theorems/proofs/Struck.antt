@@ -1,5 +1,5 @@
 -- Who was hit where, of the calls' answers: beside the events of the step of the same setting, image and actions. Assumes nothing.
-use Rattle.std.specs.Prelude.{Option, Some, None, Ok}
+use Rattle.std.specs.Prelude.{Option, Some, None, Ok, is_some}
 use Prim.Native.Nat.{ℕ, ◌<◌, ◌≤◌}
 use native.Mathlib.Omega.{arith}
 use mathlib.Core.Path.{◌≡◌, sym, ap, subst, ◌∙◌}
@@ -15,7 +15,7 @@ use Rattle.rules.specs.Tables.{Table, none_hold}
 use Rattle.rules.specs.State.{State, nobody, count}
 use Rattle.rules.specs.Setting.{setting_order}
 use Rattle.rules.specs.Image.{state_of}
-use Rattle.rules.specs.Events.{blank}
+use Rattle.rules.specs.Events.{blank, eight}
 use Rattle.rules.specs.Step.{Moved, stays, moved_of, cause_of, transition_of, stepped}
 use Rattle.rules.specs.Struck.{no_hit, hit_of, hits_in, strikes, HitsItself, HitsAnother}
 use Rattle.rules.specs.Faults.{image_rows}
@@ -50,49 +50,44 @@ cause_told : (s : Setting) (t : State) (acts : List ℕ) (i : ℕ) → i < count
 unfolding stepped
 cause_told s t acts i h = cause_in_lem s t.side (count t) t.food (moved_in t acts) i h
 
-module _ (s : Setting) (w acts : List ℕ) (r : Says (List (Option Hit))) (p : Strikes s w acts r) (none : none_hold (struck_order s w acts) ≡ true) where
+module _ (s : Setting) (w acts : List ℕ) (hits : List (Option Hit)) (p : Strikes s w acts (Ok hits)) (none : none_hold (struck_order s w acts) ≡ true) where
   abbrev t : State
   t = state_of w
 
-  pub struck_is : (r.verdict ≡ (Ok tt)) × (r.hits ≡ hits_in t acts)
+  pub struck_is : hits ≡ hits_in t acts
   unfolding struck_says
-  struck_is =
-      let e = lawful (struck_order s w acts) (hits_in t acts) none in
-      ((p.answer ∙ ap (seen (λ (h : List (Option Hit)). tt)) e), p.hits ∙ ap (beside (λ (h : List (Option Hit)). h) (replicate 8 no_hit)) e)
+  struck_is = let e : Ok hits ≡ Ok (hits_in t acts) = p.answer ∙ lawful (struck_order s w acts) (hits_in t acts) none in cc
 
-  few : count t ≤ 8
-  few =
-      let rows : Table = image_rows w ++ asked_rows s w acts in
-      let rest = and_right (none_hold (setting_order s)) (none_hold rows) (sym (all_append (λ (e : Refusal × Bool). not e.1) (setting_order s) rows) ∙ none) in
-      omega (arith, (sound w (rows_formed w (asked_rows s w acts) rest)).snakes_max, state_count w)
-
-  hit_is : (i : ℕ) → i < count t → get_or r.hits i no_hit ≡ hit_of t.side (count t) (moved_in t acts) i
+  hit_is : (i : ℕ) → i < count t → get_or hits i no_hit ≡ hit_of t.side (count t) (moved_in t acts) i
   unfolding hits_in
-  hit_is i h = ap (λ (l : List (Option Hit)). get_or l i no_hit) struck_is.1 ∙ filled_at (hit_of t.side (count t) (moved_in t acts)) (count t) 8 no_hit no_hit i h
+  hit_is i h = ap (λ (l : List (Option Hit)). get_or l i no_hit) struck_is ∙ filled_at (hit_of t.side (count t) (moved_in t acts)) (count t) 8 no_hit no_hit i h
 
   -- from n on nobody
-  pub struck_past : (i : ℕ) → count t ≤ i → get_or r.hits i no_hit ≡ no_hit
+  pub struck_past : (i : ℕ) → count t ≤ i → get_or hits i no_hit ≡ no_hit
   unfolding hits_in
   struck_past i h =
       let f = hit_of t.side (count t) (moved_in t acts) in
-      ap (λ (l : List (Option Hit)). get_or l i no_hit) struck_is.1 ∙ filled_is f (count t) 8 no_hit i ∙ each_past (count t) f no_hit i h
+      ap (λ (l : List (Option Hit)). get_or l i no_hit) struck_is ∙ filled_is f (count t) 8 no_hit i ∙ each_past (count t) f no_hit i h
 
   -- beside the step's answer
-  module _ (old new : List ℕ) (o : Says Stepped) (q : Steps s w acts old new o) (room : none_hold (step_order s w acts (length old)) ≡ true) (i : ℕ) (h : i < count t) where
+  module _ (old new : List ℕ) (o : Stepped) (q : Steps s w acts old new (Ok o)) (room : none_hold (step_order s w acts (length old)) ≡ true) (i : ℕ) (h : i < count t) where
     abbrev cause : Option Cause
     cause = (get_or o.events i blank).death_cause
 
     abbrev hit : Option Hit
-    hit = get_or r.hits i no_hit
+    hit = get_or hits i no_hit
+
+    events_are : o.events ≡ eight (stepped s t acts).events
+    events_are = let e = (step_is s w acts old new (Ok o) q room).answer in cc
 
     cause_is : cause ≡ cause_of t.side (count t) (moved_in t acts) i
     cause_is =
-        ap (λ (es : List Event). (get_or es i blank).death_cause) (step_is s w acts old new o q room).events
+        ap (λ (es : List Event). (get_or es i blank).death_cause) events_are
         ∙ ap (λ (x : Event). x.death_cause) (event_at_lem s t acts i h)
         ∙ cause_told s t acts i h
 
-    pub struck_told : ltb hit.snake 8 ≡ strikes cause
-    struck_told = ap (λ (x : Option Hit). ltb x.snake 8) (hit_is i h) ∙ hit_told t.side (count t) (moved_in t acts) i few h ∙ ap strikes (sym cause_is)
+    pub struck_told : is_some hit ≡ strikes cause
+    struck_told = ap is_some (hit_is i h) ∙ hit_told t.side (count t) (moved_in t acts) i ∙ ap strikes (sym cause_is)
 
     pub struck_nobody : strikes cause ≡ false → hit ≡ no_hit
     struck_nobody e = hit_is i h ∙ hit_else t.side (count t) (moved_in t acts) i (sym (ap strikes cause_is) ∙ e)

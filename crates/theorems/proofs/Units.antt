@@ -12,7 +12,7 @@ use Rattle.unit.specs.Orders.{outcome_order}
 use Rattle.unit.specs.Calls.{outcome_says}
 use Rattle.unit.specs.Promises.{Chooses}
 use Rattle.theorems.specs.Answers.{RefusedBy}
-use Rattle.theorems.proofs.Refusals.{numbers, by_number}
+use Rattle.theorems.proofs.Refusals.{numbers, by_rows}
 use Rattle.theorems.proofs.Definitions.{lawful}
 use Rattle.rules.specs.Says.{Says}
 
@@ -22,7 +22,7 @@ outcome_order_lem c u = refl
 
 pub outcome_refused : (c : ℕ) (u : Float) (r : Says ℕ) → Chooses c u r → RefusedBy Err (outcome_order c u) r
 unfolding outcome_says
-outcome_refused c u r p = by_number (outcome_order c u) (outcome_of c u) r p.answer
+outcome_refused c u r p = by_rows (outcome_order c u) (outcome_of c u) r p.answer
 
 -- the rounded product, cut, at most count - 1
 pub outcome_is : (c : ℕ) (u : Float) (r : Says ℕ) → Chooses c u r → none_hold (outcome_order c u) ≡ true → r ≡ Ok (outcome_of c u)

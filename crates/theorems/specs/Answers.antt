@@ -18,14 +18,11 @@ pub record RefusedBy {R : Type 0} (refusal : Refusal → R) (t : Table) (r : R) 
 
 -- a step: the next image, the events, and whether it is terminal
 pub record StepIs (o : Transition) (new : List ℕ) (r : Says Stepped) : Type 0 where
-  pub answer : r.answer ≡ Ok (length (image_of o.next))
+  pub answer : r ≡ Ok (record { words = length (image_of o.next); terminal = o.terminal; events = eight o.events })
   pub image : take (length (image_of o.next)) new ≡ image_of o.next
-  pub terminal : r.terminal ≡ o.terminal
-  pub events : r.events ≡ eight o.events
 
 -- a draw: the next image, and the ordered list of the cells drawn
 pub record DrawIs (t : State) (i : ℕ) (new cells : List ℕ) (r : Says Drawn) : Type 0 where
-  pub answer : r.answer ≡ Ok (length (image_of (after_draw t i)))
+  pub answer : r ≡ Ok (record { words = length (image_of (after_draw t i)); cells = length (drawn t i) })
   pub image : take (length (image_of (after_draw t i))) new ≡ image_of (after_draw t i)
-  pub many : r.cells ≡ length (drawn t i)
   pub list : take (length (drawn t i)) cells ≡ drawn t i

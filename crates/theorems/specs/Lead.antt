@@ -60,7 +60,7 @@ pub data Reached : Turn → Type 0 where
 
 -- how an output ends: by a refusal, or by the last line of the turn that the input leads to
 pub data Ending (out : List ℕ) : Type 0 where
-  refused : (shown : List ℕ) (k : Refusal) → out ≡ shown ++ refusal_text code_of k → Ending out
+  refused : (shown : List ℕ) (k : Refusal) → out ≡ shown ++ refusal_text (code_of k) → Ending out
   placed : (shown : List ℕ) (t : Turn) → Reached t → out ≡ shown ++ end_text t.game → Ending out
 
 -- the placings of a match: of snake i, and the line

@@ -8,7 +8,7 @@ use Rattle.rules.specs.Says.{Says, seen}
 use Rattle.rules.specs.Calls.{initial_says, step_says, draw_says}
 use Rattle.rules.specs.declared.Setting.{Setting}
 use Rattle.parsing.specs.declared.Line.{Line}
-use Rattle.parsing.specs.declared.Line.TheVariants.{Draw, Move}
+use Rattle.parsing.specs.declared.Line.TheVariants as Line
 use Rattle.printing.specs.Text.{line_text, placings_text}
 use Rattle.standing.specs.Calls.{Move, move_says}
 use Rattle.standing.specs.Standing.{fresh, snakes_of, places_of}
@@ -30,8 +30,8 @@ move_served m (Ok o) = moved_on m o
 -- one line's calls, after a look at `over`
 abbrev pub served_by : Match → List ℕ → ℕ → ℕ → Option Line → Says Turn
 served_by m w room cells None = Err Refusal.Line
-served_by m w room cells (Some (Draw i)) = seen (drawn_turn m) (draw_says w i room cells)
-served_by m w room cells (Some (Move acts)) = move_served m (step_says m.setting w (take (snakes_of m) acts) room)
+served_by m w room cells (Some (Line.Draw i)) = seen (drawn_turn m) (draw_says w i room cells)
+served_by m w room cells (Some (Line.Move acts)) = move_served m (step_says m.setting w (take (snakes_of m) acts) room)
 
 -- the last line, of `places`
 abbrev pub places_shown : Match → List ℕ

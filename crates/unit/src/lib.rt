@@ -8,7 +8,6 @@ ghost use Rattle.unit.specs.Chosen.{Choosable};
 
 use rules::Refusal;
 
-
 // 0, or above 2^53. Strict tests, here and below: no order of branches to follow.
 fn is_outside(count: u64) -> bool
     ensures { result ≡ outside_count count }

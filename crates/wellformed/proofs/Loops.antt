@@ -1,20 +1,19 @@
 -- What the loops of the check go by: how far each has come, and a law for each way through a turn. Assumes nothing.
-use Prim.Native.Nat.{ℕ, ◌+◌, ◌-◌, ◌*◌, ◌<◌, ◌≤◌}
+use Prim.Native.Nat.{ℕ, ◌+◌, ◌*◌, ◌<◌, ◌≤◌}
 use native.Mathlib.Omega.{arith}
 use mathlib.Core.Path.{◌≡◌, refl, sym, ap, ap₂, ◌∙◌}
 use mathlib.Core.Bool.{Bool, true, false, not, ◌&&◌}
 use mathlib.Core.List.{List}
-use mir.Syntax.{w16, w64}
+use mir.Syntax.{w64}
 use mir.Val.{Fits}
 use lib.Dec.{leb, ltb, eqb}
-use lib.ListN.{length, get_or, take, drop, replicate}
+use lib.ListN.{length, get_or, drop, replicate}
 use borrow.Author.Tests.{not-true, not-false}
 use Rattle.lists.specs.Below.{all_below}
 use Rattle.lists.specs.Lists.{all, distinct, ascending}
 use Rattle.lists.proofs.Below.{all_none, all_next, all_more, all_fails, all_done}
-use Rattle.lists.proofs.Lists.{part_is}
 use Rattle.lists.proofs.Flags.{flag_next, flag_end, rising_next, rising_end}
-use Rattle.boards.specs.Boards.{Under, Board, Stamped}
+use Rattle.boards.specs.Boards.{Board, Stamped}
 use Rattle.boards.proofs.Boards.{board_blank}
 use Rattle.rules.specs.Image.{snakes_in, start_at, body_at, start_due, record_fits, bodies_fit, starts_fit}
 use Rattle.rules.proofs.Facts.{start_first, start_next, start_mono}
@@ -71,15 +70,9 @@ module _ (w : List ℕ) where
         let e : i ≡ snakes_in w = omega (arith, v.within) in
         record { starts = v.so_far ∙ ap (λ (k : ℕ). all_below k (start_fits w)) e; food_is = v.due_is ∙ ap (start_due w) e }
 
--- ---- `body_once`: the body of snake i, whose start and length stand at words k and m
+-- ---- the body of snake i, whose start and length stand at words k and m
 
 module _ (w : List ℕ) (o : OnBoard w) (i : ℕ) (h : i < snakes_in w) (k m : ℕ) (e : k ≡ 5 + 4 * i) (q : m ≡ 6 + 4 * i) where
-  abbrev pub body : List ℕ
-  body = take (get_or w k 0 + get_or w m 0 - get_or w k 0) (drop (get_or w k 0) w)
-
-  pub body_is : body ≡ body_at w i
-  body_is = part_is w (get_or w k 0) (get_or w m 0) ∙ rw (e, q)
-
   body_early : get_or w k 0 + get_or w m 0 ≤ 8229
   body_early = rw (e, q) (omega (arith, o.laid.bodies_in i h, o.laid.ranged.food_early))
 
@@ -88,16 +81,6 @@ module _ (w : List ℕ) (o : OnBoard w) (i : ℕ) (h : i < snakes_in w) (k m : �
 
   pub body_ends : get_or w k 0 + get_or w m 0 ≤ length w
   body_ends = rw (e, q) (omega (arith, o.laid.bodies_in i h, o.laid.food_in))
-
-  pub body_under : Under 1024 body
-  body_under = rw body_is (o.cells i h)
-
-  pub body_stamped : (b : Bool) (next : List ℕ) → Stamped body (i + 1) b next → Stamped (body_at w i) (i + 1) b next
-  body_stamped b next s = record { says = s.says ∙ ap distinct body_is; next = s.next }
-
--- its first byte
-pub byte_fits : (l : List ℕ) (i : ℕ) → ((k : ℕ) → Fits w16 (get_or l k 0)) → Fits w64 (get_or l i 0 * 2)
-byte_fits l i h = omega (arith, h i)
 
 -- ---- `bodies_fit`: the bodies so far have no cell twice, and the next stamp is new to the board
 
@@ -155,7 +138,3 @@ module _ (l : List ℕ) where
 
     pub rising_all : length l ≤ k → rises ≡ ascending 0 l
     rising_all h = rising_end low l k (ascending 0 l) rises h v.rest
-
--- what is above a word
-pub above_fits : (l : List ℕ) (i d : ℕ) → ((k : ℕ) → Fits w16 (get_or l k 0)) → d < 65536 → Fits w64 (get_or l i 0 + d)
-above_fits l i d h e = omega (arith, h i)

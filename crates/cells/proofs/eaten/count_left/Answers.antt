@@ -1,5 +1,5 @@
 -- `cells::count_left` meets its contract: all are left where nothing is eaten, else those that are not eaten are counted (`left_count`). Assumes nothing.
-use Rattle.std.proofs.Common.{rules, ◌≡◌, sym, ap, ◌∙◌, ℕ, length, not, arith}
+use Rattle.std.proofs.Common.{rules, ◌≡◌, sym, ap, ◌∙◌, length, not, arith}
 use Rattle.std.specs.List.{count_by}
 use Rattle.std.proofs.lemmas.Bool.Decides.{nat_tests}
 use Rattle.lists.specs.Lists.{member}

@@ -4,6 +4,7 @@ use borrow.Author.Rules.{rules}
 use Rattle.strips.proofs.Strips.{strips_blank}
 use Rattle.chance.proofs.Saying.{words_fit, draw_23, draw_28, draw_27, draw_29, list_29, draw_ready, draw_gives}
 use Rattle.chance.proofs.next.draw_due.Goals as goal
+use Rattle.chance.proofs.next.draw_due.Goals.{then-out-image-via-then-out-image, then-out-image-via-else-out-image+then-list-found}
 
 pub returns-then-image-eq0 : goal.returns-then-image-eq0
 returns-then-image-eq0 c = search draw_23
@@ -21,10 +22,8 @@ pub overflow_add-image : goal.overflow_add-image
 overflow_add-image c = search words_fit
 
 pub returns-then-out-image : goal.returns-then-out-image
-returns-then-out-image c = search draw_29
-
-pub returns-then-list-found : goal.returns-then-list-found
-returns-then-list-found c = search list_29
+returns-then-out-image c =
+    elim c.then-out-image.branch [ then-out-image-via-then-out-image w ↦ search draw_29 | then-out-image-via-else-out-image+then-list-found w ↦ search list_29 ]
 
 pub draw_into-requires : goal.draw_into-requires
 draw_into-requires c = search draw_ready

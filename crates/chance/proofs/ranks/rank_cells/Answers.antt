@@ -1,20 +1,15 @@
 -- `chance::rank_cells` meets its contract. The invariant: the first j cells are ranked and marked (`RankedTo`); each way through a turn is one law of `Horner`.
--- The measure is how many cells are left. Assumes nothing.
-use Rattle.lists.proofs.Fits.{word_fits}
+-- Assumes nothing.
 use Rattle.chance.proofs.Horner.{ranked_none, ranked_off, ranked_taken, ranked_free, ranked_times, ranked_room, ranked_next, ranked_all}
 use Rattle.chance.proofs.ranks.rank_cells.Goals as goal
+use Rattle.chance.proofs.ranks.rank_cells.Goals.{then-area-cell-via-then-area-cell, then-area-cell-via-else-area-cell+then-is_marked}
 
 pub loop-j-init : goal.loop-j-init
 loop-j-init c = search ranked_none
 
-pub overflow_cast-c : goal.overflow_cast-c
-overflow_cast-c c = search word_fits
-
-pub returns-then-area-c : goal.returns-then-area-c
-returns-then-area-c c = search ranked_off
-
-pub returns-then-is_marked : goal.returns-then-is_marked
-returns-then-is_marked c = search ranked_taken
+pub returns-then-area-cell : goal.returns-then-area-cell
+returns-then-area-cell c =
+    elim c.then-area-cell.branch [ then-area-cell-via-then-area-cell w ↦ search ranked_off | then-area-cell-via-else-area-cell+then-is_marked w ↦ search ranked_taken ]
 
 pub overflow_mul-rank : goal.overflow_mul-rank
 overflow_mul-rank c = search ranked_times

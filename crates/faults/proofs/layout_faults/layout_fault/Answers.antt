@@ -1,18 +1,10 @@
 -- `faults::layout_fault` meets its contract: the starts, then the total; with both, each part is where it is due. Assumes nothing.
 use borrow.Author.Rules.{rules}
-use Rattle.lists.proofs.Fits.{word_fits}
-use Rattle.wellformed.proofs.Answers.{total_fits_lem}
 use Rattle.faults.proofs.Rows.{at_52, at_53, in_place}
 use Rattle.faults.proofs.layout_faults.layout_fault.Goals as goal
 
 pub returns-then-not-found : goal.returns-then-not-found
 returns-then-not-found c = search at_52
-
-pub overflow_cast-total : goal.overflow_cast-total
-overflow_cast-total c = search word_fits
-
-pub overflow_add-total : goal.overflow_add-total
-overflow_add-total c = search (rules, total_fits_lem)
 
 pub returns-then-total-image : goal.returns-then-total-image
 returns-then-total-image c = search at_53

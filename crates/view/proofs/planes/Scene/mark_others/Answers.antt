@@ -1,7 +1,7 @@
--- `view::mark_others` meets its contract: each turn's way is one law of `Marks`. Assumes nothing.
+-- `view::Scene::mark_others` meets its contract: each turn's way is one law of `Marks`. Assumes nothing.
 use Rattle.view.proofs.Marks.{others_none, others_same, others_next}
-use Rattle.view.proofs.planes.mark_others.Goals as goal
-use Rattle.view.proofs.planes.mark_others.Goals.{then-i-agent, else-i-agent}
+use Rattle.view.proofs.planes.Scene.mark_others.Goals as goal
+use Rattle.view.proofs.planes.Scene.mark_others.Goals.{then-i-agent, else-i-agent}
 
 pub loop-i-init : goal.loop-i-init
 loop-i-init c = search others_none

@@ -1,6 +1,0 @@
--- `view::mark_cells` meets its contract: the two marks are the body's (`cells_marked`). Assumes nothing.
-use Rattle.view.proofs.Marks.{cells_marked}
-use Rattle.view.proofs.planes.mark_cells.Goals as goal
-
-pub returns : goal.returns
-returns c = search cells_marked
