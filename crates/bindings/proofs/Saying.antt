@@ -42,31 +42,37 @@ abbrev Apart : Type 0
 Apart = ◌≡◌ {A = ℕ} 0 1
 
 module _ (w : List ℕ) (a : Says (Option ℕ)) (q : Keys w a) (old : List ℕ) where
-  pub key_told : (n : ℕ) → a ≡ Ok (Some n) → Tells key_numbers (key_says w) old (1 ∷ n ∷ []) 0
-  key_told n e = given key_numbers (key_says w) old (Some n) (sym e ∙ q.answer)
+  pub key_told : (k : Option ℕ) → a ≡ Ok k → (n : ℕ) → k ≡ Some n → Tells key_numbers (key_says w) old (1 ∷ n ∷ []) 0
+  key_told k e n s = given key_numbers (key_says w) old (Some n) (ap Ok (sym s) ∙ sym e ∙ q.answer)
 
-  pub no_key_told : a ≡ Ok None → Tells key_numbers (key_says w) old (0 ∷ 0 ∷ []) 0
-  no_key_told e = given key_numbers (key_says w) old None (sym e ∙ q.answer)
+  pub no_key_told : (k : Option ℕ) → a ≡ Ok k → k ≡ None → Tells key_numbers (key_says w) old (0 ∷ 0 ∷ []) 0
+  no_key_told k e s = given key_numbers (key_says w) old None (ap Ok (sym s) ∙ sym e ∙ q.answer)
 
   pub key_refused : (k : Refusal) → a ≡ Err k → (r : ℕ) → r ≡ refusal_number k → Tells key_numbers (key_says w) old old r
   key_refused k e = refused key_numbers (key_says w) old k (sym e ∙ q.answer)
 
 module _ (w : List ℕ) (a : Says Actor) (q : ActsNext w a) (old : List ℕ) where
-  pub chance_told : a ≡ Ok Chance → Tells bit_number (actor_says w) old (1 ∷ []) 0
-  chance_told e = given bit_number (actor_says w) old true (ap (seen chance_of) (sym e) ∙ q.answer)
+  actor_told : (b : Actor) → a ≡ Ok b → Tells bit_number (actor_says w) old (bit_number (chance_of b)) 0
+  actor_told b e = given bit_number (actor_says w) old (chance_of b) (ap (seen chance_of) (sym e) ∙ q.answer)
 
-  pub all_told : a ≡ Ok Simultaneous → Tells bit_number (actor_says w) old (0 ∷ []) 0
-  all_told e = given bit_number (actor_says w) old false (ap (seen chance_of) (sym e) ∙ q.answer)
+  pub chance_told : (b : Actor) → a ≡ Ok b → b ≡ Chance → Tells bit_number (actor_says w) old (1 ∷ []) 0
+  chance_told b e s = actor_told Chance (e ∙ ap Ok s)
+
+  pub all_told : (b : Actor) → a ≡ Ok b → b ≡ Simultaneous → Tells bit_number (actor_says w) old (0 ∷ []) 0
+  all_told b e s = actor_told Simultaneous (e ∙ ap Ok s)
 
   pub actor_refused : (k : Refusal) → a ≡ Err k → (r : ℕ) → r ≡ refusal_number k → Tells bit_number (actor_says w) old old r
   actor_refused k e = refused bit_number (actor_says w) old k (ap (seen chance_of) (sym e) ∙ q.answer)
 
 module _ (w : List ℕ) (i : ℕ) (a : Says Legal) (q : Allows w i a) (old : List ℕ) where
-  pub any_told : a ≡ Ok AnyAction → Tells action_numbers (legal_says w i) old (3 ∷ []) 0
-  any_told e = given action_numbers (legal_says w i) old (0 ∷ 1 ∷ 2 ∷ []) (ap (seen actions_of) (sym e) ∙ q.answer)
+  legal_told : (b : Legal) → a ≡ Ok b → Tells action_numbers (legal_says w i) old (action_numbers (actions_of b)) 0
+  legal_told b e = given action_numbers (legal_says w i) old (actions_of b) (ap (seen actions_of) (sym e) ∙ q.answer)
 
-  pub none_told : a ≡ Ok NoAction → Tells action_numbers (legal_says w i) old (0 ∷ []) 0
-  none_told e = given action_numbers (legal_says w i) old [] (ap (seen actions_of) (sym e) ∙ q.answer)
+  pub any_told : (b : Legal) → a ≡ Ok b → b ≡ AnyAction → Tells action_numbers (legal_says w i) old (3 ∷ []) 0
+  any_told b e s = legal_told AnyAction (e ∙ ap Ok s)
+
+  pub none_told : (b : Legal) → a ≡ Ok b → b ≡ NoAction → Tells action_numbers (legal_says w i) old (0 ∷ []) 0
+  none_told b e s = legal_told NoAction (e ∙ ap Ok s)
 
   pub legal_refused : (k : Refusal) → a ≡ Err k → (r : ℕ) → r ≡ refusal_number k → Tells action_numbers (legal_says w i) old old r
   legal_refused k e = refused action_numbers (legal_says w i) old k (ap (seen actions_of) (sym e) ∙ q.answer)
@@ -117,28 +123,26 @@ module _ (s s' : Setting) (a : Says (Unit {0})) (q : Validates s a) (p : s ≡ s
 
 -- ---- a space
 
-pub box_told : (a : Says Space) (p h w : ℕ) (l t : Float) → a ≡ Ok (Box p h w l t) → (old : List ℕ) (bounds : List Float)
-    → FlatSpace (seen shape_of a) old (0 ∷ 0 ∷ p ∷ h ∷ w ∷ []) bounds (l ∷ t ∷ []) 0
-box_told a p h w l t e old bounds = record {
-  refusal = ap (λ (a : Says Space). refusal_of (seen shape_of a)) (sym e);
-  sizes = ap (λ (a : Says Space). told shape_numbers old (seen shape_of a)) (sym e);
-  bounds = ap (λ (a : Says Space). told shape_bounds bounds (seen shape_of a)) (sym e);
-}
+module _ (a : Says Space) (old : List ℕ) (bounds : List Float) where
+  space_told : (s : Space) → a ≡ Ok s → FlatSpace (seen shape_of a) old (shape_numbers (shape_of s)) bounds (shape_bounds (shape_of s)) 0
+  space_told s e = record {
+    refusal = ap (λ (a : Says Space). refusal_of (seen shape_of a)) (sym e);
+    sizes = ap (λ (a : Says Space). told shape_numbers old (seen shape_of a)) (sym e);
+    bounds = ap (λ (a : Says Space). told shape_bounds bounds (seen shape_of a)) (sym e);
+  }
 
-pub space_refused : (a : Says Space) (k : Refusal) → a ≡ Err k → (old : List ℕ) (bounds : List Float) (r : ℕ) → r ≡ refusal_number k → FlatSpace (seen shape_of a) old old bounds bounds r
-space_refused a k e old bounds r n = record {
-  refusal = n ∙ ap (λ (a : Says Space). refusal_of (seen shape_of a)) (sym e);
-  sizes = ap (λ (a : Says Space). told shape_numbers old (seen shape_of a)) (sym e);
-  bounds = ap (λ (a : Says Space). told shape_bounds bounds (seen shape_of a)) (sym e);
-}
+  pub box_told : (s : Space) → a ≡ Ok s → (p h w : ℕ) (l t : Float) → s ≡ Box p h w l t → FlatSpace (seen shape_of a) old (0 ∷ 0 ∷ p ∷ h ∷ w ∷ []) bounds (l ∷ t ∷ []) 0
+  box_told s e p h w l t q = space_told (Box p h w l t) (e ∙ ap Ok q)
 
-pub discrete_told : (a : Says Space) (n : ℕ) → a ≡ Ok (Discrete n) → (old : List ℕ) (bounds : List Float)
-    → FlatSpace (seen shape_of a) old (1 ∷ n ∷ 0 ∷ 0 ∷ 0 ∷ []) bounds (lit false ∷ lit false ∷ []) 0
-discrete_told a n e old bounds = record {
-  refusal = ap (λ (a : Says Space). refusal_of (seen shape_of a)) (sym e);
-  sizes = ap (λ (a : Says Space). told shape_numbers old (seen shape_of a)) (sym e);
-  bounds = ap (λ (a : Says Space). told shape_bounds bounds (seen shape_of a)) (sym e);
-}
+  pub discrete_told : (s : Space) → a ≡ Ok s → (n : ℕ) → s ≡ Discrete n → FlatSpace (seen shape_of a) old (1 ∷ n ∷ 0 ∷ 0 ∷ 0 ∷ []) bounds (lit false ∷ lit false ∷ []) 0
+  discrete_told s e n q = space_told (Discrete n) (e ∙ ap Ok q)
+
+  pub space_refused : (k : Refusal) → a ≡ Err k → (r : ℕ) → r ≡ refusal_number k → FlatSpace (seen shape_of a) old old bounds bounds r
+  space_refused k e r n = record {
+    refusal = n ∙ ap (λ (a : Says Space). refusal_of (seen shape_of a)) (sym e);
+    sizes = ap (λ (a : Says Space). told shape_numbers old (seen shape_of a)) (sym e);
+    bounds = ap (λ (a : Says Space). told shape_bounds bounds (seen shape_of a)) (sym e);
+  }
 
 module _ (a : Says Space) (old new : List ℕ) (bounds new_bounds : List Float) (r : ℕ) (t : FlatSpace (seen shape_of a) old new bounds new_bounds r) where
   same_space : (x : Says Shape) → seen shape_of a ≡ x → FlatSpace x old new bounds new_bounds r

@@ -192,7 +192,7 @@ module _ (s : Setting) (p : ℕ) (f : ℕ → List ℕ) (ok : Bindable s p f) wh
 
   line_asked : AskedNone s p line
   unfolding asked_order setting_check all
-  line_asked = record { none = join (setting_order s) ((Refusal.Pages, ltb 65535 p) ∷ row_order s p line) (fault_none (setting_order s) refl ok.accepted) (rw (le-ltb 65535 p ok.few) line_none) }
+  line_asked = record { none = join (setting_order s) ((Refusal.Pages, ltb 65535 p) ∷ row_order s p line) (fault_none (setting_order s) ok.accepted) (rw (le-ltb 65535 p ok.few) line_none) }
 
   pub line_writes : (room : ℕ) → length (book_of s p f) ≤ room → write_says s p line room ≡ Ok (book_of s p f)
   line_writes room h =

@@ -13,7 +13,7 @@ use Rattle.lists.specs.Below.{concat_below}
 use Rattle.lists.specs.Lists.{all, write_at, over_front}
 use Rattle.rules.specs.Tables.{Table, fault, none_hold}
 use Rattle.lists.proofs.Concat.{blocks_long}
-use Rattle.rules.proofs.Tables.{and_then, row_out, table_gives, table_after, table_given}
+use Rattle.rules.proofs.Tables.{and_then, row_out, none_fault, table_gives, table_after, table_given}
 use Rattle.lists.proofs.Tests.{and_left, and_right}
 use Rattle.lists.proofs.Writes.{write_more, write_front}
 use Rattle.rules.specs.Says.{Says, by_table}
@@ -34,17 +34,6 @@ use Rattle.book.specs.Promises.{Writes}
 use Rattle.contents.proofs.Laying.{setting_wordy}
 use Rattle.book.proofs.RowLaws.{halves, row_fits, pages_all}
 use Rattle.rules.specs.declared.refusal.Refusal.TheVariants as Refusal
-use Rattle.rules.specs.Refusals.{code_of}
-
--- where no row holds, no number is found
-pub none_fault : (t : Table) → none_hold t ≡ true → fault t ≡ 0
-unfolding fault all
-none_fault [] h = refl
-none_fault (e ∷ es) h = go code_of e.0 e.1 (and_left _ _ h) (none_fault es (and_right (not e.1) _ h))
-  where
-    go : (n : ℕ) (t : Bool) → not t ≡ true → fault es ≡ 0 → (n if t else fault es) ≡ 0
-    go n true z q = absurd (false≢true z)
-    go n false z q = q
 
 -- ---- every refusal but 29: v is the verdict on the setting
 
@@ -57,19 +46,19 @@ module _ (s : Setting) (p : ℕ) (row : List ℕ) where
   asked_parts = table_after (setting_order s) later (Ok (tt {0}))
 
   module _ (v : Says (Unit {0})) (q : Validates s v) where
-    by_setting : by_table (asked_order s p row) (Ok (tt {0})) ≡ and_then (v) (by_table later (Ok (tt {0})))
+    by_setting : by_table (asked_order s p row) (Ok (tt {0})) ≡ and_then v (by_table later (Ok (tt {0})))
     by_setting = asked_parts ∙ rw (← q.answer)
 
-    pub asked_setting : (k : Refusal) → v ≡ Err k → Asked s p row v
-    asked_setting k e = record { says = e ∙ sym (by_setting ∙ rw e) }
+    pub asked_setting : (k : Refusal) → v ≡ Err k → Asked s p row (Err k)
+    asked_setting k e = record { says = sym (by_setting ∙ rw e) }
 
-    module _ (e : v ≡ (Ok tt)) where
+    module _ (e : v ≡ Ok tt) where
       past_setting : by_table (asked_order s p row) (Ok (tt {0})) ≡ by_table later (Ok (tt {0}))
       past_setting = by_setting ∙ rw e
 
-      pub asked_42 : 65535 < p → (x : Refusal) → x ≡ Refusal.Pages → Asked s p row (Err x)
+      pub asked_42 : 65535 < p → Asked s p row (Err Refusal.Pages)
       unfolding by_table
-      asked_42 h x z = record { says = ap Err z ∙ sym (past_setting ∙ rw (lt-ltb 65535 p h)) }
+      asked_42 h = record { says = sym (past_setting ∙ rw (lt-ltb 65535 p h)) }
 
       pub asked_row : p ≤ 65535 → (r : Says (Unit {0})) → RowChecks s p row r → Asked s p row r
       unfolding by_table
@@ -95,7 +84,7 @@ module _ (s : Setting) (p : ℕ) (row : List ℕ) where
     asked_fits = row_fits s p row asked_none asked_few
 
 -- none refuses
-module _ (s : Setting) (p : ℕ) (row : List ℕ) (v : Says (Unit {0})) (a : Asked s p row v) (e : v ≡ (Ok tt)) where
+module _ (s : Setting) (p : ℕ) (row : List ℕ) (v : Says (Unit {0})) (a : Asked s p row v) (e : v ≡ Ok tt) where
   pub none_asked : AskedNone s p row
   none_asked = record { none = (table_given (asked_order s p row) tt tt (sym a.says ∙ e)).0 }
 
@@ -164,8 +153,8 @@ module _ (s : Setting) (p : ℕ) (row : List ℕ) where
       by_room : (t : Bool) → ltb (length old) (17 + 2 * p + length row) ≡ t → write_says s p row (length old) ≡ (Err Refusal.Buffer if t else Ok (book s p row))
       by_room t e = write_says_lem a (length old) ∙ rw (book_words s p row f, e)
 
-      pub writes_29 : length old < 17 + 2 * p + length row → (k : Refusal) → k ≡ Refusal.Buffer → Writes s p row old old (Err k)
-      writes_29 h k z = let e = by_room true (lt-ltb _ _ h) in record { answer = rw (e, z); words = rw e }
+      pub writes_29 : length old < 17 + 2 * p + length row → Writes s p row old old (Err Refusal.Buffer)
+      writes_29 h = let e = by_room true (lt-ltb _ _ h) in record { answer = rw e; words = rw e }
 
       pub writes_done : 17 + 2 * p + length row ≤ length old → (mid new : List ℕ) → ContentsWritten s p row old mid → new ≡ write_at mid (17 + 2 * p) row
           → Writes s p row old new (Ok (17 + 2 * p + length row))

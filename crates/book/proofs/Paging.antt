@@ -8,13 +8,16 @@ use Rattle.lists.specs.Choice.{◌if◌else◌}
 use mathlib.Core.List.{List, [], ◌∷◌, append-nil}
 use lib.ListN.{length, take, drop}
 use denote.Ref.{Bor}
-use borrow.Author.Tests.{not-true, not-false}
 use Rattle.rules.specs.Tables.{Table, none_hold}
 use Rattle.rules.proofs.Tables.{and_then, row_out, table_both, table_after, table_given}
-use Rattle.rules.proofs.Faults.{image_on, image_out, rows_formed, rows_after}
+use Rattle.rules.proofs.Faults.{no_fault, rows_formed, rows_after}
 use Rattle.rules.specs.Image.{well_formed}
 use Rattle.rules.specs.Orders.{differs}
-use Rattle.rules.specs.Promises.{Checks, Faulty}
+use Rattle.rules.specs.Promises.{Examines}
+use Rattle.rules.specs.Facts.{Sound}
+use Rattle.rules.specs.Faults.{image_rows}
+use Rattle.rules.specs.Calls.{image_says}
+use Rattle.rules.proofs.Facts.{sound}
 use Rattle.rules.specs.Says.{Says, by_table}
 use Rattle.rules.specs.declared.Setting.{Setting}
 use Rattle.rules.specs.declared.refusal.Refusal.{Refusal}
@@ -25,34 +28,39 @@ use Rattle.contents.specs.Orders.{find_order}
 use Rattle.book.specs.Orders.{page_rows, read_order}
 use Rattle.contents.specs.Accepted.{Accepted}
 use Rattle.book.specs.Read.{PageChecks, Cut}
-use Rattle.contents.specs.Calls.{Span, span_in, find_says}
+use Rattle.contents.specs.Calls.{span_in, find_says}
+use Rattle.contents.specs.declared.Span.{Span}
 use Rattle.book.specs.Calls.{page_says, then_read}
 use Rattle.contents.specs.Promises.{Finds}
 use Rattle.book.specs.Promises.{Pages, Hands}
-use Rattle.contents.proofs.Finding.{found, find_is, find_opens, find_counted, find_inside, part_given}
+use Rattle.contents.proofs.Finding.{found, find_is, find_opens, find_counted, find_inside}
 use Rattle.rules.specs.declared.refusal.Refusal.TheVariants as Refusal
-
--- ---- the faults and 21 of an image
-
-module _ (s : Setting) (w : List ℕ) (t : Bool) (q : Checks w t) where
-  pub page_faulty : not t ≡ true → (x : Refusal) → Faulty w x → PageChecks s w (Err x)
-  page_faulty h x f = record { says = image_out w _ (Ok (tt {0})) (sym q.answer ∙ not-true t h) x f }
-
-  module _ (h : not t ≡ false) (u : Bool) (d : u ≡ differs s w) where
-    past_image : by_table (page_rows s w) (Ok (tt {0})) ≡ (Err Refusal.OtherSetting if differs s w else Ok (tt {0}))
-    unfolding by_table
-    past_image = image_on w _ (Ok (tt {0})) (sym q.answer ∙ not-false t h)
-
-    pub page_21 : u ≡ true → (x : Refusal) → x ≡ Refusal.OtherSetting → PageChecks s w (Err x)
-    page_21 e x z = record { says = ap Err z ∙ sym (past_image ∙ rw (sym d ∙ e)) }
-
-    pub page_fits : u ≡ false → PageChecks s w Fits
-    page_fits e = record { says = sym (past_image ∙ rw (sym d ∙ e)) }
 
 -- a whole table by its verdict alone
 pub table_verdict : {A : Type 0} (t : Table) (r : Says A) → by_table t r ≡ and_then (by_table t (Ok (tt {0}))) r
 unfolding by_table
 table_verdict t r = ap (λ (l : Table). by_table l r) (sym (append-nil t)) ∙ table_after t [] r
+
+-- ---- the faults and 21 of an image: v is its verdict
+
+module _ (s : Setting) (w : List ℕ) (v : Says (Unit {0})) (q : Examines w v) where
+  by_image : by_table (page_rows s w) (Ok (tt {0})) ≡ and_then v (Err Refusal.OtherSetting if differs s w else Ok (tt {0}))
+  unfolding by_table image_says
+  by_image = table_after (image_rows w) ((Refusal.OtherSetting, differs s w) ∷ []) (Ok (tt {0})) ∙ rw (← q.answer)
+
+  pub page_faulty : (k : Refusal) → v ≡ Err k → PageChecks s w (Err k)
+  page_faulty k e = record { says = sym (by_image ∙ rw e) }
+
+  module _ (e : v ≡ Ok tt) where
+    pub page_sound : Sound w
+    unfolding image_says
+    page_sound = sound w (sym (no_fault w) ∙ (table_given (image_rows w) tt tt (sym q.answer ∙ e)).0)
+
+    pub page_21 : differs s w ≡ true → PageChecks s w (Err Refusal.OtherSetting)
+    page_21 d = record { says = sym (by_image ∙ rw (e, d)) }
+
+    pub page_fits : differs s w ≡ false → PageChecks s w (Ok tt)
+    page_fits d = record { says = sym (by_image ∙ rw (e, d)) }
 
 -- ---- a page is found, and then read
 
@@ -72,35 +80,41 @@ unfolding page_says find_says read_order page_in
 page_says_lem b i = table_both (find_order b (length b) i) _ (Ok (span_in b (length b) i)) ∙ into b (find_order b (length b) i) (span_in b (length b) i)
 
 -- the page of accepted contents
-pub past_41 : (b : List ℕ) (i : ℕ) → (Ok tt) b (length b) → i < pages_in b
+pub past_41 : (b : List ℕ) (i : ℕ) → Accepted b (length b) → i < pages_in b
     → page_says b i ≡ by_table (page_rows (setting_in b) (page_in b i)) (Ok (span_in b (length b) i))
 unfolding page_in
 past_41 b i a h = page_says_lem b i ∙ rw (found b (length b) i a h)
 
 module _ (b : List ℕ) (i : ℕ) (r : Says Span) (f : Finds b (length b) i r) where
   -- 40 and 41 are passed on
-  pub page_none : (k : Refusal) → r ≡ Err k → Pages b i r
-  page_none k e =
-      let z : find_says b (length b) i ≡ Err k = sym f.answer ∙ e in
-      record { answer = e ∙ sym (page_says_lem b i ∙ rw z) }
+  pub page_none : (k : Refusal) → r ≡ Err k → Pages b i (Err k)
+  page_none k e = record { answer = sym (page_says_lem b i ∙ rw (← f.answer, e)) }
+
+  module _ (q : Span) (e : r ≡ Ok q) where
+    -- the contents are long enough for the setting's words
+    pub found_long : 17 ≤ length b
+    found_long = (find_opens b (length b) i q (sym f.answer ∙ e)).long
+
+    pub found_inside : q.start + q.len ≤ length b
+    found_inside = find_inside b (length b) i q (sym f.answer ∙ e)
 
 -- a part was found; v is its verdict
-module _ (book : Bor (List ℕ)) (i : ℕ) (r : Says Span) (f : Finds book.now (length book.now) i r) (start size : ℕ) (e : r ≡ Part start size)
-    (s : Setting) (x : s ≡ setting_in book.now) (part : Bor (List ℕ)) (p : Cut book start size part) (v : Says (Unit {0})) (g : PageChecks s part.now v) where
+module _ (book : Bor (List ℕ)) (i : ℕ) (r : Says Span) (f : Finds book.now (length book.now) i r) (q : Span) (e : r ≡ Ok q)
+    (s : Setting) (x : s ≡ setting_in book.now) (part : Bor (List ℕ)) (p : Cut book q.start q.len part) (v : Says (Unit {0})) (g : PageChecks s part.now v) where
   abbrev b : List ℕ
   b = book.now
 
-  by_verdict : page_says b i ≡ and_then (v) (Ok (record { start = start; len = size }))
+  by_verdict : page_says b i ≡ and_then v (Ok q)
   by_verdict =
-      let rows = page_rows (setting_in b) (take size (drop start b)) in
+      let rows = page_rows (setting_in b) (take q.len (drop q.start b)) in
       let z : v ≡ by_table rows (Ok (tt {0})) = rw (x, p.words) at g.says in
       page_says_lem b i
-      ∙ rw (part_given b (length b) i r f start size e) (table_verdict rows (Ok (record { start = start; len = size })) ∙ rw (← z))
+      ∙ rw (sym f.answer ∙ e) (table_verdict rows (Ok q) ∙ rw (← z))
 
   pub page_refused : (k : Refusal) → v ≡ Err k → Pages b i (Err k)
   page_refused k y = record { answer = sym (by_verdict ∙ rw y) }
 
-  pub page_part : v ≡ Fits → Pages b i (Part start size)
+  pub page_part : v ≡ Ok tt → Pages b i (Ok q)
   page_part y = record { answer = sym (by_verdict ∙ rw y) }
 
 -- ---- what a page that is read tells
@@ -122,7 +136,7 @@ module _ (b : List ℕ) (i : ℕ) (q : Span) (e : page_says b i ≡ Ok q) where
   pub page_span : span_in b (length b) i ≡ q
   page_span = find_is b (length b) i q both.0
 
-  pub page_opens : (Ok tt) b (length b)
+  pub page_opens : Accepted b (length b)
   page_opens = find_opens b (length b) i q both.0
 
   pub page_counted : i < pages_in b
@@ -145,8 +159,8 @@ module _ (b : List ℕ) (i : ℕ) (q : Span) (e : page_says b i ≡ Ok q) where
 -- ---- the part that is handed back
 
 module _ (b : List ℕ) (i : ℕ) (r : Says Span) (p : Pages b i r) where
-  pub read_inside : (start size : ℕ) → r ≡ Part start size → start + size ≤ length b
-  read_inside start size e = page_inside b i (record { start = start; len = size }) (sym p.answer ∙ e)
+  pub read_inside : (q : Span) → r ≡ Ok q → q.start + q.len ≤ length b
+  read_inside q e = page_inside b i q (sym p.answer ∙ e)
 
 module _ (book : Bor (List ℕ)) (i : ℕ) (r : Says Span) (p : Pages book.now i r) (q : Bor (List ℕ)) where
   pub hands_none : (n : Refusal) → r ≡ Err n → Cut book 0 0 q → Hands book i q
@@ -154,7 +168,7 @@ module _ (book : Bor (List ℕ)) (i : ℕ) (r : Says Span) (p : Pages book.now i
       let z : page_says book.now i ≡ Err n = sym p.answer ∙ e in
       record { words = rw z c.words; place = rw z c.place }
 
-  pub hands_part : (start size : ℕ) → r ≡ Part start size → Cut book start size q → Hands book i q
-  hands_part start size e c =
-      let z : page_says book.now i ≡ Ok (record { start = start; len = size }) = sym p.answer ∙ e in
+  pub hands_part : (m : Span) → r ≡ Ok m → Cut book m.start m.len q → Hands book i q
+  hands_part m e c =
+      let z : page_says book.now i ≡ Ok m = sym p.answer ∙ e in
       record { words = rw z c.words; place = rw z c.place }

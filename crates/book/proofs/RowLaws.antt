@@ -21,7 +21,7 @@ use Rattle.rules.specs.Says.{Says, by_table}
 use Rattle.lists.proofs.Below.{sum_none, sum_next}
 use Rattle.lists.proofs.Concat.{block_split}
 use Rattle.lists.proofs.Lists.{rest_is, all_append}
-use Rattle.rules.proofs.Tables.{row_out, table_gives, table_both, table_after, table_given}
+use Rattle.rules.proofs.Tables.{and_then, row_out, table_gives, table_both, table_after, table_given, table_first, table_refuses}
 use Rattle.rules.proofs.Faults.{rows_formed, rows_after}
 use Rattle.lists.proofs.Tests.{ordered, less, more, both, and_left, and_right}
 use Rattle.rules.specs.Image.{front, snakes_in, length_at, food_start, food_count_in, long_enough, well_formed}
@@ -34,7 +34,7 @@ use Rattle.contents.specs.Read.{Word}
 use Rattle.book.specs.Read.{PageChecks}
 use Rattle.book.specs.Rows.{told_length, row_start, row_page}
 use Rattle.book.specs.Writing.{Summed, Told, Next, RowChecks, Passed, RowFits}
-use Rattle.book.specs.declared.rows.NextPage.{NextPage}
+use Rattle.book.proofs.Paging.{table_verdict}
 use Rattle.rules.specs.declared.refusal.Refusal.TheVariants as Refusal
 
 -- where no row of two tables holds, none of either does
@@ -97,9 +97,19 @@ module _ (w : List ℕ) where
 
 -- ---- one page
 
-pub next_is : (s : Setting) (rest : List ℕ) (len : ℕ) → Told rest len → (v : Says (Unit {0})) → PageChecks s (take len rest) v
-    → Next s rest (record { verdict = v; len = len })
-next_is s rest len q v f = record { says = rw q.length_told at f.says; told = q }
+-- v is the verdict on the page that the contents tell
+module _ (s : Setting) (rest : List ℕ) (len : ℕ) (q : Told rest len) (v : Says (Unit {0})) (f : PageChecks s (take len rest) v) where
+  next_of : (r : Says ℕ) → r ≡ and_then v (Ok len) → Next s rest r
+  next_of r e =
+      let rows = page_rows s (take len rest) in
+      let z : r ≡ by_table rows (Ok len) = e ∙ sym (table_verdict rows (Ok len) ∙ rw (← f.says)) in
+      record { says = rw q.length_told at z; inside = omega (arith, q.length_told, q.inside) }
+
+  pub next_out : (k : Refusal) → v ≡ Err k → Next s rest (Err k)
+  next_out k e = next_of (Err k) (rw e)
+
+  pub next_in : v ≡ Ok tt → Next s rest (Ok len)
+  next_in e = next_of (Ok len) (rw e)
 
 -- ---- page by page
 
@@ -137,40 +147,48 @@ module _ (s : Setting) (row : List ℕ) where
     passed_none = record { here = omega arith; start = refl; inside = omega arith; last_is = refl; none = λ j h. absurd (omega (arith, h)) }
 
     module _ (i at last : ℕ) (q : Passed s row p i at last) where
-      module _ (r : NextPage) (y : Next s (take (length row - at) (drop at row)) r) where
+      module _ (r : Says ℕ) (y : Next s (take (length row - at) (drop at row)) r) where
         x : Next s (drop at row) r
         x = rw (rest_is row at) at y
 
-        page_says_lem : r.verdict ≡ by_table (rows i) (Ok (tt {0}))
+        page_says_lem : r ≡ by_table (rows i) (Ok (told_length (drop (row_start row i) row)))
         unfolding row_page
         page_says_lem = rw q.start at x.says
 
-        next_start : at + r.len ≡ row_start row (i + 1)
-        next_start = rw (x.told.length_told, q.start) (sym (start_next row i))
-
-        -- where its words end
-        pub passed_in : at + r.len ≤ length row
-        passed_in = omega (arith, x.told.inside, length-drop at row, q.inside)
-
-        pub passed_fits : Fits w64 (length row) → Fits w64 (at + r.len)
-        passed_fits f = omega (arith, passed_in, f)
-
-        pub passed_next : r.verdict ≡ (Ok tt) → i < p → Passed s row p (i + 1) (at + r.len) r.len
-        passed_next z h = record {
-          here = omega arith;
-          start = next_start;
-          inside = passed_in;
-          last_is = let e : i + 1 - 1 ≡ i = omega arith in rw e (omega (arith, next_start, q.start));
-          none = λ j l. elim (ordered j i) [
-            | less k t ↦ q.none j k
-            | more k t ↦ let e : j ≡ i = omega arith in rw e (table_given (rows i) tt tt (sym page_says_lem ∙ z)).0
-          ];
-        }
-
-        pub row_stops : i < p → (k : Refusal) → r.verdict ≡ Err k → RowChecks s p row r.verdict
+        pub row_stops : (k : Refusal) → r ≡ Err k → i < p → RowChecks s p row (Err k)
         unfolding row_order
-        row_stops h k z =
-            record { says = z ∙ sym (blocks_first rows i p _ k h q.none (sym page_says_lem ∙ z)) }
+        row_stops k z h =
+            let none = table_first (rows i) (Ok (tt {0})) k (table_refuses (rows i) _ k (sym page_says_lem ∙ z)) in
+            record { says = sym (blocks_first rows i p _ k h q.none none) }
+
+        -- a page of n words has passed
+        module _ (n : ℕ) (e : r ≡ Ok n) where
+          page_given : (none_hold (rows i) ≡ true) × (told_length (drop (row_start row i) row) ≡ n)
+          page_given = table_given (rows i) _ n (sym page_says_lem ∙ e)
+
+          next_start : at + n ≡ row_start row (i + 1)
+          next_start = omega (arith, start_next row i, q.start, page_given.1)
+
+          -- where its words end
+          pub passed_in : at + n ≤ length row
+          passed_in =
+              let here = ap (λ (a : ℕ). told_length (drop a row)) q.start in
+              omega (arith, here, page_given.1, x.inside, length-drop at row, q.inside)
+
+          pub passed_fits : Fits w64 (length row) → Fits w64 (at + n)
+          passed_fits f = omega (arith, passed_in, f)
+
+          pub passed_next : i < p → Passed s row p (i + 1) (at + n) n
+          passed_next h = record {
+            here = omega arith;
+            start = next_start;
+            inside = passed_in;
+            last_is = let e : i + 1 - 1 ≡ i = omega arith in rw e (omega (arith, next_start, q.start));
+            none = λ j l. elim (ordered j i) [
+              | less k t ↦ q.none j k
+              | more k t ↦ let e : j ≡ i = omega arith in rw e page_given.0
+            ];
+          }
 
       module _ (h : p ≤ i) where
         end : i ≡ p
@@ -183,11 +201,11 @@ module _ (s : Setting) (row : List ℕ) where
         unfolding row_order
         past = blocks_then rows (Ok (tt {0})) p (λ j l. q.none j (omega arith)) _
 
-        pub row_left : at < length row → (x : Refusal) → x ≡ Refusal.Total last → RowChecks s p row (Err x)
+        pub row_left : at < length row → RowChecks s p row (Err (Refusal.Total last))
         unfolding by_table
-        row_left g x z =
+        row_left g =
             let e : last ≡ left_at row p = q.last_is ∙ ap (λ (k : ℕ). left_at row k) end in
-            record { says = ap Err (z ∙ ap Refusal.Total e) ∙ sym (past ∙ rw (lt-ltb (row_start row p) (length row) (rw last_start at g))) }
+            record { says = ap (λ (n : ℕ). Err (Refusal.Total n)) e ∙ sym (past ∙ rw (lt-ltb (row_start row p) (length row) (rw last_start at g))) }
 
         pub row_done : length row ≤ at → RowChecks s p row (Ok tt)
         unfolding by_table

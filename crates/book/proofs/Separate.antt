@@ -10,7 +10,8 @@ use Rattle.rules.specs.Says.{Says, by_table}
 use Rattle.rules.specs.declared.Setting.{Setting}
 use Rattle.contents.specs.Settings.{setting_in}
 use Rattle.contents.specs.Contents.{front, pages_in}
-use Rattle.contents.specs.Calls.{Span, find_says}
+use Rattle.contents.specs.Calls.{find_says}
+use Rattle.contents.specs.declared.Span.{Span}
 use Rattle.contents.proofs.Alone.{find_same, setting_same}
 use Rattle.contents.proofs.Finding.{find_is}
 use Rattle.book.specs.Book.{page_in}

@@ -23,7 +23,8 @@ use Rattle.contents.specs.Orders.{contents_order}
 use Rattle.book.specs.Orders.{page_rows}
 use Rattle.book.specs.Rows.{row_start, row_page}
 use Rattle.book.specs.Bindable.{Bindable, Whole}
-use Rattle.contents.specs.Calls.{Span, find_says}
+use Rattle.contents.specs.Calls.{find_says}
+use Rattle.contents.specs.declared.Span.{Span}
 use Rattle.book.specs.Calls.{write_says, page_says, then_read, part_at}
 use Rattle.contents.specs.Promises.{Finds}
 use Rattle.book.specs.Promises.{Writes, Hands}
@@ -133,8 +134,8 @@ module _ (b : List ℕ) (k : ℕ) (h : front (pages_in b) ≤ k) (i : ℕ) where
   find_refuses x f = find_then_read ∙ ap (then_read b) (sym f.answer)
 
   -- and where it gives a part, reading says the verdict on that part, by the setting in the contents, or that part
-  pub find_reads : (start size : ℕ) → Finds (take k b) (length b) i (Part start size) → (v : Says (Unit {0})) → PageChecks (setting_in (take k b)) (take size (drop start b)) v
-      → page_says b i ≡ and_then (v) (Ok (record { start = start; len = size }))
+  pub find_reads : (start size : ℕ) → Finds (take k b) (length b) i (Ok (record { start = start; len = size })) → (v : Says (Unit {0})) → PageChecks (setting_in (take k b)) (take size (drop start b)) v
+      → page_says b i ≡ and_then v (Ok (record { start = start; len = size }))
   find_reads start size f v g =
       let rows = page_rows (setting_in b) (take size (drop start b)) in
       let z : v ≡ by_table rows (Ok (tt {0})) = rw (alone.front_setting b k h) at g.says in

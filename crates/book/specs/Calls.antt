@@ -4,10 +4,10 @@ use Rattle.rules.specs.Says.{Says, by_table, beside}
 use Rattle.rules.specs.declared.Setting.{Setting}
 use Rattle.contents.specs.Settings.{setting_in}
 use Rattle.contents.specs.Calls.{span_in}
+use Rattle.contents.specs.declared.Span.{Span}
 use Rattle.book.specs.Book.{book_of}
 use Rattle.book.specs.Rows.{row_page}
 use Rattle.book.specs.Orders.{page_rows, read_order, write_order}
-use Rattle.contents.specs.declared.Span.{Span}
 
 -- the book's words
 unfoldable pub write_says : Setting → ℕ → List ℕ → ℕ → Says (List ℕ)

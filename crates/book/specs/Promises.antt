@@ -5,6 +5,7 @@ use Rattle.std.specs.Borrow.{Bor}
 use Rattle.rules.specs.Says.{Says, seen, lent}
 use Rattle.rules.specs.declared.Setting.{Setting}
 use Rattle.image.specs.Memory.{word_place}
+use Rattle.contents.specs.declared.Span.{Span}
 use Rattle.book.specs.Calls.{write_says, page_says, part_at, start_at}
 use Rattle.contents.specs.declared.Span.{Span}
 -- finding a page by the contents alone is promised there, and handed on: who calls the book cites it here

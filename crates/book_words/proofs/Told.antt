@@ -1,8 +1,9 @@
 -- A setting's words and the setting that they tell. Assumes nothing.
-use Rattle.std.specs.Prelude.{Option, Some}
+use Rattle.std.specs.Prelude.{Option}
+use Rattle.core.specs.Bool.{then_some}
 use Prim.Native.Nat.{ℕ, ◌+◌}
-use mathlib.Core.Path.{◌≡◌}
-use mathlib.Core.Bool.{Bool, true}
+use mathlib.Core.Path.{◌≡◌, refl, ◌∙◌}
+use mathlib.Core.Bool.{Bool, true, false}
 use mathlib.Core.List.{List}
 use lib.Dec.{eqb}
 use lib.IntN.{ℤ, pos}
@@ -12,12 +13,13 @@ use Rattle.book_words.specs.Read.{Word}
 
 -- ---- what the reading functions find
 
-pub limit_set : (set : Bool) (k : ℕ) → set ≡ true → Some k ≡ limit_of set k
-limit_set set k e = rw e
+some_is : (set : Bool) (k : ℕ) → then_some set k ≡ limit_of set k
+some_is true k = refl
+some_is false k = refl
 
 module _ (b : List ℕ) (k n f : ℕ) (r : Option ℕ) where
-  pub limit_read : Word b k n → f ≡ four_at b (1 + k) → r ≡ limit_of (eqb n 1) f → r ≡ limit_at b k
-  limit_read w e q = rw (← w.value, ← e) q
+  pub limit_read : Word b k n → f ≡ four_at b (1 + k) → r ≡ then_some (eqb n 1) f → r ≡ limit_at b k
+  limit_read w e q = rw (← w.value, ← e) (q ∙ some_is (eqb n 1) f)
 
 module _ (b : List ℕ) (n size last food : ℕ) (g : ℤ) (lead ticks : Option ℕ) where
   pub setting_read : Word b 1 n → g ≡ pos (word b 2) → Word b 3 size → Word b 4 last → lead ≡ limit_at b 5 → Word b 10 food → ticks ≡ limit_at b 11

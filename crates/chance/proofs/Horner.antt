@@ -165,8 +165,8 @@ module _ (l : List ℕ) (area free : ℕ) (start : List ℕ) where
         record { answer = rw e (ap Ok (sym (rank_done (unmarked b area) l j r h) ∙ v.rest)) }
 
     module _ (h : j < length l) where
-      refused : member (get_or l j 0) (unmarked b area) ≡ false → (x : Refusal) → x ≡ Refusal.List → Ranked (unmarked start area) l (Err x)
-      refused m x q = let e = sym v.turn ∙ turn_fails (unmarked b area) l j h m in record { answer = rw e (ap Err q) }
+      refused : member (get_or l j 0) (unmarked b area) ≡ false → Ranked (unmarked start area) l (Err Refusal.List)
+      refused m = let e = sym v.turn ∙ turn_fails (unmarked b area) l j h m in record { answer = rw e refl }
 
       fits : Rankable l area free start → (p : ℕ) → p < free - j → r * (free - j) + p < 2 ^ 64
       fits q p k = rank_fits free j (length l) r p v.below k h q.few q.fits
@@ -176,11 +176,11 @@ module _ (l : List ℕ) (area free : ℕ) (start : List ℕ) where
 
       -- the cell that stands next
       module _ (c : ℕ) (z : c ≡ get_or l j 0) where
-        pub ranked_off : area ≤ c → (x : Refusal) → x ≡ Refusal.List → Ranked (unmarked start area) l (Err x)
+        pub ranked_off : area ≤ c → Ranked (unmarked start area) l (Err Refusal.List)
         ranked_off g = refused (rw (← z) (off_area b area c g))
 
         module _ (t : Bool) (m : t ≡ marked b c) where
-          pub ranked_taken : t ≡ true → (x : Refusal) → x ≡ Refusal.List → Ranked (unmarked start area) l (Err x)
+          pub ranked_taken : t ≡ true → Ranked (unmarked start area) l (Err Refusal.List)
           ranked_taken y = refused (rw (← z) (taken_square b area c (sym m ∙ y)))
 
           module _ (y : t ≡ false) (g : c < area) where

@@ -7,7 +7,7 @@ ghost use Rattle.rules.specs.Chance.{drawn_from};
 ghost use Rattle.rules.specs.Promises.{Draws};
 ghost use Rattle.strips.specs.Marks.{unmarked, Open};
 ghost use Rattle.chance.specs.Next.{next_words, Growing};
-ghost use Rattle.chance.specs.Answers.{draw_of, Ready, Answers};
+ghost use Rattle.chance.specs.Answers.{draw_of, Ready, Drew};
 
 use image::{put_all, write_contents};
 use lists::write_at;
@@ -68,9 +68,9 @@ fn draw_into(
     strips: &mut [u64; 16],
     out: &mut [u16],
     list: &mut [u16],
-) -> Result<Drawn, Refusal>
+) -> Drawn
     requires { Ready image.now index found strips.old (length out.old) (length list.old) }
-    ensures { Answers (Ok (draw_of image.now index)) out.old out.new list.old list.new result }
+    ensures { Drew (draw_of image.now index) out.old out.new list.old list.new result }
 {
     let g = image[1] as usize;
     let due = image[2] as usize;
@@ -79,10 +79,10 @@ fn draw_into(
     let left = due_after(due, birth, found.free);
     let stays = birth_after(due, birth, found.free);
     write_next(image, left, stays, &list[0..found.size], out);
-    Ok(Drawn {
+    Drawn {
         words: image.len() + found.size,
         cells: found.size,
-    })
+    }
 }
 
 // Refusals 23, 28, 27, 29; nothing is written before the last of them.
@@ -100,14 +100,12 @@ pub fn draw_due(
     }
     let mut strips = [0u64; 16];
     let found = odds_of(image, &mut strips);
-    if found.count == 0 {
-        return Err(Refusal::Count);
-    }
-    if found.count <= index {
+    let count = found.count.ok_or(Refusal::Count)?;
+    if count <= index {
         return Err(Refusal::Outcome);
     }
     if out.len() < image.len() + found.size || list.len() < found.size {
         return Err(Refusal::Buffer);
     }
-    draw_into(image, index, found, &mut strips, out, list)
+    Ok(draw_into(image, index, found, &mut strips, out, list))
 }

@@ -51,9 +51,7 @@ pub fn rank_due(image: &[u16], list: &[u16]) -> Result<u64, Refusal>
     }
     let mut strips = [0u64; 16];
     let found = odds_of(image, &mut strips);
-    if found.count == 0 {
-        return Err(Refusal::Count);
-    }
+    found.count.ok_or(Refusal::Count)?;
     if list.len() != found.size {
         return Err(Refusal::List);
     }

@@ -1,7 +1,7 @@
 -- The promise of finding a page. Assumes nothing.
 use Rattle.std.specs.Prelude.{ℕ, List, ◌≡◌}
-use Rattle.contents.specs.Calls.{find_says}
 use Rattle.rules.specs.Says.{Says}
+use Rattle.contents.specs.Calls.{find_says}
 use Rattle.contents.specs.declared.Span.{Span}
 
 -- c is the front of a book of n words

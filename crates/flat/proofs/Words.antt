@@ -1,5 +1,5 @@
 -- What is wrong with an image fits a number of 64 bits: a fault's number is 50 to 56, and its word is below 65,536. Assumes nothing.
-use Rattle.std.specs.Prelude.{Ok, Err}
+use Rattle.std.specs.Prelude.{Some, Ok, Err}
 use Prim.Native.Nat.{ℕ, ◌+◌, ◌*◌, ◌-◌, ◌<◌, ◌≤◌}
 use native.Mathlib.Nat.{min-le_left}
 use native.Mathlib.Omega.{arith}
@@ -9,18 +9,19 @@ use mathlib.Core.List.{List}
 use mathlib.Core.Logic.{⊎_elim}
 use lib.Dec.{leb, ltb, eqb}
 use lib.ListN.{length, get_or, take, drop, length-take}
-use borrow.Author.Tests.{ltb-true, leb-true}
+use borrow.Author.Tests.{ltb-true, leb-true, not-true, not-false}
 use Rattle.lists.specs.Choice.{◌if◌else◌}
 use Rattle.lists.specs.Lists.{member, distinct}
 use Rattle.lists.proofs.Tests.{tell, compared, same, other, ordered, less, more, and_left, and_right, every_at, or_second}
-use Rattle.lists.proofs.Lowest.{lowest_le}
+use Rattle.lists.proofs.Lowest.{lowest_le, lowest_holds, none_lower, none_out}
+use Rattle.lists.proofs.Below.{all_true}
 use Rattle.rules.specs.Image.{word, front, snakes_in, side_in, area_in, due_in, birth_in, food_count_in, start_at, start_due, length_at, heading_at, alive_at, body_at, food_start, between, contents_fit, record_fits, starts_fit, cells_fit, well_formed}
 use Rattle.rules.specs.Faults.{first_out, cut_short, contents_out, record_out, start_word, total_word, cell_word, twice_in, food_word}
 use Rattle.rules.specs.Calls.{image_says}
 use Rattle.rules.specs.Promises.{Faulty}
 use Rattle.rules.specs.declared.refusal.Refusal.{Refusal}
 use Rattle.rules.proofs.Faults.{image_given}
-use Rattle.wellformed.specs.Checked.{Adds}
+use Rattle.wellformed.specs.Checked.{Adds, FirstOut}
 use Rattle.wellformed.specs.declared.contents.Layout.{Layout}
 use Rattle.faults.specs.Past.{Counted, InRange, InPlace, OnGrid}
 use Rattle.faults.proofs.Rows.{at_50, at_51, counted, at_record, in_range, at_52, at_53, in_place, at_54, on_grid, at_55, at_56}
@@ -46,6 +47,12 @@ near : (i : ℕ) (a b : Bool) → (6 + 4 * i if a else 7 + 4 * i if b else 8 + 4
 near i true b = omega arith
 near i false true = omega arith
 near i false false = omega arith
+
+-- the lowest that fails is the first: all before it pass
+first_of : (n : ℕ) (fits : ℕ → Bool) → first_out n fits < n → FirstOut n fits (Some (first_out n fits))
+first_of n fits h =
+    let x = first_out n fits in
+    (h, not-true (fits x) (lowest_holds (λ i. not (fits i)) n h), all_true fits x (λ i l. not-false (fits i) (none_lower (λ i. not (fits i)) n i l)))
 
 module _ (w : List ℕ) where
   known : (k : Refusal) (n m : ℕ) → code_of k ≡ n → word_shown k ≡ m → 50 ≤ n → n ≤ 56 → m < 65536 → Faulty w k → Known w
@@ -94,7 +101,7 @@ module _ (w : List ℕ) where
       known (Refusal.OutOfRange (record_out w bad_record)) 51 (record_out w bad_record) refl refl (omega arith) (omega arith)
       (let f = near bad_record (ltb (area_in w) (length_at w bad_record) || (eqb (alive_at w bad_record) 1 && eqb (length_at w bad_record) 0)) (ltb 3 (heading_at w bad_record)) in
       omega (arith, snakes_few k.fits))
-      (at_record w k bad_record refl h (record_out w bad_record) refl (Refusal.OutOfRange (record_out w bad_record)) refl)
+      (at_record w k bad_record (first_of (snakes_in w) (record_fits w) h) (record_out w bad_record) refl (Refusal.OutOfRange (record_out w bad_record)) refl)
 
   abbrev layout : Layout
   layout = record { fits = starts_fit w; food = food_start w }
@@ -154,14 +161,14 @@ module _ (w : List ℕ) where
             k.board.laid.bodies_in twice h,
             k.board.laid.ranged.food_early,
           ))
-          (at_55 w k twice refl h place refl (Refusal.CellTwice place) refl)
+          (at_55 w k twice (first_of (snakes_in w) (λ i. distinct (body_at w i)) h) place refl (Refusal.CellTwice place) refl)
 
       food_known : snakes_in w ≤ twice → Known w
       unfolding food_word
       food_known h =
           known (Refusal.FoodOrder (food_word w)) 56 (food_word w) refl refl (omega arith) (omega arith)
           (omega (arith, lowest_le (λ j. leb (word w j) (word w (j - 1))) (food_start w + 1) (length w - (food_start w + 1)), k.board.laid.ranged.food_early))
-          (at_56 w k twice refl h (food_word w) refl (Refusal.FoodOrder (food_word w)) refl)
+          (at_56 w k (none_out (λ i. distinct (body_at w i)) (snakes_in w) h) (food_word w) refl (Refusal.FoodOrder (food_word w)) refl)
 
       last_known : Known w
       last_known = elim (ordered twice (snakes_in w)) [ less h t ↦ twice_known h | more h t ↦ food_known h ]
@@ -172,7 +179,7 @@ module _ (w : List ℕ) where
       (λ f. let k = all_counted c f in elim (ordered bad_record (snakes_in w)) [
         | less h t ↦ record_known k h
         | more h t ↦
-            let r = in_range w k bad_record refl h in
+            let r = in_range w k (none_out (record_fits w) (snakes_in w) h) in
             ⊎_elim
             (λ s. elim (compared (food_start w + food_count_in w) (length w)) [
               | same e u ↦

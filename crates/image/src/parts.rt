@@ -27,10 +27,7 @@ pub fn body(image: &[u16], snake: usize) -> &[u16]
     ensures words { Parts image.now snake result.now }
     ensures place { result.ref_ptr ≡ word_place image.entry (start_asked image.now snake) }
 {
-    if !well_formed(image) {
-        return &image[0..0];
-    }
-    if image[0] as usize <= snake {
+    if !well_formed(image) || image[0] as usize <= snake {
         return &image[0..0];
     }
     body_of(image, snake)

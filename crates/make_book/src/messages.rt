@@ -1,6 +1,4 @@
 // What is wrong, in one line on standard error. A refusal's line begins with `r` and its number.
-ghost use Rattle.std.specs.Prelude.{◌≤◌};
-
 use crate::{Fault, Tally};
 
 // Standard error, as `io` numbers it.
@@ -11,34 +9,23 @@ fn say(text: &[u8]) {
 }
 
 // `shown` is what the replay prints for the line, up to its newline.
-fn say_refused(line: usize, shown: &[u8]) {
+fn say_refused(line: u64, shown: &[u8]) {
     say(shown);
     say(b": line ");
-    io::print_decimal(STDERR, line as u64);
+    io::print_decimal(STDERR, line);
     say(b" of the match is refused, so there is no book\n");
 }
 
 // Of a pass that a refused line stopped. Every line before it showed a page.
-pub(crate) fn tell_line(t: Tally, out: &[u8], text: usize)
-    requires { t.pages ≤ 65535 }
-{
-    let fault = t.fault;
-    let Fault::RefusedLine = fault else {
-        return;
-    };
-    if text == 0 {
-        return;
+pub(crate) fn tell_line(t: Tally, out: &[u8], text: usize) {
+    if matches!(t.fault, Some(Fault::RefusedLine)) && 0 < text && text <= out.len() {
+        say_refused(t.pages as u64 + 1, &out[..text - 1]);
     }
-    if out.len() < text {
-        return;
-    }
-    say_refused(t.pages + 1, &out[0..text - 1]);
 }
 
 // Of all other faults.
 pub(crate) fn tell(fault: Fault) {
     match fault {
-        Fault::NoFault => {}
         Fault::RefusedLine => {}
         Fault::NoFile => say(b"standard input is no file, and it is read twice\n"),
         Fault::NotRead => say(b"standard input cannot be read\n"),

@@ -1,65 +1,46 @@
 // A page that a line shows: its words are counted in the first pass and written in the second.
-ghost use Rattle.std.specs.Prelude.{◌≡◌, ◌≤◌, length};
+ghost use Rattle.std.specs.Prelude.{◌<◌, ◌≤◌, length};
 
-use crate::words::{put_words, wide};
+use crate::words::put_words;
 use crate::{Fault, Tally};
 use stream::Progress;
 
-pub(crate) fn stop(t: Tally, fault: Fault) -> Tally
-    ensures { result.pages ≡ t.pages }
-{
+pub(crate) fn stop(t: Tally, fault: Fault) -> Tally {
     Tally {
-        writes: t.writes,
-        pages: t.pages,
-        on: false,
-        fault,
+        fault: Some(fault),
+        ..t
     }
 }
 
-fn go_on(t: Tally, pages: usize) -> Tally
-    ensures { result.pages ≡ pages }
+fn go_on(t: Tally) -> Tally
+    requires { t.pages < 65535 }
 {
     Tally {
-        writes: t.writes,
-        pages,
-        on: true,
-        fault: Fault::NoFault,
+        pages: t.pages + 1,
+        ..t
     }
 }
 
-fn count_page(t: Tally, words: usize, lengths: &mut [u16; 65535]) -> Tally
-    requires { t.pages ≤ 65535 }
-    ensures { result.pages ≤ 65535 }
-{
-    let k = t.pages;
-    if k == 65535 {
+fn count_page(t: Tally, words: usize, lengths: &mut [u16; 65535]) -> Tally {
+    if t.pages == 65535 {
         return stop(t, Fault::TooMany);
     }
-    lengths[k] = (words % 65536) as u16;
-    go_on(t, k + 1)
+    lengths[t.pages as usize] = (words % 65536) as u16;
+    go_on(t)
 }
 
 // The contents stand written: a page of another length would belie them.
-fn put_page(t: Tally, page: &[u16], lengths: &[u16; 65535], bytes: &mut [u8]) -> Tally
-    requires { t.pages ≤ 65535 }
-    ensures { result.pages ≤ 65535 }
-{
-    let k = t.pages;
-    if k == 65535 {
-        return stop(t, Fault::Changed);
-    }
-    if wide(lengths[k]) != page.len() {
+fn put_page(t: Tally, page: &[u16], lengths: &[u16; 65535], bytes: &mut [u8]) -> Tally {
+    if t.pages == 65535 || lengths[t.pages as usize] as usize != page.len() {
         return stop(t, Fault::Changed);
     }
     if !put_words(page, bytes) {
         return stop(t, Fault::NotWritten);
     }
-    go_on(t, k + 1)
+    go_on(t)
 }
 
-fn refused(t: Tally) -> Tally
-    ensures { result.pages ≡ t.pages }
-{
+fn refused(t: Tally) -> Tally {
     if t.writes {
         return stop(t, Fault::Changed);
     }
@@ -75,8 +56,6 @@ pub(crate) fn see(
     bytes: &mut [u8],
 ) -> Tally
     requires words_in_bounds { r.desk.words ≤ length image.now }
-    requires pages_bound { t.pages ≤ 65535 }
-    ensures { result.pages ≤ 65535 }
 {
     if r.text == 0 {
         return t;
@@ -84,10 +63,8 @@ pub(crate) fn see(
     if !r.on {
         return refused(t);
     }
-    let desk = r.desk;
-    let words = desk.words;
     if t.writes {
-        return put_page(t, &image[0..words], lengths, bytes);
+        return put_page(t, &image[..r.desk.words], lengths, bytes);
     }
-    count_page(t, words, lengths)
+    count_page(t, r.desk.words, lengths)
 }

@@ -1,5 +1,4 @@
 // One pass over standard input, from its front to its end or to the first fault.
-ghost use Rattle.std.specs.Prelude.{◌≤◌};
 ghost use Rattle.stream.specs.Room.{Ready};
 
 use crate::messages::tell_line;
@@ -20,7 +19,7 @@ pub struct Pass {
 #[derive(Clone, Copy)]
 pub struct Passed {
     pub setting: Setting,
-    pub tally: Tally,
+    pub pages: u16,
 }
 
 // All that came, up to the first fault. As in `stream`, the buffers that serve one line are made here.
@@ -32,10 +31,8 @@ fn take_part(
     lengths: &mut [u16; 65535],
     bytes: &mut [u8],
 ) -> Pass
-    requires ready { Ready first.progress line.old image.old }
-    requires pages_bound { first.tally.pages ≤ 65535 }
-    ensures ready_2 { Ready result.progress line.new image.new }
-    ensures pages_bound_2 { result.tally.pages ≤ 65535 }
+    requires { Ready first.progress line.old image.old }
+    ensures { Ready result.progress line.new image.new }
 {
     let mut next = [0u16; 9253];
     let mut list = [0u16; 1024];
@@ -43,7 +40,8 @@ fn take_part(
     let mut r = first.progress;
     let mut t = first.tally;
     r.at = 0;
-    while t.on && r.at < part.len() {
+    // A `while`, since each step says by itself how far it came.
+    while t.fault.is_none() && r.at < part.len() {
         r = stream::take_part(r, part, line, image, &mut next, &mut list, &mut out);
         t = see(t, r, image, lengths, bytes);
     }
@@ -65,26 +63,17 @@ fn read_some<F: Read>(
     bytes: &mut [u8],
 ) -> Pass
     requires ready { Ready p.progress line.old image.old }
-    requires pages_bound { p.tally.pages ≤ 65535 }
     ensures ready_2 { Ready result.progress line.new image.new }
-    ensures pages_bound_2 { result.tally.pages ≤ 65535 }
 {
     let mut part = io::large_buffer();
-    let got = input.read(&mut part);
-    let progress = p.progress;
-    let tally = p.tally;
-    let Ok(n) = got else {
+    let Ok(n) = input.read(&mut part) else {
         return Pass {
-            progress,
-            tally: stop(tally, Fault::NotRead),
+            tally: stop(p.tally, Fault::NotRead),
             more: false,
+            ..p
         };
     };
-    let came = Pass {
-        progress,
-        tally,
-        more: 0 < n,
-    };
+    let came = Pass { more: 0 < n, ..p };
     take_part(came, &part[..n], line, image, lengths, bytes)
 }
 
@@ -97,19 +86,15 @@ fn finish(
     bytes: &mut [u8],
 ) -> Pass
     requires ready { Ready p.progress line.now image.old }
-    requires pages_bound { p.tally.pages ≤ 65535 }
-    ensures { result.tally.pages ≤ 65535 }
 {
-    if !p.tally.on {
+    if p.tally.fault.is_some() {
         return p;
     }
     let mut next = [0u16; 9253];
     let mut list = [0u16; 1024];
     let mut out = [0u8; 512];
-    let r = p.progress;
-    let progress = stream::take_last(r, line, image, &mut next, &mut list, &mut out);
-    let t = p.tally;
-    let tally = see(t, progress, image, lengths, bytes);
+    let progress = stream::take_last(p.progress, line, image, &mut next, &mut list, &mut out);
+    let tally = see(p.tally, progress, image, lengths, bytes);
     tell_line(tally, &out, progress.text);
     Pass {
         progress,
@@ -118,7 +103,7 @@ fn finish(
     }
 }
 
-// As in `replay`, the loop counts its turns down, from a number that no run uses up.
+// As in `replay`, the loop has a number of turns that no run uses up.
 fn walk<F: Read>(
     input: &mut F,
     first: Pass,
@@ -128,45 +113,41 @@ fn walk<F: Read>(
     bytes: &mut [u8],
 ) -> Pass
     requires ready { Ready first.progress line.old image.old }
-    requires pages_bound { first.tally.pages ≤ 65535 }
-    ensures { result.tally.pages ≤ 65535 }
 {
     let mut p = first;
-    let mut turns = u64::MAX;
-    while turns > 0 && p.more && p.tally.on {
+    for _ in 0..u64::MAX {
+        if !p.more || p.tally.fault.is_some() {
+            break;
+        }
         p = read_some(input, p, line, image, lengths, bytes);
-        turns -= 1;
     }
     finish(p, line, image, lengths, bytes)
 }
 
+// The setting of the first line and how many pages came, or what stopped the pass.
 pub(crate) fn go_over<F: Read>(
     input: &mut F,
     writes: bool,
     lengths: &mut [u16; 65535],
     bytes: &mut [u8],
-) -> Passed
-    ensures { result.tally.pages ≤ 65535 }
-{
+) -> Result<Passed, Fault> {
     let mut line = [0u8; 256];
     let mut image = [0u16; 9253];
-    let tally = Tally {
-        writes,
-        pages: 0,
-        on: true,
-        fault: Fault::NoFault,
-    };
-    let progress = stream::start();
     let first = Pass {
-        progress,
-        tally,
+        progress: stream::start(),
+        tally: Tally {
+            writes,
+            pages: 0,
+            fault: None,
+        },
         more: true,
     };
     let last = walk(input, first, &mut line, &mut image, lengths, bytes);
-    let r = last.progress;
-    let desk = r.desk;
-    let game = desk.game;
-    let setting = game.setting;
-    let tally = last.tally;
-    Passed { setting, tally }
+    match last.tally.fault {
+        Some(fault) => Err(fault),
+        None => Ok(Passed {
+            setting: last.progress.desk.game.setting,
+            pages: last.tally.pages,
+        }),
+    }
 }

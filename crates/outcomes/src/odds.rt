@@ -11,12 +11,12 @@ use lists::product;
 use rules::Refusal;
 use strips::{count_open, mark_all};
 
-// The free cells, how many of them a draw takes, and the count of outcomes; 0 for one above 2^64 - 1.
+// The free cells, how many of them a draw takes, and the count of outcomes; none for one above 2^64 - 1.
 #[derive(Clone, Copy)]
 pub struct Odds {
     pub free: usize,
     pub size: usize,
-    pub count: u64,
+    pub count: Option<u64>,
 }
 
 // One cell at birth, else as many as are due; no more than are free.
@@ -57,9 +57,5 @@ pub fn count_due(image: &[u16]) -> Result<u64, Refusal>
         return Err(Refusal::NoneDue);
     }
     let mut strips = [0u64; 16];
-    let found = odds_of(image, &mut strips);
-    if found.count == 0 {
-        return Err(Refusal::Count);
-    }
-    Ok(found.count)
+    odds_of(image, &mut strips).count.ok_or(Refusal::Count)
 }

@@ -18,23 +18,20 @@ pub enum Layer {
 }
 
 fn mark(board: &mut [u8], cell: u16, letter: u8) {
-    let at = cell as usize;
-    if at < board.len() {
-        board[at] = letter;
+    if let Some(square) = board.get_mut(cell as usize) {
+        *square = letter;
     }
 }
 
 fn mark_all(board: &mut [u8], cells: &[u16], letter: u8) {
-    let mut i = 0;
-    while i < cells.len() {
-        mark(board, cells[i], letter);
-        i += 1;
+    for cell in cells {
+        mark(board, *cell, letter);
     }
 }
 
 fn mark_first(board: &mut [u8], cells: &[u16], letter: u8) {
-    if 0 < cells.len() {
-        mark(board, cells[0], letter);
+    if let Some(cell) = cells.first() {
+        mark(board, *cell, letter);
     }
 }
 
@@ -71,31 +68,25 @@ fn mark_snake(board: &mut [u8], image: &[u16], i: usize, layer: Layer)
 
 // The highest number first, so that the lowest is seen.
 fn mark_layer(board: &mut [u8], image: &[u16], layer: Layer) {
-    let mut i = 8;
-    while 0 < i {
-        i -= 1;
+    for i in (0..8).rev() {
         mark_snake(board, image, i, layer);
     }
 }
 
-fn put_row(board: &[u8], at: usize, g: usize) -> bool
-    requires { at + g ≤ length board.now }
-{
-    let row = io::write_all(STDOUT, &board[at..at + g]);
-    let end = io::write_all(STDOUT, b"\n");
-    row & end
+fn put_row(row: &[u8]) -> bool {
+    io::write_all(STDOUT, row) & io::write_all(STDOUT, b"\n")
 }
 
+// All rows are written, even where one could not be.
 fn put_rows(board: &[u8], g: usize) -> bool
     requires { (g ≤ 32) × (1024 ≤ length board.now) }
 {
     let mut heard = true;
-    let mut at = 0;
-    let mut row = 0;
-    while row < g {
-        heard = heard & put_row(board, at, g);
-        at += g;
-        row += 1;
+    let mut rest = board;
+    for _row in 0..g {
+        let (row, below) = rest.split_at(g);
+        heard &= put_row(row);
+        rest = below;
     }
     heard
 }
@@ -106,6 +97,6 @@ pub fn put_board(image: &[u16]) -> bool {
     mark_layer(&mut board, image, Layer::Corpses);
     mark_layer(&mut board, image, Layer::Bodies);
     mark_layer(&mut board, image, Layer::Heads);
-    let g = lists::smaller(word_at(image, 1) as usize, 32);
+    let g = (word_at(image, 1) as usize).min(32);
     put_rows(&board, g)
 }

@@ -3,36 +3,22 @@
 ghost use Rattle.std.specs.Prelude.{◌+◌, ◌*◌, ◌≤◌, length};
 
 use crate::pages::food_in;
+use arrayvec::ArrayVec;
 use layout::heading_at;
 use lists::word_at;
 use printing::{put, put_item};
 
 // ---- a draw
 
-fn add_if(new: bool, list: &mut [u16], k: usize, cell: u16) -> usize
-    requires { k ≤ length list.old }
-    ensures { result ≤ length list.old }
-{
-    if !new {
-        return k;
+// The food that was not there before, as much of it as the list holds.
+fn new_food(old: &[u16], food: &[u16]) -> ArrayVec<u16, 1024> {
+    let mut list = ArrayVec::new();
+    for cell in food {
+        if !old.contains(cell) && !list.is_full() {
+            list.push(*cell);
+        }
     }
-    if list.len() <= k {
-        return k;
-    }
-    list[k] = cell;
-    k + 1
-}
-
-fn new_food(old: &[u16], food: &[u16], list: &mut [u16]) -> usize
-    ensures { result ≤ length list.old }
-{
-    let mut k = 0;
-    let mut i = 0;
-    while i < food.len() {
-        k = add_if(!lists::holds(old, food[i]), list, k, food[i]);
-        i += 1;
-    }
-    k
+    list
 }
 
 // Empty where no index draws that food.
@@ -40,14 +26,14 @@ fn put_draw(line: &mut [u8], past: &[u16], image: &[u16]) -> usize
     requires { 32 ≤ length line.old }
     ensures { result ≤ 32 }
 {
-    let mut list = [0u16; 1024];
-    let k = new_food(food_in(past), food_in(image), &mut list);
-    let rank = arena::rank(past, &list[0..k]);
-    let Ok(index) = rank else {
-        return 0;
-    };
-    let at = put(line, 0, b'd');
-    put_item(line, at, b' ', index)
+    let list = new_food(food_in(past), food_in(image));
+    match arena::rank(past, &list) {
+        Ok(index) => {
+            let at = put(line, 0, b'd');
+            put_item(line, at, b' ', index)
+        }
+        Err(_) => 0,
+    }
 }
 
 // ---- a move
@@ -71,12 +57,14 @@ fn put_move(line: &mut [u8], past: &[u16], image: &[u16], n: usize) -> usize
     ensures { result ≤ 32 }
 {
     let mut at = put(line, 0, b'm');
-    let mut i = 0;
-    while i < n {
+    for i in 0..n {
         let k = heading_at(i);
-        let j = put(line, at, b' ');
-        at = put(line, j, action_between(word_at(past, k), word_at(image, k)));
-        i += 1;
+        at = put(line, at, b' ');
+        at = put(
+            line,
+            at,
+            action_between(word_at(past, k), word_at(image, k)),
+        );
     }
     at
 }
@@ -88,6 +76,6 @@ pub fn put_entry(line: &mut [u8], past: &[u16], image: &[u16]) -> usize
     if word_at(past, 2) != 0 {
         return put_draw(line, past, image);
     }
-    let n = lists::smaller(word_at(image, 0) as usize, 8);
+    let n = (word_at(image, 0) as usize).min(8);
     put_move(line, past, image, n)
 }

@@ -9,6 +9,6 @@ mod pages;
 
 pub use board::put_board;
 pub use entry::put_entry;
-pub use file::{Size, file_size, read_words};
+pub use file::read_words;
 pub use moves::moves_to;
-pub use pages::{Loaded, load};
+pub use pages::{NotLoaded, load};

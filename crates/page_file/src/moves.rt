@@ -1,5 +1,4 @@
 // How many moves lead to a page: a draw follows a page with food due, a move any other.
-ghost use Rattle.std.specs.Prelude.{◌+◌, ◌<◌, ◌≤◌};
 
 use crate::file::word_in;
 use std::io::{Read, Seek};
@@ -16,22 +15,12 @@ fn is_due<F: Read + Seek>(file: &mut F, contents: &[u16], page: u64) -> bool {
     word_in(file, contents::pair(contents, 17 + 2 * i) + 2) != 0
 }
 
-fn count_on(k: u64, due: bool) -> u64
-    requires { k < 18446744073709551615 }
-    ensures { result ≤ k + 1 }
-{
-    if due {
-        return k;
-    }
-    k + 1
-}
-
 pub fn moves_to<F: Read + Seek>(file: &mut F, contents: &[u16], page: u64) -> u64 {
-    let mut k = 0;
-    let mut i = 0;
-    while i < page {
-        k = count_on(k, is_due(file, contents, i));
-        i += 1;
+    let mut moves = 0;
+    for before in 0..page {
+        if !is_due(file, contents, before) {
+            moves += 1;
+        }
     }
-    k
+    moves
 }

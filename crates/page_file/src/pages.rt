@@ -1,50 +1,27 @@
 // A page of the book, found by its contents and read from the file.
-ghost use Rattle.std.specs.Prelude.{◌≡◌, ◌≤◌, length};
+ghost use Rattle.std.specs.Prelude.{◌≤◌, length, IfOk};
 
 use crate::file::read_words;
-use contents::PageFound;
-use lists::smaller;
-use rules::{Refusal};
+use rules::Refusal;
 use std::io::{Read, Seek};
 
-// Whether the file could be read; why the page is refused, or the number 0 and how many words its image has.
+// Why a page is not loaded: the file cannot be read there, or the page is refused.
 #[derive(Clone, Copy)]
-pub struct Loaded {
-    pub read: bool,
-    pub why: Refusal,
-    pub len: usize,
+pub enum NotLoaded {
+    NotRead,
+    Refused(Refusal),
 }
 
-fn refused(why: Refusal) -> Loaded
-    ensures { result.len ≡ 0 }
-{
-    Loaded {
-        read: true,
-        why,
-        len: 0,
-    }
-}
-
-fn why_not_found(found: Result<Span, Refusal>) -> Refusal {
-    match found {
-        Ok(Span { start: _, len: _ } => Refusal::NONE,
-        Err(k) => k,
-    }
-}
-
-// 50 to 56, 21, or 0. Contents in which a page was found have a setting.
-fn why_not(contents: &[u16], image: &[u16]) -> Refusal {
+// 50 to 56, 21, or accepted. Contents in which a page was found have a setting.
+fn check(contents: &[u16], image: &[u16]) -> Result<(), Refusal> {
     if contents.len() < 17 {
-        return Refusal::Contents;
+        return Err(Refusal::Contents);
     }
-    let verdict = book::check_page(contents::setting_in(contents), image);
-    match verdict {
-        Ok(()) => Refusal::NONE,
-        Err(k) => k,
-    }
+    book::check_page(contents::setting_in(contents), image)
 }
 
-// The page's image, at the front of a lent buffer that holds any and a word more: what is wrong with a longer part shows in so many words.
+// How many words the page's image has, at the front of a lent buffer that holds any and a word more: what is wrong with a longer part shows in so many
+// words.
 pub fn load<F: Read + Seek>(
     file: &mut F,
     contents: &[u16],
@@ -52,30 +29,16 @@ pub fn load<F: Read + Seek>(
     page: u64,
     image: &mut [u16],
     bytes: &mut [u8],
-) -> Loaded
-    ensures { result.len ≤ length image.new }
+) -> Result<usize, NotLoaded>
+    ensures { IfOk result (λ n. n ≤ length image.new) }
 {
-    let found = contents::find(contents, words, page);
-    let Ok(Span { start, len } = found else {
-        return refused(why_not_found(found));
-    };
-    let held = smaller(len, image.len());
-    if !read_words(file, start, &mut image[0..held], bytes) {
-        return Loaded {
-            read: false,
-            why: Refusal::NONE,
-            len: 0,
-        };
+    let found = contents::find(contents, words, page).map_err(NotLoaded::Refused)?;
+    let held = found.len.min(image.len());
+    if read_words(file, found.start, &mut image[..held], bytes).is_err() {
+        return Err(NotLoaded::NotRead);
     }
-    let why = why_not(contents, &image[0..held]);
-    if why.number != 0 {
-        return refused(why);
-    }
-    Loaded {
-        read: true,
-        why,
-        len: held,
-    }
+    check(contents, &image[..held]).map_err(NotLoaded::Refused)?;
+    Ok(held)
 }
 
 // The food of an image; empty where it is none.

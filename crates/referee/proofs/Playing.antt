@@ -1,7 +1,6 @@
 -- From what a call of the arena promises to what a line of the match does. Assumes nothing.
 use Rattle.std.specs.Prelude.{Ok, Err}
-use Prim.Native.Nat.{ℕ, ◌-◌, ◌≤◌}
-use native.Mathlib.Nat.{sub-zero}
+use Prim.Native.Nat.{ℕ, ◌≤◌}
 use native.Mathlib.Omega.{arith}
 use mathlib.Core.Path.{◌≡◌, refl, sym, ap, ◌∙◌}
 use mathlib.Core.Bool.{Bool, true, false, true≢false, false≢true}
@@ -41,22 +40,23 @@ over_same : (s d : List ℕ) → length s ≤ length d → length (over_front s 
 unfolding over_front
 over_same s d h = omega (arith, length-append s (drop (length s) d), length-drop (length s) d)
 
--- a call that answered n words: what it gave, and where that stands
-module _ {A : Type 0} (g : A → State) (old new : List ℕ) (n : ℕ) where
-  pub data Ok (x : Says A) : Type 0 where
-    done : (a : A) → x ≡ Ok a → n ≡ length (image_of (g a)) → new ≡ over_front (image_of (g a)) old → take (n - 0) new ≡ image_of (g a) → n ≤ length new → Ok x
+-- a call that answered b, with n words: what it gave, and where that stands
+module _ {A B : Type 0} (g : A → State) (h : A → B) (old new : List ℕ) (b : B) where
+  pub data Done (n : ℕ) (x : Says A) : Type 0 where
+    done : (a : A) → x ≡ Ok a → b ≡ h a → n ≡ length (image_of (g a)) → new ≡ over_front (image_of (g a)) old → take n new ≡ image_of (g a) → n ≤ length new → Done n x
 
-  pub done_by : (x : Says A) → Ok n ≡ seen (λ a. length (image_of (g a))) x → new ≡ lent (λ a. image_of (g a)) old x → Ok x
-  done_by (Err k) e w = let z : ◌≡◌ {A = ℕ} 0 1 = cc in absurd (omega arith)
-  done_by (Ok a) e w =
-      let p : n ≡ length (image_of (g a)) = cc in
-      let f : take (n - 0) new ≡ image_of (g a) = rw (sub-zero, p, w) (over_take (image_of (g a)) old) in
-      let l : n ≤ length new = rw (p, w) (over_long (image_of (g a)) old) in
-      done a refl p w f l
+  pub done_by : (words : B → ℕ) → ((a : A) → words (h a) ≡ length (image_of (g a))) → (x : Says A) → Ok b ≡ seen h x → new ≡ lent (λ a. image_of (g a)) old x → Done (words b) x
+  done_by words counts (Err k) e w = let z : ◌≡◌ {A = ℕ} 0 1 = cc in absurd (omega arith)
+  done_by words counts (Ok a) e w =
+      let v : b ≡ h a = cc in
+      let p : words b ≡ length (image_of (g a)) = ap words v ∙ counts a in
+      let f : take (words b) new ≡ image_of (g a) = rw (p, w) (over_take (image_of (g a)) old) in
+      let l : words b ≤ length new = rw (p, w) (over_long (image_of (g a)) old) in
+      done a refl v p w f l
 
 -- a refusal of the call is a refusal of the line
 pub stopped : {A : Type 0} (f : A → Turn) (x : Says A) (m : Match) (old new out exit : List ℕ) (r : Turned) (k : Refusal)
-    → x ≡ Err k → new ≡ lent (λ a. image_of (f a).next) old x → Stops m code_of k out exit r → Plays (seen f x) m old new out exit r
+    → x ≡ Err k → new ≡ lent (λ a. image_of (f a).next) old x → Stops m (code_of k) out exit r → Plays (seen f x) m old new out exit r
 stopped f (Err j) m old new out exit r k e w s =
     let p : j ≡ k = cc in
     record { more = s.more; game = s.game; words = s.words; image = w; long = ap length w; text = rw p s.text }
@@ -99,7 +99,7 @@ shown_move m o old new out exit r w i n c b over es p q s =
     shown (moved_turn m o) m old new out exit r 109 t w (events_shown m t w v) i (ap (line_text 109 t o.next) g) n b a
 
 -- a line that is refused before any call
-pub refused_line : (m : Match) (k : Refusal) (old out exit : List ℕ) (r : Turned) → Stops m code_of k out exit r → Plays (Err k) m old old out exit r
+pub refused_line : (m : Match) (k : Refusal) (old out exit : List ℕ) (r : Turned) → Stops m (code_of k) out exit r → Plays (Err k) m old old out exit r
 refused_line m k old out exit r s = record { more = s.more; game = s.game; words = s.words; image = refl; long = refl; text = s.text }
 
 -- '33 comes before 32'
@@ -120,11 +120,11 @@ stays (Err k) m b old new out exit r p e = record { more = p.more; game = p.game
 stays (Ok t) m b old new out exit r p e = absurd (true≢false (sym p.more ∙ e))
 
 pub moves_on : (x : Says Turn) (m : Match) (b old new out exit : List ℕ) (r : Turned) → Plays x m old new out exit r → r.more ≡ true → length old ≤ length b
-    → Plays x m b (write_at b 0 (take (r.words - 0) new)) out exit r
+    → Plays x m b (write_at b 0 (take r.words new)) out exit r
 moves_on (Err k) m b old new out exit r p e h = absurd (false≢true (sym p.more ∙ e))
 moves_on (Ok t) m b old new out exit r p e h =
-    let f : take (r.words - 0) new ≡ image_of t.next = rw (sub-zero, p.words, p.image) (over_take (image_of t.next) old) in
-    let w : write_at b 0 (take (r.words - 0) new) ≡ over_front (image_of t.next) b = ap (write_at b 0) f ∙ write_front b (image_of t.next) in
+    let f : take r.words new ≡ image_of t.next = rw (p.words, p.image) (over_take (image_of t.next) old) in
+    let w : write_at b 0 (take r.words new) ≡ over_front (image_of t.next) b = ap (write_at b 0) f ∙ write_front b (image_of t.next) in
     let l : length (image_of t.next) ≤ length b = omega (arith, p.long, ap length p.image, over_long (image_of t.next) old) in
     record { more = p.more; game = p.game; words = p.words; image = w; long = ap length w ∙ over_same (image_of t.next) b l; text = p.text }
 

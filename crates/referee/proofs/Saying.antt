@@ -31,8 +31,8 @@ use Rattle.rules.specs.declared.refusal.Refusal.TheVariants as Refusal
 
 -- ---- an answer seen through f
 
-module _ {A : Type 0} where
-  pub refused_by : (x : Says A) (f : A → ℕ) (k : Refusal) → Err k ≡ seen f x → x ≡ Err k
+module _ {A B : Type 0} where
+  pub refused_by : (x : Says A) (f : A → B) (k : Refusal) → Err k ≡ seen f x → x ≡ Err k
   refused_by (Err j) f k e = let p : j ≡ k = cc in ap Err p
   refused_by (Ok a) f k e = let z : ◌≡◌ {A = ℕ} 0 1 = cc in absurd (omega arith)
 

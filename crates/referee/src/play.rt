@@ -22,10 +22,9 @@ pub fn new_desk() -> Desk
         initial_food_count: 0,
         max_ticks: None,
     };
-    let game = new_match(setting);
     Desk {
         begun: false,
-        game,
+        game: new_match(setting),
         words: 0,
     }
 }
@@ -41,11 +40,10 @@ fn ask(
     requires { 462 ≤ length out.old }
     ensures { Plays (line_says d image.now line.now (length next.old) (length list.old)) d.game next.old next.new out.old out.new result }
 {
-    let m = d.game;
     if d.begun {
-        return turn(m, image, line, next, list, out);
+        return turn(d.game, image, line, next, list, out);
     }
-    begin(m, line, next, out)
+    begin(d.game, line, next, out)
 }
 
 // A line, with the image of the desk at the front of `image`.
@@ -60,13 +58,11 @@ pub fn take_line(
     requires { (d.words ≤ length image.old) × (length next.old ≤ length image.old) × (462 ≤ length out.old) }
     ensures { Plays (line_says d (take d.words image.old) line.now (length next.old) (length list.old)) d.game image.old image.new out.old out.new result }
 {
-    let words = d.words;
-    let t = ask(d, &image[0..words], next, list, line, out);
+    let t = ask(d, &image[..d.words], next, list, line, out);
     if !t.more {
         return t;
     }
-    let made = t.words;
-    lists::write_at(image, 0, &next[0..made]);
+    lists::write_at(image, 0, &next[..t.words]);
     t
 }
 
@@ -76,8 +72,7 @@ pub fn close(d: Desk, out: &mut [u8]) -> usize
     ensures { Wrote out.old out.new 0 result (close_text d) 170 }
 {
     if d.begun {
-        let m = d.game;
-        return put_end(out, m);
+        return put_end(out, d.game);
     }
     put_refusal(out, 32)
 }

@@ -57,18 +57,17 @@ fn open(m: Match, setting: Setting, next: &mut [u16], out: &mut [u8]) -> Turned
     requires { 462 ≤ length out.old }
     ensures { Plays (seen (opened setting) (initial_says setting (length next.old))) m next.old next.new out.old out.new result }
 {
-    let words = match arena::initial_state(setting, next) {
-        Ok(words) => words,
-        Err(why) => return stop(m, out, why),
-    };
-    show(
-        new_match(setting),
-        b'i',
-        false,
-        &next[0..words],
-        no_events(),
-        out,
-    )
+    match arena::initial_state(setting, next) {
+        Ok(words) => show(
+            new_match(setting),
+            b'i',
+            false,
+            &next[..words],
+            no_events(),
+            out,
+        ),
+        Err(why) => stop(m, out, why),
+    }
 }
 
 fn play_draw(

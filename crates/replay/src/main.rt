@@ -18,13 +18,10 @@ pub struct Reading {
 fn read(mut stdin: Stdin, part: &mut [u8]) -> usize
     ensures { result ≤ length part.new }
 {
-    match stdin.read(part) {
-        Ok(n) => n,
-        Err(_) => 0,
-    }
+    stdin.read(part).unwrap_or(0)
 }
 
-// What one read brought.
+// What one read brought. No more comes after the end of the input, after a line that stops the replay, and where a text could not be written.
 fn read_some(stdin: Stdin, r: Progress, line: &mut [u8], image: &mut [u16]) -> Reading
     requires { Ready r line.old image.old }
     ensures { Ready result.progress line.new image.new }
@@ -38,32 +35,31 @@ fn read_some(stdin: Stdin, r: Progress, line: &mut [u8], image: &mut [u16]) -> R
         };
     }
     let progress = stream::take_all(r, &part[..n], line, image);
-    let heard = progress.heard;
     Reading {
         progress,
-        more: heard,
+        more: progress.on && progress.heard,
     }
 }
 
-// A proved loop has to end, and nothing says that the input does: the loop counts its turns down, from a number that no run uses up.
+// A proved loop has to end, and nothing says that the input does: the loop has a number of turns that no run uses up.
 fn replay(stdin: Stdin, first: Progress, line: &mut [u8], image: &mut [u16])
     requires { Ready first line.old image.old }
 {
-    let mut r = first;
-    let mut more = true;
-    let mut turns = u64::MAX;
-    while turns > 0 && r.on && more {
-        let q = read_some(stdin, r, line, image);
-        r = q.progress;
-        more = q.more;
-        turns -= 1;
+    let mut reading = Reading {
+        progress: first,
+        more: first.on,
+    };
+    for _ in 0..u64::MAX {
+        if !reading.more {
+            break;
+        }
+        reading = read_some(stdin, reading.progress, line, image);
     }
-    stream::finish(r, line, image);
+    stream::finish(reading.progress, line, image);
 }
 
 fn main(rt: HostRuntime) {
     let mut line = [0u8; 256];
     let mut image = [0u16; 9253];
-    let first = stream::start();
-    replay(rt.stdin(), first, &mut line, &mut image);
+    replay(rt.stdin(), stream::start(), &mut line, &mut image);
 }

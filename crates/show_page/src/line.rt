@@ -17,16 +17,16 @@ pub struct Shown {
 }
 
 fn print(out: &[u8], n: usize) -> bool {
-    if out.len() < n {
-        return false;
+    match out.get(..n) {
+        Some(line) => io::write_all(STDOUT, line),
+        None => false,
     }
-    io::write_all(STDOUT, &out[0..n])
 }
 
 // A line without events.
 fn put_still(letter: u8, image: &[u16]) -> bool {
     let mut out = [0u8; 512];
-    let n = lists::smaller(word_at(image, 0) as usize, 8);
+    let n = (word_at(image, 0) as usize).min(8);
     let k = standing::put_line(&mut out, letter, false, image, no_events(), n);
     print(&out, k)
 }
@@ -41,34 +41,14 @@ fn put_unknown(image: &[u16]) -> Shown {
 
 // ---- what leads to the page: the start, or a line of the match after the page before
 
-fn are_same(a: &[u16], b: &[u16]) -> bool {
-    if a.len() != b.len() {
-        return false;
-    }
-    let mut same = true;
-    let mut i = 0;
-    while i < a.len() {
-        same = same & (a[i] == b[i]);
-        i += 1;
-    }
-    same
-}
-
 fn put_start(setting: Setting, image: &[u16]) -> Shown {
     let mut start = [0u16; 9253];
-    let answer = arena::initial_state(setting, &mut start);
-    let Ok(words) = answer else {
-        return put_unknown(image);
-    };
-    if 9253 < words {
-        return put_unknown(image);
-    }
-    if !are_same(&start[0..words], image) {
-        return put_unknown(image);
-    }
-    Shown {
-        known: true,
-        heard: put_still(b'i', image),
+    match arena::initial_state(setting, &mut start) {
+        Ok(words) if start.get(..words) == Some(image) => Shown {
+            known: true,
+            heard: put_still(b'i', image),
+        },
+        _ => put_unknown(image),
     }
 }
 
@@ -80,7 +60,7 @@ fn put_turn(setting: Setting, moves: u64, past: &mut [u16], len: usize, image: &
     let mut next = [0u16; 9253];
     let mut list = [0u16; 1024];
     let mut out = [0u8; 512];
-    let k = put_entry(&mut line, &past[0..len], image);
+    let k = put_entry(&mut line, &past[..len], image);
     let mut game = standing::new_match(setting);
     game.moves = moves;
     let desk = Desk {
@@ -88,12 +68,8 @@ fn put_turn(setting: Setting, moves: u64, past: &mut [u16], len: usize, image: &
         game,
         words: len,
     };
-    let t = referee::take_line(desk, past, &mut next, &mut list, &line[0..k], &mut out);
-    let made = t.words;
-    if !t.more || past.len() < made {
-        return put_unknown(image);
-    }
-    if !are_same(&past[0..made], image) {
+    let t = referee::take_line(desk, past, &mut next, &mut list, &line[..k], &mut out);
+    if !t.more || past.get(..t.words) != Some(image) {
         return put_unknown(image);
     }
     Shown {
@@ -113,18 +89,16 @@ fn put_next<F: Read + Seek>(
     bytes: &mut [u8],
 ) -> Shown {
     let mut past = [0u16; 9254];
-    let before = load(file, contents, words, page, &mut past, bytes);
-    let why = before.why;
-    if !before.read || why.number != 0 {
-        return put_unknown(image);
+    match load(file, contents, words, page, &mut past, bytes) {
+        Ok(len) => put_turn(
+            setting,
+            moves_to(file, contents, page),
+            &mut past,
+            len,
+            image,
+        ),
+        Err(_) => put_unknown(image),
     }
-    put_turn(
-        setting,
-        moves_to(file, contents, page),
-        &mut past,
-        before.len,
-        image,
-    )
 }
 
 pub(crate) fn put_state<F: Read + Seek>(

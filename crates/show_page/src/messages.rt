@@ -13,10 +13,7 @@ const STDERR: i32 = 2;
 
 // Pages are numbered from 0.
 fn last_of(pages: u64) -> u64 {
-    if pages == 0 {
-        return 0;
-    }
-    pages - 1
+    pages.saturating_sub(1)
 }
 
 // ---- on standard output
@@ -94,58 +91,46 @@ fn say_page(front: &[u8], page: u64, back: &[u8]) {
     say(back);
 }
 
-fn say_fault(number: u8) {
-    match number {
-        50 => say(b": words are missing from its contents\n"),
-        51 => say(b": a content word is out of range\n"),
-        52 => say(b": a start is out of line\n"),
-        53 => say(b": its total length is wrong\n"),
-        54 => say(b": a cell is beyond the grid\n"),
-        55 => say(b": a cell stands twice in a body\n"),
-        _ => say(b": its food is not ascending\n"),
-    }
-}
-
-fn say_damaged(why: Refusal, page: u64) {
+// A refusal that shows a word of the page.
+fn say_damaged(why: Refusal, page: u64, fault: &[u8]) {
     say(b"r ");
-    say_number(why.number as u64);
+    say_number(why.number() as u64);
     say(b" ");
-    say_number(why.word as u64);
+    say_number(why.word() as u64);
     say(b": page ");
     say_number(page);
     say(b" is damaged at its word ");
-    say_number(why.word as u64);
-    say_fault(why.number);
+    say_number(why.word() as u64);
+    say(fault);
 }
 
-pub(crate) fn tell_refused(why: Refusal, page: u64, contents: &[u16]) {
-    let number = why.number;
-    if number == 40 {
-        say(b"r 40: this is no match book, or its contents are damaged\n");
-        return;
+fn tell_refused(why: Refusal, page: u64, pages: u64) {
+    match why {
+        Refusal::Contents => say(b"r 40: this is no match book, or its contents are damaged\n"),
+        Refusal::Page => say_pages(pages),
+        Refusal::CutShort(_) => {
+            say_damaged(why, page, b": words are missing from its contents\n")
+        }
+        Refusal::OutOfRange(_) => { say_damaged(why, page, b": a content word is out of range\n") }
+        Refusal::Start(_) => say_damaged(why, page, b": a start is out of line\n"),
+        Refusal::Total(_) => say_damaged(why, page, b": its total length is wrong\n"),
+        Refusal::CellBeyond(_) => say_damaged(why, page, b": a cell is beyond the grid\n"),
+        Refusal::CellTwice(_) => say_damaged(why, page, b": a cell stands twice in a body\n"),
+        Refusal::FoodOrder(_) => say_damaged(why, page, b": its food is not ascending\n"),
+        _ => say_page(
+            b"r 21: page ",
+            page,
+            b" has other snakes or another grid than its book\n",
+        ),
     }
-    if number == 41 {
-        say_pages(word_at(contents, 16));
-        return;
-    }
-    if 50 <= number {
-        say_damaged(why, page);
-        return;
-    }
-    say_page(
-        b"r 21: page ",
-        page,
-        b" has other snakes or another grid than its book\n",
-    );
 }
 
 pub(crate) fn tell(fault: Fault) {
     match fault {
-        Fault::NoFault => {}
-        Fault::Refused => {}
         Fault::NoPage => say(b"name one page by its number, counted from 0\n"),
         Fault::NoFile => say(b"standard input is no file\n"),
         Fault::OddFile => say(b"the file has an odd number of bytes: it is no match book\n"),
+        Fault::Refused { why, page, pages } => tell_refused(why, page, pages),
         Fault::NotRead => say(b"standard input cannot be read\n"),
         Fault::NotWritten => say(b"the page could not be written whole\n"),
     }

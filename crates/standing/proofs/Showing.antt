@@ -1,5 +1,4 @@
 -- What the words of an image show: a snake's part of a line, the events marked; the last line. Assumes nothing.
-use Rattle.std.specs.Prelude.{Ok}
 use Prim.Native.Nat.{ℕ, ◌+◌, ◌*◌, ◌≤◌, ◌<◌}
 use mathlib.Core.Path.{◌≡◌, ap, ◌∙◌}
 use mathlib.Core.List.{List, [], ◌∷◌}
@@ -34,17 +33,17 @@ snake_shown_lem w i e size k alive l cell pk ps pl pa pc d d₁ d₂ d₃ at j�
 
 -- ---- the events, the first i marked
 
-pub record Ok (w : List ℕ) (es : List Event) (n i : ℕ) (out : List Event) : Type 0 where
+pub record Marked (w : List ℕ) (es : List Event) (n i : ℕ) (out : List Event) : Type 0 where
   pub within : i ≤ n
   pub table : out ≡ filled (mark_shown w es) i 8 blank
 
 module _ (w : List ℕ) (es : List Event) (n : ℕ) where
-  pub marked_none : (out : List Event) → out ≡ replicate 8 blank → Ok w es n 0 out
+  pub marked_none : (out : List Event) → out ≡ replicate 8 blank → Marked w es n 0 out
   marked_none out p = record { within = omega arith; table = p ∙ filled_none (mark_shown w es) 8 blank }
 
-  module _ (i : ℕ) (out : List Event) (m : Ok w es n i out) where
+  module _ (i : ℕ) (out : List Event) (m : Marked w es n i out) where
     pub marked_next : i < length (take n es) → n ≤ 8 → (l alive : ℕ) (e : Event) → l ≡ 8 + 4 * i → alive ≡ get_or w l 0 → e ≡ truncated (get_or (take n es) i blank) (eqb alive 1)
-        → Ok w es n (i + 1) (set out i e)
+        → Marked w es n (i + 1) (set out i e)
     marked_next h k l alive e pl pa pe =
         let lt : i < n = omega (arith, length-take n es) in
         let q : e ≡ mark_shown w es i = pe ∙ rw (get_or-take, pa, pl) in

@@ -14,7 +14,7 @@ use rules::{Event, Setting};
 pub use shown::{put_end, put_line};
 
 // The setting, the moves made, for each snake the move on which it died (0 while it lives) and whether it lost and lives, whether the
-// match is over, and whether max_ticks ended it.
+// match is over, and whether max_ticks ended it. A death is a number with 0 for the living, since the definitions `outlives` and `death_at` count so.
 #[derive(Clone, Copy)]
 pub struct Match {
     pub setting: Setting,

@@ -35,10 +35,7 @@ fn count_on(k: u64) -> u64
 fn has_reached(limit: Option<u64>, k: u64) -> bool
     ensures { result ≡ reached limit k }
 {
-    match limit {
-        None => false,
-        Some(most) => most <= k,
-    }
+    limit.is_some_and(|most| most <= k)
 }
 
 // Whether a move ends the match by max_ticks.

@@ -28,9 +28,8 @@ pub struct Progress {
 pub fn start() -> Progress
     ensures { Fresh result }
 {
-    let desk = referee::new_desk();
     Progress {
-        desk,
+        desk: referee::new_desk(),
         fill: 0,
         at: 0,
         text: 0,
@@ -41,10 +40,7 @@ pub fn start() -> Progress
 
 // After a text that could not be written, none is.
 fn print(heard: bool, out: &[u8], n: usize) -> bool {
-    if !heard || out.len() < n {
-        return false;
-    }
-    io::write_all(STDOUT, &out[0..n])
+    heard && n <= out.len() && io::write_all(STDOUT, &out[..n])
 }
 
 // The line that is held.
@@ -62,13 +58,10 @@ fn take_held(
     ensures takes { Takes r result line.now [] image.old image.new out.new }
     ensures at_value { result.at ≡ at }
 {
-    let d = r.desk;
-    let fill = r.fill;
-    let t = referee::take_line(d, image, next, list, &line[0..fill], out);
-    let game = t.game;
+    let t = referee::take_line(r.desk, image, next, list, &line[..r.fill], out);
     let desk = Desk {
         begun: true,
-        game,
+        game: t.game,
         words: t.words,
     };
     Progress {
@@ -77,7 +70,7 @@ fn take_held(
         at,
         text: t.text,
         on: t.more,
-        heard: r.heard,
+        ..r
     }
 }
 
@@ -97,17 +90,13 @@ pub fn take_part(
     ensures step { Step r result part.now line.old line.new image.old image.new out.new }
     ensures at_lt_at { r.at < result.at }
 {
-    let at = r.at;
-    let end = parsing::line_end(part, at);
-    let fill = parsing::feed(line, r.fill, &part[at..end]);
-    let desk = r.desk;
+    let end = parsing::line_end(part, r.at);
+    let fill = parsing::feed(line, r.fill, &part[r.at..end]);
     let held = Progress {
-        desk,
         fill,
         at: end + 1,
         text: 0,
-        on: r.on,
-        heard: r.heard,
+        ..r
     };
     if end == part.len() {
         return held;
@@ -125,15 +114,12 @@ pub fn take_all(first: Progress, part: &[u8], line: &mut [u8], image: &mut [u16]
     let mut next = [0u16; 9253];
     let mut list = [0u16; 1024];
     let mut out = [0u8; 512];
-    let desk = first.desk;
     let mut r = Progress {
-        desk,
-        fill: first.fill,
         at: 0,
         text: 0,
-        on: first.on,
-        heard: first.heard,
+        ..first
     };
+    // No count of an index: a turn goes on behind the line that it took, and the replay may stop before the end of the part.
     while r.on && r.at < part.len() {
         r = take_part(r, part, line, image, &mut next, &mut list, &mut out);
         r.heard = print(r.heard, &out, r.text);
@@ -154,14 +140,10 @@ pub fn take_last(
     ensures ready { Ready result line.now image.new × Spare next.new list.new out.new }
     ensures last { Last r result line.now image.old image.new out.new }
 {
-    let desk = r.desk;
     let kept = Progress {
-        desk,
-        fill: r.fill,
         at: 0,
         text: 0,
-        on: r.on,
-        heard: r.heard,
+        ..r
     };
     if !r.on {
         return kept;
@@ -179,8 +161,7 @@ fn write_end(r: Progress, out: &mut [u8]) -> usize
     if !r.on {
         return 0;
     }
-    let desk = r.desk;
-    referee::close(desk, out)
+    referee::close(r.desk, out)
 }
 
 // The end of the input: the last line and the placings, each printed. It answers how many bytes the placings have.

@@ -4,12 +4,12 @@ use Rattle.std.specs.Prelude.{Ok, Err}
 use Rattle.std.proofs.Common.{◌≡◌, ℕ, suc, ◌+◌, ◌-◌, ◌<◌, ◌≤◌, min, false, not, ltb, List, ◌++◌, length, drop, pos, negsuc, sym, refl, ap, ◌∙◌, subst, true≢false, arith, le-ltb, lt-ltb, ne_eqb}
 use lib.Ieee.{Float, fin, binary64, mul, of_int, to_unsigned}
 use Rattle.lists.specs.Lists.{any}
-use Rattle.rules.specs.Image.{image_of, state_of}
+use Rattle.rules.specs.Image.{state_of}
 use Rattle.rules.specs.Chance.{outcomes, drawn, after_draw}
 use Rattle.rules.specs.Says.{Says, by_table}
 use Rattle.rules.specs.Faults.{image_rows}
 use Rattle.rules.specs.Orders.{count_order, draw_rows, draw_order}
-use Rattle.rules.specs.Calls.{Draw, count_says, draw_says}
+use Rattle.rules.specs.Calls.{Draw, drawn_of, count_says, draw_says}
 use Rattle.rules.specs.Promises.{Counts, Draws}
 use Rattle.rules.specs.declared.Drawn.{Drawn}
 use Rattle.rules.proofs.Tables.{given_out, given_is, table_seen, table_without, table_listed}
@@ -65,10 +65,10 @@ module _ (c : ℕ) (u : Float) where
 
 module _ (w : List ℕ) (i : ℕ) where
   -- where its row does not hold, no other gives 27
-  below_27 : i < outcomes (state_of w) → (old new list cells : List ℕ) (d : Says Drawn) → Draws w i old new list cells d → d.answer ≡ Err Refusal.Outcome → ⊥
+  below_27 : i < outcomes (state_of w) → (old new list cells : List ℕ) (d : Says Drawn) → Draws w i old new list cells d → d ≡ Err Refusal.Outcome → ⊥
   unfolding draw_says any image_rows
   below_27 h old new list cells d p e =
-      let f : Draw → ℕ = λ x. length (image_of x.next) in
+      let f : Draw → Drawn = λ x. drawn_of x in
       let t = draw_order w i (length old) (length list) in
       let x : Draw = record { next = after_draw (state_of w) i; cells = drawn (state_of w) i } in
       let rest = drop 1 (draw_rows w i (length old) (length list)) in

@@ -30,4 +30,4 @@ pub record Chosen (c : ℕ) (u : Float) (r : Says ℕ) : Type 0 where
 -- index i of image w: below its count, and no draw of it is refused by 27
 pub record NeverAbove (w : List ℕ) (i : ℕ) : Type 0 where
   pub below : i < outcomes (state_of w)
-  pub never_27 : (old new list cells : List ℕ) (d : Says Drawn) → Draws w i old new list cells d → d.answer ≢ Err Refusal.Outcome
+  pub never_27 : (old new list cells : List ℕ) (d : Says Drawn) → Draws w i old new list cells d → d ≢ Err Refusal.Outcome

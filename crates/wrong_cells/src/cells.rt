@@ -1,4 +1,5 @@
-// Faults of the cells: one beyond the grid, one twice in a body, food that does not rise.
+// Faults of the cells: one beyond the grid, one twice in a body, food that does not rise. Words and places are no Option: they are asked for only where
+// there is one, and where there is none `cell_word`, `twice_in` and `food_word` have a value too.
 ghost use Rattle.std.specs.Prelude.{◌≡◌, ◌+◌, ◌<◌};
 ghost use Rattle.lists.specs.Lists.{distinct};
 ghost use Rattle.rules.specs.Image.{snakes_in, start_at, body_at, food_start};

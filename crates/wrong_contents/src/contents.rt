@@ -68,7 +68,7 @@ pub fn first_record(image: &[u16], area: usize, n: usize) -> Option<usize>
     None
 }
 
-// 52: the first start that is not where the part before it ends.
+// 52: the first start that is not where the part before it ends. No Option: it is asked only where there is one, and where there is none `start_word` has a value too.
 pub fn first_start(image: &[u16]) -> usize
     requires { Ranged image.now }
     ensures { result ≡ start_word image.now }
