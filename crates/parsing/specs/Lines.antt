@@ -1,5 +1,5 @@
 -- The lines of the replay's input, read (01, 'Replay'). Assumes nothing.
-use Rattle.std.specs.Prelude.{ℕ, ℤ, ◌+◌, ◌≤◌, ◌≡◌, Bool, List, ltb, eqb, length, drop, replicate, Option, Some, None}
+use Rattle.std.specs.Prelude.{ℕ, ℤ, ◌+◌, ◌≤◌, ◌≡◌, Bool, List, ltb, eqb, length, drop, Option, Some, None}
 use Rattle.lists.specs.Choice.{◌if◌else◌}
 use Rattle.lists.specs.Below.{all_below, filled}
 use Rattle.parsing.specs.Numbers.{decimal_of, is_decimal, read_on, grid_of, bound_of, flag_of, is_byte}

@@ -1,5 +1,5 @@
 -- Numbers of the replay's lines, read from bytes (01, 'Replay'). Assumes nothing.
-use Rattle.std.specs.Prelude.{ℕ, ◌+◌, ◌*◌, ◌-◌, Bool, true, false, not, ◌&&◌, ◌||◌, List, [], ◌∷◌, ltb, leb, eqb, length, get_or, drop, ℤ, pos, negsuc, Some, None, Option}
+use Rattle.std.specs.Prelude.{ℕ, ℤ, ◌+◌, ◌*◌, ◌-◌, Bool, true, false, not, ◌&&◌, ◌||◌, List, [], ◌∷◌, ltb, leb, eqb, length, get_or, drop, pos, negsuc, Some, None, Option}
 use Rattle.lists.specs.Choice.{◌if◌else◌}
 
 -- `0` (48) to `9` (57)

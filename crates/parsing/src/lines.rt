@@ -41,10 +41,11 @@ pub fn read_first(s: &[u8]) -> Option<Setting>
 fn draw_in(s: &[u8]) -> Option<Line>
     ensures { result ≡ draw_in (fields_of s.now) }
 {
-    if field_count(s) != 2 {
-        return None;
+    if field_count(s) == 2 {
+        Some(Line::Draw(number_at(s, 1)?))
+    } else {
+        None
     }
-    Some(Line::Draw(number_at(s, 1)?))
 }
 
 // The number of the field that starts at `at`, and the start of the next.

@@ -22,15 +22,12 @@ fn take_all(
 ) -> usize {
     let mut held = begun;
     let mut at = 0;
-    let mut i = 0;
-    while i < input.len() {
-        let b = input[i];
-        i += 1;
-        if b == b'\n' {
+    for b in input {
+        if *b == b'\n' {
             at = answer_line(line, held, words, answers, at);
             held = 0;
         } else {
-            held = put(line, held, b);
+            held = put(line, held, *b);
         }
     }
     flush(answers, at, 0);
@@ -39,11 +36,9 @@ fn take_all(
 
 // The last line, whose newline is missing.
 fn take_last(held: usize, line: &mut [u8], words: &mut [u16], answers: &mut [u8]) {
-    if held == 0 {
-        return;
+    if held != 0 {
+        take_all(b"\n", held, line, words, answers);
     }
-    let newline = [b'\n'];
-    take_all(&newline, held, line, words, answers);
 }
 
 // One read: how many bytes came; 0 at the end of the input, and where it cannot be read.
@@ -56,18 +51,16 @@ fn read(mut stdin: Stdin, part: &mut [u8]) -> usize
     }
 }
 
-// Nothing says that the input ends, so the loop counts its turns down from a number that no run uses up.
+// Nothing says that the input ends, so the loop has a number of turns that no run uses up.
 fn serve(stdin: Stdin, input: &mut [u8], line: &mut [u8], words: &mut [u16], answers: &mut [u8]) {
     let mut held = 0;
-    let mut turns = u64::MAX;
-    while turns > 0 {
+    for _ in 0..u64::MAX {
         let n = read(stdin, input);
         if n == 0 {
             take_last(held, line, words, answers);
             return;
         }
         held = take_all(&input[..n], held, line, words, answers);
-        turns -= 1;
     }
 }
 

@@ -11,21 +11,9 @@ pub fn book_room() -> [u16; 262144] {
 
 // Whether each word from there on is as it was made.
 pub fn kept(words: &[u16], from: usize) -> bool {
-    let mut same = true;
-    let mut k = from;
-    while k < words.len() {
-        same = same & (words[k] == PATTERN);
-        k += 1;
-    }
-    same
+    words.iter().skip(from).all(|word| *word == PATTERN)
 }
 
 pub fn planes_kept(planes: &[f32], from: usize) -> bool {
-    let mut same = true;
-    let mut k = from;
-    while k < planes.len() {
-        same = same & (planes[k] == 0.5);
-        k += 1;
-    }
-    same
+    planes.iter().skip(from).all(|light| *light == 0.5)
 }

@@ -1,26 +1,11 @@
-// The calls on an image alone: what is wrong with it, and a snake's body.
-use crate::reply::{NOTHING, Reply, refused};
+// A snake's body.
 use crate::writing::{put, put_number, put_words};
 use layout::start_at;
 use lists::word_at;
 
-// `x W`
-pub fn check_image(words: &[u16]) -> Reply {
-    match arena::check_image(words) {
-        Ok(()) => NOTHING,
-        Err(r) => refused(r),
-    }
-}
-
 // The start word of a snake's record; 0 for a malformed image or no such snake.
 fn start_of(words: &[u16], snake: u64) -> u64 {
-    if !arena::well_formed(words) {
-        return 0;
-    }
-    if word_at(words, 0) <= snake {
-        return 0;
-    }
-    if 7 < snake {
+    if !arena::well_formed(words) || word_at(words, 0) <= snake || 7 < snake {
         return 0;
     }
     word_at(words, start_at(snake as usize))

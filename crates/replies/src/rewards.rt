@@ -1,23 +1,21 @@
 // The reward, whose floats stand in a line as bits.
-use crate::fields::{event_of, is_event, numbers_in};
-use crate::reply::{NO_CALL, Reply, number, refused};
-use rules::Weights;
+use crate::fields::{Fields, event_of, is_event};
+use crate::reply::{Numbers, number};
+use rules::{Refusal, Weights};
 
 // The float of that pattern. A NaN's pattern has none: it is read as an infinity, which the reward refuses by 31 too, and the outcome of a unit
 // number by 81.
 pub fn float_of(bits: u64) -> f64 {
     if 9218868437227405312 < bits % 9223372036854775808 {
-        return 1.0 / 0.0;
+        1.0 / 0.0
+    } else {
+        f64::from_bits(bits)
     }
-    f64::from_bits(bits)
 }
 
 // The pattern of a float that is no NaN, as no sum of finite weights is.
 fn bits_of(x: f64) -> u64 {
-    if x != x {
-        return 0;
-    }
-    f64::to_bits(x)
+    if x != x { 0 } else { f64::to_bits(x) }
 }
 
 fn weights_in(w: &[u64; 15]) -> Weights {
@@ -33,18 +31,15 @@ fn weights_in(w: &[u64; 15]) -> Weights {
 }
 
 // `w B1..B7 E`
-pub fn reward(s: &[u8]) -> Reply {
+pub fn reward(s: &[u8]) -> Option<Result<Numbers, Refusal>> {
     let mut values = [0u64; 15];
-    let next = numbers_in(s, 0, &mut values);
-    if next != s.len() + 1 {
-        return NO_CALL;
-    }
+    Fields::of(s).last_numbers(&mut values)?;
     if !is_event(&values[7..15]) {
-        return NO_CALL;
+        return None;
     }
     let event = event_of(&values[7..15]);
     match arena::reward(weights_in(&values), event) {
-        Ok(x) => number(bits_of(x)),
-        Err(r) => refused(r),
+        Ok(x) => Some(Ok(number(bits_of(x)))),
+        Err(r) => Some(Err(r)),
     }
 }

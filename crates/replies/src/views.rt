@@ -1,32 +1,27 @@
 // What an agent sees and may do: observation, actor, legal actions, length cell and truncation.
 use crate::buffers::planes_kept;
-use crate::fields::{NOWHERE, event_of, is_event};
+use crate::fields::{event_of, is_event};
 use crate::marks::event_numbers;
-use crate::reply::{NO_CALL, Reply, number, refused};
+use crate::reply::{Numbers, number};
 use crate::writing::{end, put, put_number, refuse};
-use rules::{Actor, Legal, Refusal};
+use rules::{Actor, Event, Legal, Refusal};
 
 // A plane's number: 0 or 1, and `?` for any other.
 fn put_light(text: &mut [u8], at: usize, x: f32) -> usize {
     let i = put(text, at, b' ');
     if x == 0.0 {
-        return put(text, i, b'0');
+        put(text, i, b'0')
+    } else if x == 1.0 {
+        put(text, i, b'1')
+    } else {
+        put(text, i, b'?')
     }
-    if x == 1.0 {
-        return put(text, i, b'1');
-    }
-    put(text, i, b'?')
 }
 
 fn put_lights(text: &mut [u8], from: usize, planes: &[f32], n: usize) -> usize {
     let mut at = from;
-    let mut k = 0;
-    while k < n {
-        if planes.len() <= k {
-            return at;
-        }
-        at = put_light(text, at, planes[k]);
-        k += 1;
+    for light in planes.iter().take(n) {
+        at = put_light(text, at, *light);
     }
     at
 }
@@ -44,64 +39,59 @@ fn put_planes(text: &mut [u8], at: usize, answer: Result<usize, Refusal>, planes
 }
 
 // `o AGENT cap W`
-pub fn observe_line(values: [u64; 9], words: &[u16], text: &mut [u8], at: usize) -> usize {
-    let cap = values[1];
+pub fn observe_line(values: [u64; 9], words: &[u16], text: &mut [u8], at: usize) -> Option<usize> {
+    let [agent, cap, ..] = values;
     if 8192 < cap {
-        return NOWHERE;
+        return None;
     }
     let mut room = [0.5f32; 8192];
-    let planes = &mut room[0..cap as usize];
-    let answer = arena::observe(words, values[0], planes);
-    put_planes(text, at, answer, planes)
+    let planes = &mut room[..cap as usize];
+    let answer = arena::observe(words, agent, planes);
+    Some(put_planes(text, at, answer, planes))
 }
 
 // `t W`
-pub fn actor(words: &[u16]) -> Reply {
-    match arena::actor(words) {
-        Ok(Actor::Chance) => number(1),
-        Ok(Actor::Simultaneous) => number(0),
-        Err(r) => refused(r),
+pub fn actor_number(actor: Actor) -> Numbers {
+    match actor {
+        Actor::Chance => number(1),
+        Actor::Simultaneous => number(0),
     }
 }
 
 // `l AGENT W`
-pub fn legal(agent: u64, words: &[u16]) -> Reply {
-    match arena::legal_actions(words, agent) {
-        Ok(Legal::AnyAction) => Reply {
-            letter: b'a',
+pub fn legal_numbers(legal: Legal) -> Numbers {
+    match legal {
+        Legal::AnyAction => Numbers {
             count: 4,
-            numbers: [3, 0, 1, 2, 0, 0, 0, 0],
+            all: [3, 0, 1, 2, 0, 0, 0, 0],
         },
-        Ok(Legal::NoAction) => number(0),
-        Err(r) => refused(r),
+        Legal::NoAction => number(0),
     }
 }
 
 // `z W`
-pub fn length_cell(words: &[u16]) -> Reply {
-    match arena::length_cell(words) {
-        Ok(Some(key)) => Reply {
-            letter: b'a',
+pub fn key_numbers(key: Option<u64>) -> Numbers {
+    match key {
+        Some(key) => Numbers {
             count: 2,
-            numbers: [1, key, 0, 0, 0, 0, 0, 0],
+            all: [1, key, 0, 0, 0, 0, 0, 0],
         },
-        Ok(None) => number(0),
-        Err(r) => refused(r),
+        None => number(0),
+    }
+}
+
+fn marked_numbers(event: Event) -> Numbers {
+    Numbers {
+        count: 8,
+        all: event_numbers(event),
     }
 }
 
 // `u AGENT E W`
-pub fn truncation(values: [u64; 9], words: &[u16]) -> Reply {
+pub fn truncation(values: [u64; 9], words: &[u16]) -> Option<Result<Numbers, Refusal>> {
     if !is_event(&values[1..9]) {
-        return NO_CALL;
+        return None;
     }
     let event = event_of(&values[1..9]);
-    match arena::truncation(words, values[0], event) {
-        Ok(marked) => Reply {
-            letter: b'a',
-            count: 8,
-            numbers: event_numbers(marked),
-        },
-        Err(r) => refused(r),
-    }
+    Some(arena::truncation(words, values[0], event).map(marked_numbers))
 }

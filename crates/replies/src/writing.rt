@@ -23,16 +23,13 @@ pub fn flush(text: &[u8], at: usize, least: usize) -> usize {
     if text.len() < at {
         return 0;
     }
-    io::write_all(STDOUT, &text[0..at]);
+    io::write_all(STDOUT, &text[..at]);
     0
 }
 
 // A space and a number, of at most twenty digits.
 pub fn put_number(text: &mut [u8], at: usize, v: u64) -> usize {
-    if text.len() < 21 {
-        return at;
-    }
-    if text.len() - 21 < at {
+    if text.len() < 21 || text.len() - 21 < at {
         return at;
     }
     put_item(text, at, b' ', v)
@@ -41,11 +38,9 @@ pub fn put_number(text: &mut [u8], at: usize, v: u64) -> usize {
 // Each word, after a space.
 pub fn put_each(text: &mut [u8], from: usize, words: &[u16]) -> usize {
     let mut at = from;
-    let mut k = 0;
-    while k < words.len() {
+    for word in words {
         at = flush(text, at, 32768);
-        at = put_number(text, at, words[k] as u64);
-        k += 1;
+        at = put_number(text, at, u64::from(*word));
     }
     at
 }
@@ -56,7 +51,7 @@ pub fn put_words(text: &mut [u8], at: usize, words: &[u16], n: usize) -> usize {
     if words.len() < n {
         return i;
     }
-    put_each(text, i, &words[0..n])
+    put_each(text, i, &words[..n])
 }
 
 // The line's end; `!` before it where a word has changed that the promise leaves alone.
@@ -71,15 +66,16 @@ pub fn end(text: &mut [u8], at: usize, kept: bool) -> usize {
 
 // Whether a refusal has a word: what is wrong with an image.
 pub fn has_word(r: Refusal) -> bool {
-    (50 <= r.number) & (r.number <= 56)
+    matches!(r.number(), 50..=56)
 }
 
 fn put_refusal(text: &mut [u8], at: usize, r: Refusal) -> usize {
-    let i = put_number(text, at, r.number as u64);
+    let i = put_number(text, at, u64::from(r.number()));
     if has_word(r) {
-        return put_number(text, i, r.word as u64);
+        put_number(text, i, r.word() as u64)
+    } else {
+        i
     }
-    i
 }
 
 // The line of a refusal.

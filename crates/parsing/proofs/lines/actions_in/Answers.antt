@@ -39,18 +39,18 @@ loop-k-preserved c =
     let fs = fields_of s in
     let l = c.loop-k in
     let g = c.next_number-got.ensures in
-    let v = c.in-Reads.v in
-    let q = was_number (field_at fs (l.k + 1)) v (ap decimal_of (sym (from_at 32 s l.at (l.k + 1) l.invariant.0.stands)) ∙ sym g.number ∙ c.in-Reads.is) in (
+    let v = c.in_ok-acts.field-0 in
+    let q = was_number (field_at fs (l.k + 1)) v (ap decimal_of (sym (from_at 32 s l.at (l.k + 1) l.invariant.0.stands)) ∙ sym g.number ∙ c.in_ok-acts.was) in (
       record { inside = g.inside; stands = g.onward ∙ ap (λ (x : List (List ℕ)). drop 1 x) l.invariant.0.stands ∙ drop-drop 1 (l.k + 1) fs },
       all_more (is_action fs) l.k l.invariant.1 q.0,
       ap (λ (x : List ℕ). set x l.k v) l.invariant.2 ∙ rw q.1 (filled_more (action fs) l.k 8 0 (omega arith)),
     )
 
-pub returns-in_default : goal.returns-in_default
+pub returns-in_err-acts : goal.returns-in_err-acts
 unfolding actions_in
-returns-in_default c =
+returns-in_err-acts c =
     let s = c.args.s.now in
     let fs = fields_of s in
     let l = c.loop-k in
-    let e : decimal_of (field_at fs (l.k + 1)) ≡ None = ap decimal_of (sym (from_at 32 s l.at (l.k + 1) l.invariant.0.stands)) ∙ sym c.next_number-got.ensures.number ∙ c.in_default.is in
-    c.no_entry.ensures ∙ rw (all_fails (is_action fs) c.args.n l.k (omega arith) (no_number (field_at fs (l.k + 1)) e))
+    let e : decimal_of (field_at fs (l.k + 1)) ≡ None = ap decimal_of (sym (from_at 32 s l.at (l.k + 1) l.invariant.0.stands)) ∙ sym c.next_number-got.ensures.number ∙ c.in_err-acts.was in
+    c.from_residual.ensures ∙ rw (all_fails (is_action fs) c.args.n l.k (omega arith) (no_number (field_at fs (l.k + 1)) e))

@@ -1,9 +1,0 @@
-use lib.ListN.{length}
-use Prim.Native.Nat.{◌-◌}
-use Rattle.replies.proofs.buffers.kept.Given as goal
-
-abbrev pub invariant-loop-k : goal.invariant-loop-k
-invariant-loop-k l = Unit {0}
-
-abbrev pub decreases-loop-k : goal.decreases-loop-k
-decreases-loop-k l = length l.words - l.k
