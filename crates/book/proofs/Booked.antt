@@ -3,7 +3,7 @@ use Rattle.std.specs.Prelude.{Ok, Err}
 use Prim.Native.Nat.{ℕ, ◌+◌, ◌*◌, ◌<◌, ◌≤◌}
 use native.Mathlib.Omega.{arith}
 use mathlib.Core.Path.{◌≡◌, refl, sym, ap, ◌∙◌}
-use mathlib.Core.Bool.{Bool, true, false, not, false≢true}
+use mathlib.Core.Bool.{Bool, true, false, not}
 use mathlib.Core.List.{List, [], ◌∷◌, ◌++◌}
 use lib.Dec.{ltb}
 use lib.ListN.{length, length-append}
@@ -11,10 +11,10 @@ use borrow.Author.Tests.{lt-ltb, le-ltb, ltb-false}
 use Rattle.lists.specs.Choice.{◌if◌else◌}
 use Rattle.lists.specs.Below.{concat_below}
 use Rattle.lists.specs.Lists.{all, write_at, over_front}
-use Rattle.rules.specs.Tables.{Table, fault, none_hold}
+use Rattle.rules.specs.Tables.{Table, none_hold}
 use Rattle.lists.proofs.Concat.{blocks_long}
 use Rattle.rules.proofs.Tables.{and_then, row_out, none_fault, table_gives, table_after, table_given}
-use Rattle.lists.proofs.Tests.{and_left, and_right}
+use Rattle.lists.proofs.Tests.{and_right}
 use Rattle.lists.proofs.Writes.{write_more, write_front}
 use Rattle.rules.specs.Says.{Says, by_table}
 use Rattle.rules.specs.Calls.{setting_says}
