@@ -36,12 +36,11 @@ use Rattle.rules.specs.declared.Hit.{Hit}
 use Rattle.rules.specs.declared.Place.{Place}
 use Rattle.rules.specs.declared.Setting.{Setting}
 use Rattle.judge.specs.declared.Move.{Move}
-use Rattle.judge.specs.declared.Fate.{Fate}
 use Rattle.judge.specs.declared.Judged.{Judged}
-use Rattle.judge.specs.World.{still, shown, world, unharmed, causes_of, judged_world, moved_world, Judges}
+use Rattle.judge.specs.World.{still, shown, world, causes_of, judged_world, moved_world, Judges}
 use Rattle.judge.specs.Loops.{Filling, Seeking}
 use Rattle.judge.specs.Moving.{move_at}
-use Rattle.judge.specs.Judging.{Rests, RestIn, RestFound, Judging, meets_at, hit_in, HitFits, stops_by, stops_at, stop_found, other_hit, body_cause, Stops, Stopped, OnBody, fate_at}
+use Rattle.judge.specs.Judging.{Rests, RestIn, RestFound, Judging, meets_at, hit_in, HitFits, stops_by, stops_at, stop_found, other_hit, body_cause, Stops, Stopped, OnBody}
 use Rattle.judge.proofs.Loops.{fill_none, fill_next, fill_all, seek_next, seek_all}
 use Rattle.judge.proofs.Moving.{origin_cell, shown_move, move_part, move_short, move_cell, move_inner}
 
@@ -207,32 +206,30 @@ module _ (w : List ℕ) (all : List Move) (n i cell : ℕ) where
       pub hit_fits : Judging w all n i → HitFits j k
       hit_fits q = found_fits w all n i q j l cell k (stop_rest w i j (get_or all j still) cell k (sym e ∙ s.is))
 
-      pub other_here : NoStop w all n i cell j → (h : Option Hit) → h ≡ hit_in j k → Stopped w all n i cell h
+      pub other_here : NoStop w all n i cell j → (h : Hit) → h ≡ hit_in j k → Stopped w all n i cell (Some h)
       other_here q h p =
           let here : Some k ≡ stop_found w i j (get_or all j still) cell = sym e ∙ s.is in
           let low = pass_here (stops_at w all i cell) n _ j q l (sym (stop_told w i j (get_or all j still) cell) ∙ ap is_some (sym here)) in
           record {
-            is = p
-                ∙ ap (hit_in j) (stop_place w i j (get_or all j still) cell k here)
-                ∙ sym (ap (λ (b : Bool). hit_in j (place cell (world w all j).rest) if b else no_hit) (lt-ltb j n l))
-                ∙ ap (λ (j : ℕ). hit_in j (place cell (world w all j).rest) if ltb j n else no_hit) low;
+            is = ap Some (p ∙ ap (hit_in j) (stop_place w i j (get_or all j still) cell k here))
+                ∙ sym (ap (λ (b : Bool). Some (hit_in j (place cell (world w all j).rest)) if b else no_hit) (lt-ltb j n l))
+                ∙ ap (λ (j : ℕ). Some (hit_in j (place cell (world w all j).rest)) if ltb j n else no_hit) low;
           }
 
   pub other_none : (j : ℕ) → NoStop w all n i cell j → n ≤ j → (h : Option Hit) → h ≡ no_hit → Stopped w all n i cell h
   other_none j q l h p = record {
     is = p
-        ∙ sym (ap (λ (b : Bool). hit_in j (place cell (world w all j).rest) if b else no_hit) (le-ltb j n l))
-        ∙ ap (λ (j : ℕ). hit_in j (place cell (world w all j).rest) if ltb j n else no_hit) (pass_all (stops_at w all i cell) n _ j q l);
+        ∙ sym (ap (λ (b : Bool). Some (hit_in j (place cell (world w all j).rest)) if b else no_hit) (le-ltb j n l))
+        ∙ ap (λ (j : ℕ). Some (hit_in j (place cell (world w all j).rest)) if ltb j n else no_hit) (pass_all (stops_at w all i cell) n _ j q l);
   }
 
   -- a snake is hit exactly where one stops the head
-  other_told : n ≤ 8 → ltb (other_hit w all n i cell).snake 8 ≡ some_below n (stops_at w all i cell)
-  other_told few =
-      let p = stops_at w all i cell in
-      elim (ordered (lowest_from p 0 n) n) [
-        | less l t ↦ rw t (lt-ltb (lowest_from p 0 n) 8 (omega arith) ∙ sym (some_lowest p n ∙ t))
-        | more l t ↦ rw t (sym (some_lowest p n ∙ t))
-      ]
+  other_told : is_some (other_hit w all n i cell) ≡ some_below n (stops_at w all i cell)
+  other_told = go (ltb (lowest_from (stops_at w all i cell) 0 n) n) (lowest_from (stops_at w all i cell) 0 n) ∙ sym (some_lowest (stops_at w all i cell) n)
+    where
+      go : (b : Bool) (j : ℕ) → is_some (Some (hit_in j (place cell (world w all j).rest)) if b else None) ≡ b
+      go true j = refl
+      go false j = refl
 
 -- ---- the cause of a head on the grid
 
@@ -244,15 +241,15 @@ module _ (w : List ℕ) (all : List Move) (n i : ℕ) (q : Judging w all n i) (c
     pub body_own : b ≡ true → OnBody w all n i cell (Some SelfBody)
     body_own h = body_by w all n i cell (own_told ∙ h) refl (Some SelfBody) refl
 
-    module _ (f : b ≡ false) (other : Option Hit) (z : Stopped w all n i cell other) where
-      stopped_told : some_below n (stops_at w all i cell) ≡ ltb other.snake 8
-      stopped_told = sym (other_told w all n i cell (omega (arith, q.sound.snakes_max, q.snakes))) ∙ ap (λ (h : Option Hit). ltb h.snake 8) (sym z.is)
+    module _ (f : b ≡ false) (other : Option Hit) (z : Stopped w all n i cell other) (x : Bool) (u : x ≡ is_some other) where
+      stopped_told : some_below n (stops_at w all i cell) ≡ x
+      stopped_told = sym (other_told w all n i cell) ∙ ap is_some (sym z.is) ∙ sym u
 
-      pub body_other : other.snake < 8 → OnBody w all n i cell (Some OppBody)
-      body_other h = body_by w all n i cell (own_told ∙ f) (stopped_told ∙ lt-ltb other.snake 8 h) (Some OppBody) refl
+      pub body_other : x ≡ true → OnBody w all n i cell (Some OppBody)
+      body_other h = body_by w all n i cell (own_told ∙ f) (stopped_told ∙ h) (Some OppBody) refl
 
-      pub body_clear : 8 ≤ other.snake → OnBody w all n i cell None
-      body_clear h = body_by w all n i cell (own_told ∙ f) (stopped_told ∙ le-ltb other.snake 8 h) None refl
+      pub body_clear : x ≡ false → OnBody w all n i cell None
+      body_clear h = body_by w all n i cell (own_told ∙ f) (stopped_told ∙ h) None refl
 
 -- ---- the array of moves
 
@@ -307,25 +304,24 @@ module _ (w acts : List ℕ) (s : Sound w) (all : List Move) (q : all ≡ filled
     pub judging_at : (i : ℕ) → i < length acts → Judging w all (length acts) i
     judging_at i l = record { sound = s; rests = all_rests; snakes = pl; one = l }
 
-    pub fates_none : Filling (fate_at w all (length acts)) unharmed (length acts) 0 (replicate 8 unharmed)
-    fates_none = fill_none (fate_at w all (length acts)) unharmed (length acts) (omega (arith, s.snakes_max))
+    abbrev judged_at : ℕ → Option Cause
+    judged_at = cause_of (side_in w) (length acts) (world w all)
 
-    module _ (fs : List Fate) (i : ℕ) (f : Filling (fate_at w all (length acts)) unharmed (length acts) i fs) where
-      pub fates_next : i < length acts → (c : Option Cause) → c ≡ cause_of (side_in w) (length acts) (world w all) i
-          → Filling (fate_at w all (length acts)) unharmed (length acts) (i + 1) (set fs i (record { cause = c }))
-      fates_next l c e = fill_next (fate_at w all (length acts)) unharmed (length acts) i fs f l (record { cause = c }) (λ k. record { cause = e k })
+    pub causes_none : Filling judged_at None (length acts) 0 (replicate 8 None)
+    causes_none = fill_none judged_at None (length acts) (omega (arith, s.snakes_max))
+
+    module _ (cs : List (Option Cause)) (i : ℕ) (f : Filling judged_at None (length acts) i cs) where
+      pub causes_next : i < length acts → (c : Option Cause) → c ≡ judged_at i → Filling judged_at None (length acts) (i + 1) (set cs i c)
+      causes_next l c e = fill_next judged_at None (length acts) i cs f l c e
 
       module _ (l : length acts ≤ i) where
-        fates_are : fs ≡ filled (fate_at w all (snakes_in w)) (snakes_in w) 8 unharmed
-        fates_are = fill_all (fate_at w all (length acts)) unharmed (length acts) i fs f l ∙ ap (λ (k : ℕ). filled (fate_at w all k) k 8 unharmed) pl
+        causes_are : cs ≡ filled (cause_of (side_in w) (snakes_in w) (world w all)) (snakes_in w) 8 None
+        causes_are = fill_all judged_at None (length acts) i cs f l ∙ ap (λ (k : ℕ). filled (cause_of (side_in w) k (world w all)) k 8 None) pl
 
-        causes_at : (j : ℕ) → (get_or fs j unharmed).cause ≡ get_or (each_below (snakes_in w) (cause_of (side_in w) (snakes_in w) (world w all))) j None
-        causes_at j =
-            ap (λ (l : List Fate). (get_or l j unharmed).cause) fates_are
-            ∙ ap (λ (z : Fate). z.cause) (filled_is (fate_at w all (snakes_in w)) (snakes_in w) 8 unharmed j)
-            ∙ each_map (λ (z : Fate). z.cause) (snakes_in w) (fate_at w all (snakes_in w)) unharmed j
+        causes_at : (j : ℕ) → get_or cs j None ≡ get_or (each_below (snakes_in w) (cause_of (side_in w) (snakes_in w) (world w all))) j None
+        causes_at j = ap (λ (l : List (Option Cause)). get_or l j None) causes_are ∙ filled_is (cause_of (side_in w) (snakes_in w) (world w all)) (snakes_in w) 8 None j
 
-        pub judges : Judges w acts (record { moves = all; fates = fs })
+        pub judges : Judges w acts (record { moves = all; causes = cs })
         judges = record { moves = q; moved = world_is; causes = λ k j. causes_at j k; cells = cell_at; parts = part_at; short = short_at }
 
 -- ---- what the definition makes of judged moves
