@@ -1,5 +1,5 @@
 -- What each function of the consequences finds, from what its calls promise and the tests that it makes. Assumes nothing.
-use Rattle.std.specs.Prelude.{Option, is_some}
+use Rattle.std.specs.Prelude.{Option, None, is_some}
 use Prim.Native.Nat.{ℕ, zero, suc, ◌+◌, ◌*◌, ◌<◌, ◌≤◌}
 use native.Mathlib.Numerals.{add-one}
 use native.Mathlib.Omega.{arith}
@@ -19,11 +19,11 @@ use Rattle.lists.specs.Search.{found_in}
 use Rattle.lists.proofs.Tests.{bit_le}
 use Rattle.lists.proofs.Search.{found_member}
 use Rattle.lists.proofs.Below.{some_none, some_next, count_none, count_next, sum_none, sum_next}
+use Rattle.rules.specs.declared.Cause.{Cause}
 use Rattle.rules.specs.declared.Event.{Event}
 use Rattle.rules.specs.Events.{dies, blank}
-use Rattle.judge.specs.declared.Fate.{Fate}
 use Rattle.judge.specs.declared.Move.{Move}
-use Rattle.judge.specs.World.{still, unharmed}
+use Rattle.judge.specs.World.{still}
 use Rattle.judge.specs.Loops.{Filling}
 use Rattle.judge.proofs.Loops.{fill_none, fill_next}
 use Rattle.lists.proofs.Lowest.{Passing, pass_here, pass_on, pass_all}
@@ -33,13 +33,13 @@ use Rattle.consequences.specs.After.{settled, settled_at, gone, living, causes, 
 
 -- ---- the settled snakes
 
-module _ (ms : List Move) (fs : List Fate) (n : ℕ) where
-  pub settled_none : n ≤ 8 → Filling (settled_at ms fs) gone n 0 (replicate 8 gone)
-  settled_none h = fill_none (settled_at ms fs) gone n h
+module _ (ms : List Move) (cs : List (Option Cause)) (n : ℕ) where
+  pub settled_none : n ≤ 8 → Filling (settled_at ms cs) gone n 0 (replicate 8 gone)
+  settled_none h = fill_none (settled_at ms cs) gone n h
 
-  pub settled_next : (i : ℕ) (all : List After) → Filling (settled_at ms fs) gone n i all → i < n → (a : After) → a ≡ settled (get_or ms i still) (get_or fs i unharmed).cause
-      → Filling (settled_at ms fs) gone n (i + 1) (set all i a)
-  settled_next i all q l a e = fill_next (settled_at ms fs) gone n i all q l a e
+  pub settled_next : (i : ℕ) (all : List After) → Filling (settled_at ms cs) gone n i all → i < n → (a : After) → a ≡ settled (get_or ms i still) (get_or cs i None)
+      → Filling (settled_at ms cs) gone n (i + 1) (set all i a)
+  settled_next i all q l a e = fill_next (settled_at ms cs) gone n i all q l a e
 
 -- one of those that there are, by its number
 pub each_one : (all xs : List After) (n : ℕ) → xs ≡ take n all → (i : ℕ) → i < n → get_or xs i gone ≡ get_or all i gone

@@ -11,9 +11,8 @@ use Rattle.rules.specs.Events.{dies}
 use Rattle.rules.specs.Image.{start_at}
 use Rattle.rules.specs.State.{Snake}
 use Rattle.rules.specs.Step.{killer_of}
-use Rattle.judge.specs.declared.Fate.{Fate}
 use Rattle.judge.specs.declared.Move.{Move}
-use Rattle.judge.specs.World.{still, unharmed}
+use Rattle.judge.specs.World.{still}
 use Rattle.consequences.specs.declared.after.After.{After}
 use Rattle.consequences.specs.declared.after.Tally.{Tally}
 
@@ -28,8 +27,8 @@ settled m c = record {
   cause = c;
 }
 
-abbrev pub settled_at : List Move → List Fate → ℕ → After
-settled_at ms fs i = settled (get_or ms i still) (get_or fs i unharmed).cause
+abbrev pub settled_at : List Move → List (Option Cause) → ℕ → After
+settled_at ms cs i = settled (get_or ms i still) (get_or cs i None)
 
 -- a place of the array that no snake has
 abbrev pub gone : After
