@@ -21,7 +21,7 @@ use Rattle.lists.proofs.Members.{place_lt}
 use Rattle.lists.proofs.Search.{found_member, found_holds, found_place}
 use Rattle.lists.proofs.Missing.{missing_part}
 use Rattle.lists.proofs.Tests.{ordered, less, more}
-use Rattle.lists.proofs.Below.{some_ext, some_false, each_at, each_past, each_map, filled_is}
+use Rattle.lists.proofs.Below.{some_ext, some_false, each_at, each_past, filled_is}
 use Rattle.rules.specs.Grid.{same, inside, cell_of}
 use Rattle.rules.specs.State.{nobody}
 use Rattle.rules.specs.Image.{front, snakes_in, side_in, start_at, food_at, state_of}
