@@ -20,7 +20,12 @@ use judge::judge;
 use rules::{Refusal, Setting, Stepped};
 
 // The step of a checked image: judge all on one world, then apply.
-fn go_on(setting: Setting, image: &[u16], actions: &[u64], out: &mut [u16]) -> Result<Stepped, Refusal>
+fn go_on(
+    setting: Setting,
+    image: &[u16],
+    actions: &[u64],
+    out: &mut [u16],
+) -> Result<Stepped, Refusal>
     requires sound { Sound image.now }
     requires actions_len { length actions.now ≡ snakes_in image.now }
     ensures { Applied (stepped setting (state_of image.now) actions.now) out.old out.new result }
@@ -29,7 +34,12 @@ fn go_on(setting: Setting, image: &[u16], actions: &[u64], out: &mut [u16]) -> R
     apply(setting, image, judged, out)
 }
 
-pub fn step(setting: Setting, image: &[u16], actions: &[u64], out: &mut [u16]) -> Result<Stepped, Refusal>
+pub fn step(
+    setting: Setting,
+    image: &[u16],
+    actions: &[u64],
+    out: &mut [u16],
+) -> Result<Stepped, Refusal>
     ensures { Steps setting image.now actions.now out.old out.new result }
 {
     asked(setting, image, actions)?;
