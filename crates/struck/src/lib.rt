@@ -25,13 +25,7 @@ fn own_hit(image: &[u16], all: [Move; 8], n: usize, i: usize) -> Option<Hit>
 }
 
 // Whom snake i hit: itself, the lowest-numbered other, or nobody, by its cause.
-fn hit_of(
-    image: &[u16],
-    all: [Move; 8],
-    n: usize,
-    i: usize,
-    cause: Option<Cause>,
-) -> Option<Hit>
+fn hit_of(image: &[u16], all: [Move; 8], n: usize, i: usize, cause: Option<Cause>) -> Option<Hit>
     requires judging { Judging image.now all n i }
     requires cause_value { cause ≡ cause_of (side_in image.now) n (world image.now all) i }
     ensures { result ≡ hit_of (side_in image.now) n (world image.now all) i }
@@ -58,11 +52,7 @@ fn find_hits(image: &[u16], actions: &[u64]) -> [Option<Hit>; 8]
     hits
 }
 
-pub fn struck(
-    setting: Setting,
-    image: &[u16],
-    actions: &[u64],
-) -> Result<[Option<Hit>; 8], Refusal>
+pub fn struck(setting: Setting, image: &[u16], actions: &[u64]) -> Result<[Option<Hit>; 8], Refusal>
     ensures { Strikes setting image.now actions.now result }
 {
     step::asked(setting, image, actions)?;
