@@ -8,9 +8,7 @@ use mathlib.Core.List.{List}
 use lib.Dec.{eqb, ltb}
 use lib.IntN.{pos}
 use lib.ListN.{length, get_or, take, drop, set, replicate}
-use mir.Val.{Fits}
-use mir.Syntax.{w64}
-use borrow.Author.Tests.{eq-eqb, ne_eqb, not-true, not-false, lt-ltb, le-ltb}
+use borrow.Author.Tests.{not-true, not-false, lt-ltb, le-ltb}
 use Rattle.lists.specs.Choice.{◌if◌else◌}
 use Rattle.lists.specs.Below.{some_below, each_below, lowest_from, filled}
 use Rattle.lists.specs.Lists.{member, place}
@@ -118,17 +116,7 @@ pub meets_next : (all : List Move) (n i : ℕ) (p : Place) (j : ℕ) (found : Bo
 meets_next all n i p j found q l b e =
     seek_next (meets_at all i p) n j found q l (not (eqb i j) && (get_or all j still).moves && b) (ap (λ (b : Bool). not (eqb i j) && (get_or all j still).moves && b) e)
 
--- ---- a rest: k is the place of its start
-
-module _ (w : List ℕ) (j : ℕ) (m : Move) (q : RestIn w j m) (k : ℕ) (e : k ≡ 5 + 4 * j) where
-  pub start_word_lem : Fits w64 (get_or w k 0)
-  start_word_lem = rw e (omega (arith, q.small))
-
-  pub rest_fits : get_or w k 0 + m.keep ≤ length w
-  rest_fits = rw e q.fits
-
-  pub rest_found : (cell : ℕ) (r : Option ℕ) → r ≡ found_in (take m.keep (drop (get_or w k 0) w)) cell → RestFound w j m cell r
-  rest_found cell r h = record { is = h ∙ ap (λ (k : ℕ). found_in (take m.keep (drop (get_or w k 0) w)) cell) e }
+-- ---- a rest
 
 pub rest_in : (w : List ℕ) (all : List Move) (n i : ℕ) → Judging w all n i → (j : ℕ) → j < n → RestIn w j (get_or all j still)
 rest_in w all n i q j l =
@@ -160,19 +148,6 @@ own_in w all n i q = rest_in w all n i q i q.one
 module _ (w : List ℕ) (i j : ℕ) (m : Move) (cell : ℕ) where
   abbrev rest : List ℕ
   rest = (shown w j m).rest
-
-  stops_by_lem : {a b : Bool} → eqb i j ≡ a → m.moves ≡ b → (r : Option ℕ) → r ≡ (found_in rest cell if not a && b else None) → Stops w i j m cell r
-  stops_by_lem p q r e = record { is = e ∙ sym (λ k. found_in rest cell if not (p k) && q k else None) }
-
-  pub stops_self : i ≡ j → Stops w i j m cell None
-  stops_self e = stops_by_lem (eq-eqb i j e) refl None refl
-
-  module _ (o : i ≡ j → ⊥) where
-    pub stops_still : not m.moves ≡ true → Stops w i j m cell None
-    stops_still h = stops_by_lem (ne_eqb i j o) (not-true m.moves h) None refl
-
-    pub stops_found : not m.moves ≡ false → (r : Option ℕ) → RestFound w j m cell r → Stops w i j m cell r
-    stops_found h r e = stops_by_lem (ne_eqb i j o) (not-false m.moves h) r e.is
 
   -- the cell is found exactly where the snake stops a head there
   stop_told : is_some (stop_found w i j m cell) ≡ stops_by w i j m cell
