@@ -45,7 +45,7 @@ fn settle(m: Move, cause: Option<Cause>) -> After
 
 pub fn settle_all(judged: Judged, n: usize) -> Snakes
     requires { n ≤ 8 }
-    ensures places { result.all ≡ filled (settled_at judged.moves judged.fates) n 8 gone }
+    ensures places { result.all ≡ filled (settled_at judged.moves judged.causes) n 8 gone }
     ensures count { result.count ≡ n }
 {
     let mut all = [After {
@@ -57,7 +57,7 @@ pub fn settle_all(judged: Judged, n: usize) -> Snakes
         cause: None,
     }; 8];
     for i in 0..n {
-        all[i] = settle(judged.moves[i], judged.fates[i].cause);
+        all[i] = settle(judged.moves[i], judged.causes[i]);
     }
     Snakes { all, count: n }
 }

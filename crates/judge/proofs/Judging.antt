@@ -8,9 +8,7 @@ use mathlib.Core.List.{List}
 use lib.Dec.{eqb, ltb}
 use lib.IntN.{pos}
 use lib.ListN.{length, get_or, take, drop, set, replicate}
-use mir.Val.{Fits}
-use mir.Syntax.{w64}
-use borrow.Author.Tests.{eq-eqb, ne_eqb, not-true, not-false, lt-ltb, le-ltb}
+use borrow.Author.Tests.{not-true, not-false, lt-ltb, le-ltb}
 use Rattle.lists.specs.Choice.{◌if◌else◌}
 use Rattle.lists.specs.Below.{some_below, each_below, lowest_from, filled}
 use Rattle.lists.specs.Lists.{member, place}
@@ -21,7 +19,7 @@ use Rattle.lists.proofs.Members.{place_lt}
 use Rattle.lists.proofs.Search.{found_member, found_holds, found_place}
 use Rattle.lists.proofs.Missing.{missing_part}
 use Rattle.lists.proofs.Tests.{ordered, less, more}
-use Rattle.lists.proofs.Below.{some_ext, some_false, each_at, each_past, each_map, filled_is}
+use Rattle.lists.proofs.Below.{some_ext, some_false, each_at, each_past, filled_is}
 use Rattle.rules.specs.Grid.{same, inside, cell_of}
 use Rattle.rules.specs.State.{nobody}
 use Rattle.rules.specs.Image.{front, snakes_in, side_in, start_at, food_at, state_of}
@@ -36,12 +34,11 @@ use Rattle.rules.specs.declared.Hit.{Hit}
 use Rattle.rules.specs.declared.Place.{Place}
 use Rattle.rules.specs.declared.Setting.{Setting}
 use Rattle.judge.specs.declared.Move.{Move}
-use Rattle.judge.specs.declared.Fate.{Fate}
 use Rattle.judge.specs.declared.Judged.{Judged}
-use Rattle.judge.specs.World.{still, shown, world, unharmed, causes_of, judged_world, moved_world, Judges}
+use Rattle.judge.specs.World.{still, shown, world, causes_of, judged_world, moved_world, Judges}
 use Rattle.judge.specs.Loops.{Filling, Seeking}
 use Rattle.judge.specs.Moving.{move_at}
-use Rattle.judge.specs.Judging.{Rests, RestIn, RestFound, Judging, meets_at, hit_in, HitFits, stops_by, stops_at, stop_found, other_hit, body_cause, Stops, Stopped, OnBody, fate_at}
+use Rattle.judge.specs.Judging.{Rests, RestIn, RestFound, Judging, meets_at, hit_in, HitFits, stops_by, stops_at, stop_found, other_hit, body_cause, Stops, Stopped, OnBody}
 use Rattle.judge.proofs.Loops.{fill_none, fill_next, fill_all, seek_next, seek_all}
 use Rattle.judge.proofs.Moving.{origin_cell, shown_move, move_part, move_short, move_cell, move_inner}
 
@@ -119,17 +116,7 @@ pub meets_next : (all : List Move) (n i : ℕ) (p : Place) (j : ℕ) (found : Bo
 meets_next all n i p j found q l b e =
     seek_next (meets_at all i p) n j found q l (not (eqb i j) && (get_or all j still).moves && b) (ap (λ (b : Bool). not (eqb i j) && (get_or all j still).moves && b) e)
 
--- ---- a rest: k is the place of its start
-
-module _ (w : List ℕ) (j : ℕ) (m : Move) (q : RestIn w j m) (k : ℕ) (e : k ≡ 5 + 4 * j) where
-  pub start_word_lem : Fits w64 (get_or w k 0)
-  start_word_lem = rw e (omega (arith, q.small))
-
-  pub rest_fits : get_or w k 0 + m.keep ≤ length w
-  rest_fits = rw e q.fits
-
-  pub rest_found : (cell : ℕ) (r : Option ℕ) → r ≡ found_in (take m.keep (drop (get_or w k 0) w)) cell → RestFound w j m cell r
-  rest_found cell r h = record { is = h ∙ ap (λ (k : ℕ). found_in (take m.keep (drop (get_or w k 0) w)) cell) e }
+-- ---- a rest
 
 pub rest_in : (w : List ℕ) (all : List Move) (n i : ℕ) → Judging w all n i → (j : ℕ) → j < n → RestIn w j (get_or all j still)
 rest_in w all n i q j l =
@@ -161,19 +148,6 @@ own_in w all n i q = rest_in w all n i q i q.one
 module _ (w : List ℕ) (i j : ℕ) (m : Move) (cell : ℕ) where
   abbrev rest : List ℕ
   rest = (shown w j m).rest
-
-  stops_by_lem : {a b : Bool} → eqb i j ≡ a → m.moves ≡ b → (r : Option ℕ) → r ≡ (found_in rest cell if not a && b else None) → Stops w i j m cell r
-  stops_by_lem p q r e = record { is = e ∙ sym (λ k. found_in rest cell if not (p k) && q k else None) }
-
-  pub stops_self : i ≡ j → Stops w i j m cell None
-  stops_self e = stops_by_lem (eq-eqb i j e) refl None refl
-
-  module _ (o : i ≡ j → ⊥) where
-    pub stops_still : not m.moves ≡ true → Stops w i j m cell None
-    stops_still h = stops_by_lem (ne_eqb i j o) (not-true m.moves h) None refl
-
-    pub stops_found : not m.moves ≡ false → (r : Option ℕ) → RestFound w j m cell r → Stops w i j m cell r
-    stops_found h r e = stops_by_lem (ne_eqb i j o) (not-false m.moves h) r e.is
 
   -- the cell is found exactly where the snake stops a head there
   stop_told : is_some (stop_found w i j m cell) ≡ stops_by w i j m cell
@@ -207,32 +181,30 @@ module _ (w : List ℕ) (all : List Move) (n i cell : ℕ) where
       pub hit_fits : Judging w all n i → HitFits j k
       hit_fits q = found_fits w all n i q j l cell k (stop_rest w i j (get_or all j still) cell k (sym e ∙ s.is))
 
-      pub other_here : NoStop w all n i cell j → (h : Option Hit) → h ≡ hit_in j k → Stopped w all n i cell h
+      pub other_here : NoStop w all n i cell j → (h : Hit) → h ≡ hit_in j k → Stopped w all n i cell (Some h)
       other_here q h p =
           let here : Some k ≡ stop_found w i j (get_or all j still) cell = sym e ∙ s.is in
           let low = pass_here (stops_at w all i cell) n _ j q l (sym (stop_told w i j (get_or all j still) cell) ∙ ap is_some (sym here)) in
           record {
-            is = p
-                ∙ ap (hit_in j) (stop_place w i j (get_or all j still) cell k here)
-                ∙ sym (ap (λ (b : Bool). hit_in j (place cell (world w all j).rest) if b else no_hit) (lt-ltb j n l))
-                ∙ ap (λ (j : ℕ). hit_in j (place cell (world w all j).rest) if ltb j n else no_hit) low;
+            is = ap Some (p ∙ ap (hit_in j) (stop_place w i j (get_or all j still) cell k here))
+                ∙ sym (ap (λ (b : Bool). Some (hit_in j (place cell (world w all j).rest)) if b else no_hit) (lt-ltb j n l))
+                ∙ ap (λ (j : ℕ). Some (hit_in j (place cell (world w all j).rest)) if ltb j n else no_hit) low;
           }
 
   pub other_none : (j : ℕ) → NoStop w all n i cell j → n ≤ j → (h : Option Hit) → h ≡ no_hit → Stopped w all n i cell h
   other_none j q l h p = record {
     is = p
-        ∙ sym (ap (λ (b : Bool). hit_in j (place cell (world w all j).rest) if b else no_hit) (le-ltb j n l))
-        ∙ ap (λ (j : ℕ). hit_in j (place cell (world w all j).rest) if ltb j n else no_hit) (pass_all (stops_at w all i cell) n _ j q l);
+        ∙ sym (ap (λ (b : Bool). Some (hit_in j (place cell (world w all j).rest)) if b else no_hit) (le-ltb j n l))
+        ∙ ap (λ (j : ℕ). Some (hit_in j (place cell (world w all j).rest)) if ltb j n else no_hit) (pass_all (stops_at w all i cell) n _ j q l);
   }
 
   -- a snake is hit exactly where one stops the head
-  other_told : n ≤ 8 → ltb (other_hit w all n i cell).snake 8 ≡ some_below n (stops_at w all i cell)
-  other_told few =
-      let p = stops_at w all i cell in
-      elim (ordered (lowest_from p 0 n) n) [
-        | less l t ↦ rw t (lt-ltb (lowest_from p 0 n) 8 (omega arith) ∙ sym (some_lowest p n ∙ t))
-        | more l t ↦ rw t (sym (some_lowest p n ∙ t))
-      ]
+  other_told : is_some (other_hit w all n i cell) ≡ some_below n (stops_at w all i cell)
+  other_told = go (ltb (lowest_from (stops_at w all i cell) 0 n) n) (lowest_from (stops_at w all i cell) 0 n) ∙ sym (some_lowest (stops_at w all i cell) n)
+    where
+      go : (b : Bool) (j : ℕ) → is_some (Some (hit_in j (place cell (world w all j).rest)) if b else None) ≡ b
+      go true j = refl
+      go false j = refl
 
 -- ---- the cause of a head on the grid
 
@@ -244,15 +216,15 @@ module _ (w : List ℕ) (all : List Move) (n i : ℕ) (q : Judging w all n i) (c
     pub body_own : b ≡ true → OnBody w all n i cell (Some SelfBody)
     body_own h = body_by w all n i cell (own_told ∙ h) refl (Some SelfBody) refl
 
-    module _ (f : b ≡ false) (other : Option Hit) (z : Stopped w all n i cell other) where
-      stopped_told : some_below n (stops_at w all i cell) ≡ ltb other.snake 8
-      stopped_told = sym (other_told w all n i cell (omega (arith, q.sound.snakes_max, q.snakes))) ∙ ap (λ (h : Option Hit). ltb h.snake 8) (sym z.is)
+    module _ (f : b ≡ false) (other : Option Hit) (z : Stopped w all n i cell other) (x : Bool) (u : x ≡ is_some other) where
+      stopped_told : some_below n (stops_at w all i cell) ≡ x
+      stopped_told = sym (other_told w all n i cell) ∙ ap is_some (sym z.is) ∙ sym u
 
-      pub body_other : other.snake < 8 → OnBody w all n i cell (Some OppBody)
-      body_other h = body_by w all n i cell (own_told ∙ f) (stopped_told ∙ lt-ltb other.snake 8 h) (Some OppBody) refl
+      pub body_other : x ≡ true → OnBody w all n i cell (Some OppBody)
+      body_other h = body_by w all n i cell (own_told ∙ f) (stopped_told ∙ h) (Some OppBody) refl
 
-      pub body_clear : 8 ≤ other.snake → OnBody w all n i cell None
-      body_clear h = body_by w all n i cell (own_told ∙ f) (stopped_told ∙ le-ltb other.snake 8 h) None refl
+      pub body_clear : x ≡ false → OnBody w all n i cell None
+      body_clear h = body_by w all n i cell (own_told ∙ f) (stopped_told ∙ h) None refl
 
 -- ---- the array of moves
 
@@ -307,25 +279,24 @@ module _ (w acts : List ℕ) (s : Sound w) (all : List Move) (q : all ≡ filled
     pub judging_at : (i : ℕ) → i < length acts → Judging w all (length acts) i
     judging_at i l = record { sound = s; rests = all_rests; snakes = pl; one = l }
 
-    pub fates_none : Filling (fate_at w all (length acts)) unharmed (length acts) 0 (replicate 8 unharmed)
-    fates_none = fill_none (fate_at w all (length acts)) unharmed (length acts) (omega (arith, s.snakes_max))
+    abbrev judged_at : ℕ → Option Cause
+    judged_at = cause_of (side_in w) (length acts) (world w all)
 
-    module _ (fs : List Fate) (i : ℕ) (f : Filling (fate_at w all (length acts)) unharmed (length acts) i fs) where
-      pub fates_next : i < length acts → (c : Option Cause) → c ≡ cause_of (side_in w) (length acts) (world w all) i
-          → Filling (fate_at w all (length acts)) unharmed (length acts) (i + 1) (set fs i (record { cause = c }))
-      fates_next l c e = fill_next (fate_at w all (length acts)) unharmed (length acts) i fs f l (record { cause = c }) (λ k. record { cause = e k })
+    pub causes_none : Filling judged_at None (length acts) 0 (replicate 8 None)
+    causes_none = fill_none judged_at None (length acts) (omega (arith, s.snakes_max))
+
+    module _ (cs : List (Option Cause)) (i : ℕ) (f : Filling judged_at None (length acts) i cs) where
+      pub causes_next : i < length acts → (c : Option Cause) → c ≡ judged_at i → Filling judged_at None (length acts) (i + 1) (set cs i c)
+      causes_next l c e = fill_next judged_at None (length acts) i cs f l c e
 
       module _ (l : length acts ≤ i) where
-        fates_are : fs ≡ filled (fate_at w all (snakes_in w)) (snakes_in w) 8 unharmed
-        fates_are = fill_all (fate_at w all (length acts)) unharmed (length acts) i fs f l ∙ ap (λ (k : ℕ). filled (fate_at w all k) k 8 unharmed) pl
+        causes_are : cs ≡ filled (cause_of (side_in w) (snakes_in w) (world w all)) (snakes_in w) 8 None
+        causes_are = fill_all judged_at None (length acts) i cs f l ∙ ap (λ (k : ℕ). filled (cause_of (side_in w) k (world w all)) k 8 None) pl
 
-        causes_at : (j : ℕ) → (get_or fs j unharmed).cause ≡ get_or (each_below (snakes_in w) (cause_of (side_in w) (snakes_in w) (world w all))) j None
-        causes_at j =
-            ap (λ (l : List Fate). (get_or l j unharmed).cause) fates_are
-            ∙ ap (λ (z : Fate). z.cause) (filled_is (fate_at w all (snakes_in w)) (snakes_in w) 8 unharmed j)
-            ∙ each_map (λ (z : Fate). z.cause) (snakes_in w) (fate_at w all (snakes_in w)) unharmed j
+        causes_at : (j : ℕ) → get_or cs j None ≡ get_or (each_below (snakes_in w) (cause_of (side_in w) (snakes_in w) (world w all))) j None
+        causes_at j = ap (λ (l : List (Option Cause)). get_or l j None) causes_are ∙ filled_is (cause_of (side_in w) (snakes_in w) (world w all)) (snakes_in w) 8 None j
 
-        pub judges : Judges w acts (record { moves = all; fates = fs })
+        pub judges : Judges w acts (record { moves = all; causes = cs })
         judges = record { moves = q; moved = world_is; causes = λ k j. causes_at j k; cells = cell_at; parts = part_at; short = short_at }
 
 -- ---- what the definition makes of judged moves

@@ -11,9 +11,7 @@ use Rattle.rules.specs.declared.Place.{Place}
 use Rattle.rules.specs.Grid.{inside, same, cell_of}
 use Rattle.rules.specs.Image.{front, snakes_in, side_in, start_at}
 use Rattle.rules.specs.Facts.{Sound}
-use Rattle.rules.specs.Step.{cause_of}
 use Rattle.judge.specs.declared.Move.{Move}
-use Rattle.judge.specs.declared.Fate.{Fate}
 use Rattle.judge.specs.World.{still, shown, world}
 
 -- each rest is a part of the image, and of its words after the records; the cell is that of the head, and a moved head is inside the grid where it says so
@@ -84,7 +82,3 @@ pub record Stopped (w : List ℕ) (all : List Move) (n i cell : ℕ) (r : Option
 
 pub record OnBody (w : List ℕ) (all : List Move) (n i cell : ℕ) (r : Option Cause) : Type 0 where
   pub is : r ≡ body_cause w all n i cell
-
--- what snake i's move led to, judged among n snakes on the world of all moves
-abbrev pub fate_at : List ℕ → List Move → ℕ → ℕ → Fate
-fate_at w all n i = record { cause = cause_of (side_in w) n (world w all) i }

@@ -8,7 +8,6 @@ use Rattle.rules.specs.State.{nobody}
 use Rattle.rules.specs.Image.{snakes_in, side_in, start_at, state_of}
 use Rattle.rules.specs.Step.{Moved, stays, moved_of, cause_of}
 use Rattle.judge.specs.declared.Move.{Move}
-use Rattle.judge.specs.declared.Fate.{Fate}
 use Rattle.judge.specs.declared.Judged.{Judged}
 use Rattle.judge.specs.Moving.{move_at}
 
@@ -26,12 +25,8 @@ world w all i = shown w i (get_or all i still)
 abbrev pub moves_of : Judged → ℕ → Move
 moves_of js i = get_or js.moves i still
 
--- what befalls no snake
-abbrev pub unharmed : Fate
-unharmed = record { cause = None }
-
 abbrev pub causes_of : Judged → ℕ → Option Cause
-causes_of js i = (get_or js.fates i unharmed).cause
+causes_of js i = get_or js.causes i None
 
 -- the world that the judged moves make
 abbrev pub judged_world : List ℕ → Judged → ℕ → Moved

@@ -8,7 +8,7 @@ ghost use Rattle.judge.specs.Judging.{RestIn, RestFound, Judging, Stops, Stopped
 
 use crate::hits::hit_at;
 use crate::moves::move_all;
-use crate::{Fate, Judged, Move};
+use crate::{Judged, Move};
 use rules::{Cause, Hit};
 
 // The first place of a cell in the rest of snake j's body.
@@ -93,11 +93,9 @@ pub fn judge(image: &[u16], actions: &[u64]) -> Judged
 {
     let moves = move_all(image, actions);
     let n = actions.len();
-    let mut fates = [Fate { cause: None }; 8];
+    let mut causes = [None; 8];
     for i in 0..n {
-        fates[i] = Fate {
-            cause: cause_of(image, moves, n, i),
-        };
+        causes[i] = cause_of(image, moves, n, i);
     }
-    Judged { moves, fates }
+    Judged { moves, causes }
 }

@@ -22,15 +22,9 @@ pub struct Move {
     pub keep: u16,
 }
 
-// What a move led to.
-#[derive(Clone, Copy)]
-pub struct Fate {
-    pub cause: Option<Cause>,
-}
-
-// All moves, and what each led to.
+// All moves, and the death that each led to.
 #[derive(Clone, Copy)]
 pub struct Judged {
     pub moves: [Move; 8],
-    pub fates: [Fate; 8],
+    pub causes: [Option<Cause>; 8],
 }

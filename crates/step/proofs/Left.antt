@@ -16,7 +16,7 @@ use Rattle.cells.specs.Writers.{left}
 use Rattle.rules.specs.Step.{eaten_by}
 use Rattle.consequences.specs.declared.after.After.{After}
 use Rattle.consequences.specs.After.{gone, cells, eating}
-use Rattle.step.specs.Eaten.{bite, EatenTo, EatenAre}
+use Rattle.step.specs.Eaten.{bite, EatenTo}
 
 -- ---- the loop
 
@@ -55,15 +55,6 @@ module _ (all : List After) (n i : ℕ) (xs : List ℕ) (q : EatenTo all n i xs)
           so_far = p ∙ ap (λ (t : List ℕ). t ++ (a.cell ∷ [])) q.so_far ∙ sym (bites true e);
           counted = long ∙ ap (λ (k : ℕ). k + 1) q.counted ∙ sym (counts true e);
         }
-
-  pub eaten_all : n ≤ i → EatenAre all n xs
-  eaten_all l =
-      let e : i ≡ n = omega (arith, q.along) in
-      record {
-        cells = q.so_far ∙ ap (λ (k : ℕ). concat_below k (bite all)) e;
-        count = q.counted ∙ ap (λ (k : ℕ). count_below k (eating all)) e;
-        few = omega (arith, q.fewer, q.along, q.few);
-      }
 
 -- ---- the apples left
 

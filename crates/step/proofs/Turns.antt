@@ -1,11 +1,9 @@
 -- The turns of the loops that write the records and the bodies of the next image. Assumes nothing.
-use mathlib.Core.Path.{◌≡◌, refl, sym, ap, subst, ◌∙◌}
+use mathlib.Core.Path.{◌≡◌, refl, sym, ap, ◌∙◌}
 use mathlib.Core.List.{List, [], ◌∷◌}
 use Prim.Native.Nat.{ℕ, ◌+◌, ◌*◌, ◌<◌, ◌≤◌}
 use native.Mathlib.Omega.{arith}
 use lib.ListN.{length, get_or}
-use mir.Val.{Fits}
-use mir.Syntax.{w64}
 use Rattle.lists.specs.Choice.{bit}
 use Rattle.lists.specs.Below.{concat_below}
 use Rattle.lists.specs.Lists.{write_at}
@@ -40,19 +38,7 @@ module _ (d : List ℕ) (all : List After) (short : Short all) (n i : ℕ) (out 
   ps : s ≡ size_of (get_or all i gone)
   ps = pz ∙ ap size_of pa
 
-  pub size_word : s < 65536
-  size_word = omega (arith, ps, size_le all short i)
-
-  pub start_word_lem : start < 65536
-  start_word_lem = omega (arith, q.small, q.along, q.few)
-
-  pub start_fits : Fits w64 (start + s)
-  start_fits = omega (arith, ps, size_le all short i, q.small, q.along, q.few)
-
   module _ (l : i < n) (k : ℕ) (pk : k ≡ 5 + 4 * i) where
-    pub record_fits_lem : k + 4 ≤ length out
-    record_fits_lem = omega (arith, q.long, q.room)
-
     pub records_next : (new : List ℕ) → new ≡ write_at out k (start ∷ s ∷ number_of a.heading ∷ bit a.lives ∷ []) → RecordsTo d all n (i + 1) new (start + s)
     records_next new e =
         let f = record_in n all in
@@ -68,9 +54,6 @@ module _ (d : List ℕ) (all : List After) (short : Short all) (n i : ℕ) (out 
           words = w ∙ turn_next d 5 f i k out p (omega (arith, q.room)) q.words;
         }
 
-pub records_all : (d : List ℕ) (all : List After) (n i : ℕ) (out : List ℕ) (start : ℕ) → RecordsTo d all n i out start → n ≤ i → out ≡ write_at d 5 (concat_below n (record_in n all))
-records_all d all n i out start q l = let e : i ≡ n = omega (arith, q.along) in q.words ∙ ap (λ (k : ℕ). write_at d 5 (concat_below k (record_in n all))) e
-
 -- ---- bodies
 
 module _ (d : List ℕ) (from : ℕ) (w : List ℕ) (all : List After) (n : ℕ) where
@@ -85,12 +68,6 @@ module _ (d : List ℕ) (from : ℕ) (w : List ℕ) (all : List After) (n : ℕ)
 
       room_next : at + length (body_in w all i) ≤ length out
       room_next = omega (arith, run_room d from (body_in w all) i n at out q.run l, q.room, q.long)
-
-      pub place_in : k < length w
-      place_in = omega (arith, (q.parts.parts i l).words)
-
-      pub start_fits_word : Fits w64 (get_or w k 0)
-      start_fits_word = rw e (omega (arith, (q.parts.parts i l).small))
 
       pub body_fits : at + length (body_with w (get_or w k 0) a.keep a.cell a.lives) ≤ length out
       body_fits = rw (← body_at) room_next
@@ -108,6 +85,3 @@ module _ (d : List ℕ) (from : ℕ) (w : List ℕ) (all : List After) (n : ℕ)
             long = written_long out at (body_in w all i) new r y room_next ∙ q.long;
             run = run_next d from (body_in w all) i at out new r (omega (arith, q.room)) q.run y;
           }
-
-    pub bodies_all : n ≤ i → Written d from (concat_below n (body_in w all)) out at
-    bodies_all l = let e : i ≡ n = omega (arith, q.along) in subst (λ (k : ℕ). Written d from (concat_below k (body_in w all)) out at) e q.run

@@ -19,7 +19,7 @@ use Rattle.rules.specs.Image.{snakes_in, side_in, state_of}
 use Rattle.rules.specs.Facts.{Sound}
 use Rattle.rules.specs.Step.{Moved, stays, moved_of, cause_of}
 use Rattle.rules.specs.Struck.{no_hit, stops_head, hit_by, hit_of, hits_in}
-use Rattle.rules.specs.Says.{Says, seen, beside}
+use Rattle.rules.specs.Says.{Says, seen}
 use Rattle.rules.specs.Orders.{asked_order}
 use Rattle.rules.specs.Calls.{struck_says}
 use Rattle.rules.specs.Promises.{Strikes}
@@ -50,18 +50,18 @@ module _ (w : List ℕ) (all : List Move) (i : ℕ) (f : Option ℕ) (e : RestFo
   abbrev cell : ℕ
   cell = (get_or all i still).cell
 
-  own_by : {b : Bool} → is_some f ≡ b → (h : Option Hit) → h ≡ (hit_in i (place cell rest) if b else no_hit) → OwnHit w all i h
-  own_by t h p = record { is = p ∙ sym (ap (λ (b : Bool). hit_in i (place cell rest) if b else no_hit) (sym (found_member cell rest) ∙ ap is_some (sym e.is) ∙ t)) }
+  own_by : {b : Bool} → is_some f ≡ b → (h : Option Hit) → h ≡ (Some (hit_in i (place cell rest)) if b else no_hit) → OwnHit w all i h
+  own_by t h p = record { is = p ∙ sym (ap (λ (b : Bool). Some (hit_in i (place cell rest)) if b else no_hit) (sym (found_member cell rest) ∙ ap is_some (sym e.is) ∙ t)) }
 
-  pub own_none : f ≡ None → (h : Option Hit) → h ≡ no_hit → OwnHit w all i h
-  own_none q h p = own_by (ap is_some q) h p
+  pub own_none : f ≡ None → OwnHit w all i None
+  own_none q = own_by (ap is_some q) None refl
 
   module _ (k : ℕ) (q : f ≡ Some k) where
     pub own_fits : (n : ℕ) → Judging w all n i → HitFits i k
     own_fits n j = found_fits w all n i j i j.one cell k (sym q ∙ e.is)
 
-    pub own_at_lem : (h : Option Hit) → h ≡ hit_in i k → OwnHit w all i h
-    own_at_lem h p = own_by (ap is_some q) h (p ∙ ap (hit_in i) (found_place cell rest k (sym q ∙ e.is)))
+    pub own_at_lem : (h : Hit) → h ≡ hit_in i k → OwnHit w all i (Some h)
+    own_at_lem h p = own_by (ap is_some q) (Some h) (ap Some (p ∙ ap (hit_in i) (found_place cell rest k (sym q ∙ e.is))))
 
 -- ---- whom a snake hits, by its cause c
 
@@ -72,21 +72,21 @@ module _ (w : List ℕ) (all : List Move) (n i : ℕ) (q : Judging w all n i) (c
   hit_by_lem : (d : Option Cause) → c ≡ d → (h : Option Hit) → h ≡ hit_by (side_in w) n m i d → h ≡ hit_of (side_in w) n m i
   hit_by_lem d t h p = p ∙ ap (hit_by (side_in w) n m i) (sym t ∙ e)
 
-  pub hit_free : c ≡ None → (h : Option Hit) → h ≡ no_hit → h ≡ hit_of (side_in w) n m i
-  hit_free t h p = hit_by_lem None t h p
+  pub hit_free : c ≡ None → None ≡ hit_of (side_in w) n m i
+  hit_free t = hit_by_lem None t None refl
 
-  pub hit_wall : c ≡ (Some Wall) → (h : Option Hit) → h ≡ no_hit → h ≡ hit_of (side_in w) n m i
-  hit_wall t h p = hit_by_lem (Some Wall) t h p
+  pub hit_wall : c ≡ (Some Wall) → None ≡ hit_of (side_in w) n m i
+  hit_wall t = hit_by_lem (Some Wall) t None refl
 
-  pub hit_heads : c ≡ (Some HeadOn) → (h : Option Hit) → h ≡ no_hit → h ≡ hit_of (side_in w) n m i
-  hit_heads t h p = hit_by_lem (Some HeadOn) t h p
+  pub hit_heads : c ≡ (Some HeadOn) → None ≡ hit_of (side_in w) n m i
+  hit_heads t = hit_by_lem (Some HeadOn) t None refl
 
   pub hit_own : c ≡ (Some SelfBody) → (h : Option Hit) → OwnHit w all i h → h ≡ hit_of (side_in w) n m i
   hit_own t h p =
       let x = cell_of (side_in w) (m i).head in
       hit_by_lem (Some SelfBody) t h (p.is
       ∙ ap (own_at w all i) (q.rests.cells i)
-      ∙ ap (λ (b : Bool). hit_in i (place x (m i).rest) if b else no_hit) (self_holds (side_in w) n m i (sym e ∙ t)))
+      ∙ ap (λ (b : Bool). Some (hit_in i (place x (m i).rest)) if b else no_hit) (self_holds (side_in w) n m i (sym e ∙ t)))
 
   pub hit_other : c ≡ (Some OppBody) → (h : Option Hit) → Stopped w all n i (get_or all i still).cell h → h ≡ hit_of (side_in w) n m i
   hit_other t h p =
@@ -95,9 +95,9 @@ module _ (w : List ℕ) (all : List Move) (n i : ℕ) (q : Judging w all n i) (c
       let one = lowest_same (stops_at w all i x) (stops_head (side_in w) n m i) n (λ k l. sym (apart_rest (side_in w) n m i (opp_tests (side_in w) n m i o).0 k l)) in
       let met = lowest_from (stops_head (side_in w) n m i) 0 n in
       p.is
-      ∙ ap (λ (x : ℕ). let j = lowest_from (stops_at w all i x) 0 n in hit_in j (place x (m j).rest) if ltb j n else no_hit) (q.rests.cells i)
-      ∙ ap (λ (j : ℕ). hit_in j (place x (m j).rest) if ltb j n else no_hit) one
-      ∙ ap (λ (b : Bool). hit_in met (place x (m met).rest) if b else no_hit) (lt-ltb met n (met_below (side_in w) n m i o))
+      ∙ ap (λ (x : ℕ). let j = lowest_from (stops_at w all i x) 0 n in Some (hit_in j (place x (m j).rest)) if ltb j n else no_hit) (q.rests.cells i)
+      ∙ ap (λ (j : ℕ). Some (hit_in j (place x (m j).rest)) if ltb j n else no_hit) one
+      ∙ ap (λ (b : Bool). Some (hit_in met (place x (m met).rest)) if b else no_hit) (lt-ltb met n (met_below (side_in w) n m i o))
       ∙ sym (hit_behind (side_in w) n m i o)
 
 -- ---- all of them
@@ -130,21 +130,12 @@ module _ (w acts : List ℕ) (s : Sound w) (pl : length acts ≡ snakes_in w) (j
 -- ---- the promise: v is the verdict
 
 module _ (s : Setting) (w acts : List ℕ) (v : Says (Unit {0})) (a : Asks s w acts v) where
-  struck_says_lem : struck_says s w acts ≡ seen (λ u. hits_in (state_of w) acts) (v)
+  struck_says_lem : struck_says s w acts ≡ seen (λ u. hits_in (state_of w) acts) v
   unfolding struck_says
   struck_says_lem = sym (table_seen (λ (u : Unit {0}). hits_in (state_of w) acts) (asked_order s w acts) tt) ∙ ap (seen (λ (u : Unit {0}). hits_in (state_of w) acts)) (sym a.answer)
 
-  promised : (x : Says (Unit {0})) → v ≡ x → (hs : List (Option Hit)) → hs ≡ beside (λ h. h) (replicate 8 no_hit) (seen (λ u. hits_in (state_of w) acts) (x))
-      → x ≡ seen (λ h. tt) (seen (λ u. hits_in (state_of w) acts) (x)) → Strikes s w acts (record { verdict = v; hits = hs })
-  promised x t hs p d =
-      let says : struck_says s w acts ≡ seen (λ u. hits_in (state_of w) acts) (x) = struck_says_lem ∙ ap (λ (y : Says (Unit {0})). seen (λ (u : Unit {0}). hits_in (state_of w) acts) (y)) t in
-      record {
-        answer = t ∙ d ∙ sym (ap (seen (λ (h : List (Option Hit)). tt)) says);
-        hits = p ∙ sym (ap (beside (λ (h : List (Option Hit)). h) (replicate 8 no_hit)) says);
-      }
+  pub strikes_refused : (k : Refusal) → v ≡ Err k → Strikes s w acts (Err k)
+  strikes_refused k t = record { answer = sym (struck_says_lem ∙ ap (seen (λ (u : Unit {0}). hits_in (state_of w) acts)) t) }
 
-  pub strikes_refused : (k : Refusal) → v ≡ Err k → Strikes s w acts (record { verdict = v; hits = replicate 8 no_hit })
-  strikes_refused k t = promised (Err k) t (replicate 8 no_hit) refl refl
-
-  pub strikes_done : v ≡ (Ok tt) → (hs : List (Option Hit)) → hs ≡ hits_in (state_of w) acts → Strikes s w acts (record { verdict = v; hits = hs })
-  strikes_done t hs p = promised (Ok tt) t hs p refl
+  pub strikes_done : v ≡ (Ok tt) → (hs : List (Option Hit)) → hs ≡ hits_in (state_of w) acts → Strikes s w acts (Ok hs)
+  strikes_done t hs p = record { answer = ap Ok p ∙ sym (struck_says_lem ∙ ap (seen (λ (u : Unit {0}). hits_in (state_of w) acts)) t) }

@@ -47,7 +47,7 @@ fn find_hits(image: &[u16], actions: &[u64]) -> [Option<Hit>; 8]
     let n = actions.len();
     let mut hits = [None; 8];
     for i in 0..n {
-        hits[i] = hit_of(image, judged.moves, n, i, judged.fates[i].cause);
+        hits[i] = hit_of(image, judged.moves, n, i, judged.causes[i]);
     }
     hits
 }
