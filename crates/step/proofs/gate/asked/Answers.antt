@@ -16,7 +16,7 @@ returns-in_err-check_image c =
     rw (p.1, p.2) (asked_faulty _ _ _ _ c.validate.ensures c.in_ok-validate.was _ c.check_image.ensures _ c.in_err-check_image.was)
 
 pub asked_in-requires : goal.asked_in-requires
-asked_in-requires c = image_sound _ _ _ _ c.validate.ensures c.in_ok-validate.was _ c.check_image.ensures c.in_ok-check_image.was
+asked_in-requires c = image_sound c.args.setting c.args.image.now c.args.actions.now _ c.validate.ensures c.in_ok-validate.was _ c.check_image.ensures c.in_ok-check_image.was
 
 pub returns : goal.returns
 returns c = asked_image _ _ _ _ c.validate.ensures c.in_ok-validate.was _ c.check_image.ensures c.in_ok-check_image.was _ c.asked_in.ensures
