@@ -6,7 +6,7 @@ use mathlib.Core.Path.{◌≡◌, refl, sym, ap, ◌∙◌}
 use mathlib.Core.Bool.{Bool, true, false, not, ◌&&◌}
 use mathlib.Core.List.{List, [], ◌∷◌, ◌++◌, append-nil}
 use lib.Dec.{eqb, ltb}
-use borrow.Author.Tests.{ltb-true, lt-ltb, ne_eqb}
+use borrow.Author.Tests.{not-true, ltb-true, lt-ltb, ne_eqb}
 use native.Mathlib.Omega.{arith}
 use lib.IntN.{ℤ}
 use lib.Ieee.{Float, nan}
@@ -248,19 +248,19 @@ eight_back : (es : List Event) → each_below 8 (λ i. event_in (get_or (events_
 unfolding each_below events_bytes
 eight_back es = simp event_back
 
--- eight hits, each of nobody or of a snake below 8
+-- eight hits: 8 and 0 say nobody, so that a hit of these two is no hit that could be said
 abbrev hit_in : List ℕ → Option Hit
-hit_in l = None if eqb (get_or l 0 0) 8 else Some (record { snake = get_or l 0 0; position = get_or l 1 0 })
+hit_in l = None if eqb (get_or l 0 0) 8 && eqb (get_or l 1 0) 0 else Some (record { snake = get_or l 0 0; position = get_or l 1 0 })
 
-abbrev pub snake_few : Option Hit → Bool
-snake_few None = true
-snake_few (Some h) = ltb h.snake 8
+abbrev pub sayable : Option Hit → Bool
+sayable None = true
+sayable (Some h) = not (eqb h.snake 8 && eqb h.position 0)
 
-hit_back : (h : Option Hit) → snake_few h ≡ true → hit_in (hit_words h) ≡ h
+hit_back : (h : Option Hit) → sayable h ≡ true → hit_in (hit_words h) ≡ h
 hit_back None p = refl
-hit_back (Some h) p = rw (ne_eqb h.snake 8 (λ e. omega (arith, ltb-true h.snake 8 p)))
+hit_back (Some h) p = rw (not-true (eqb h.snake 8 && eqb h.position 0) p)
 
-pub hits_back : (hs : List (Option Hit)) → ((i : ℕ) → i < 8 → snake_few (get_or hs i unhit) ≡ true)
+pub hits_back : (hs : List (Option Hit)) → ((i : ℕ) → i < 8 → sayable (get_or hs i unhit) ≡ true)
     → each_below 8 (λ i. hit_in (get_or (hits_words hs) i [])) ≡ each_below 8 (λ i. get_or hs i unhit)
 unfolding each_below hits_words
 hits_back hs h =
