@@ -1,6 +1,6 @@
 -- A setting's words and the setting that they tell. Assumes nothing.
 use Rattle.std.specs.Prelude.{Option}
-use Rattle.core.specs.Bool.{then_some}
+use Rattle.std.specs.Bool.{then_some}
 use Prim.Native.Nat.{ℕ, ◌+◌}
 use mathlib.Core.Path.{◌≡◌, refl, ◌∙◌}
 use mathlib.Core.Bool.{Bool, true, false}
