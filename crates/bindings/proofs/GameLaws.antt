@@ -1,4 +1,5 @@
 -- What a match's calls say, the exported calls say in numbers; and the numbers lose nothing from move to move. Assumes nothing.
+use Rattle.std.specs.Prelude.{Ok, Err}
 use Prim.Native.Nat.{ℕ}
 use mathlib.Core.Path.{◌≡◌, refl, sym, ap, ◌∙◌}
 use mathlib.Core.Bool.{Bool, true, false}
@@ -6,13 +7,11 @@ use mathlib.Core.List.{List}
 use native.Mathlib.Omega.{arith}
 use lib.ListN.{length}
 use Rattle.lists.specs.Choice.{◌if◌else◌, bit}
-use Rattle.rules.specs.Tables.{by}
-use Rattle.rules.specs.Says.{Says, refuses, gives}
+use Rattle.rules.specs.Says.{Says, seen}
 use Rattle.rules.specs.declared.Event.{Event}
-use Rattle.rules.specs.declared.Refusal.{Refusal}
+use Rattle.rules.specs.declared.refusal.Refusal.{Refusal}
 use Rattle.rules.specs.declared.Setting.{Setting}
-use Rattle.rules.specs.declared.Verdict.TheVariants.{Accepted, Refused}
-use Rattle.standing.specs.Calls.{Move, move_says, Takes}
+use Rattle.standing.specs.Calls.{Move, move_says, taken_of, Takes}
 use Rattle.standing.specs.Shown.{events_shown}
 use Rattle.standing.specs.Standing.{moved, places_of}
 use Rattle.standing.specs.declared.Match.{Match}
@@ -23,33 +22,35 @@ use Rattle.flat.proofs.Theorems.{flag_back, events_back, match_back}
 use Rattle.bindings.specs.Exports.{whole, Tells, FlatMoves}
 use Rattle.bindings.proofs.Saying.{given}
 use Rattle.bindings.proofs.Theorems.{named}
+use Rattle.rules.specs.declared.refusal.Refusal.TheVariants as Refusal
 
 -- ---- a move
 
-module _ (m : Match) (es : List Event) (t : Taken) (old : List (List ℕ)) (g : List ℕ) where
-  took : (x : Says Move) → Takes x m es t → t.verdict ≡ Accepted → (bytes : List (List ℕ)) → bytes ≡ events_bytes t.events → (numbers : List ℕ) → numbers ≡ match_numbers t.game
-      → FlatMoves x old bytes g numbers 0
-  took (refuses k) q v bytes pb numbers pn = let z : ◌≡◌ {A = ℕ} 0 1 = cc in absurd (omega arith)
-  took (gives a) q v bytes pb numbers pn = record { refusal = refl; events = pb ∙ ap events_bytes q.events; game = pn ∙ ap match_numbers q.game }
+module _ (old : List (List ℕ)) (g : List ℕ) where
+  took : (x : Says Move) (t : Taken) → Ok t ≡ seen taken_of x → FlatMoves x old (events_bytes t.events) g (match_numbers t.game) 0
+  took (Err k) t q = let z : ◌≡◌ {A = ℕ} 0 1 = cc in absurd (omega arith)
+  took (Ok a) t q =
+      let e : t ≡ taken_of a = cc in
+      record { refusal = refl; events = ap (λ (x : Taken). events_bytes x.events) e; game = ap (λ (x : Taken). match_numbers x.game) e }
 
-  not_taken : (x : Says Move) → Takes x m es t → (k : Refusal) → t.verdict ≡ Refused k → (r : ℕ) → r ≡ refusal_number k → FlatMoves x old old g g r
-  not_taken (refuses j) q k v r p = let e : k ≡ j = cc in record { refusal = p ∙ ap refusal_number e; events = refl; game = refl }
-  not_taken (gives a) q k v r p = let z : ◌≡◌ {A = ℕ} 0 1 = cc in absurd (omega arith)
+  not_taken : (x : Says Move) (k : Refusal) → Err k ≡ seen taken_of x → (r : ℕ) → r ≡ refusal_number k → FlatMoves x old old g g r
+  not_taken (Err j) k q r p = let e : k ≡ j = cc in record { refusal = p ∙ ap refusal_number e; events = refl; game = refl }
+  not_taken (Ok a) k q r p = let z : ◌≡◌ {A = ℕ} 0 1 = cc in absurd (omega arith)
 
 -- m and es are what the caller's numbers are read as
-module _ (s s' : Setting) (g : List ℕ) (m : Match) (n : ℕ) (w : List ℕ) (old : List (List ℕ)) (es : List Event) (t : Taken)
-    (q : Takes (move_says m (flag_in n) w es) m es t) (pm : m ≡ match_in s g) (ps : s ≡ s') (pe : es ≡ events_in old) where
-  pub move_told : t.verdict ≡ Accepted → (bytes : List (List ℕ)) → bytes ≡ events_bytes t.events → (numbers : List ℕ) → numbers ≡ match_numbers t.game
+module _ (s s' : Setting) (g : List ℕ) (m : Match) (n : ℕ) (w : List ℕ) (old : List (List ℕ)) (es : List Event) (a : Says Taken)
+    (q : Takes (move_says m (flag_in n) w es) a) (pm : m ≡ match_in s g) (ps : s ≡ s') (pe : es ≡ events_in old) where
+  pub move_told : (t : Taken) → a ≡ Ok t → (bytes : List (List ℕ)) → bytes ≡ events_bytes t.events → (numbers : List ℕ) → numbers ≡ match_numbers t.game
       → FlatMoves (move_says (match_in s' g) (flag_in n) w (events_in old)) old bytes g numbers 0
-  move_told v bytes pb numbers pn = rw (← ps, ← pm, ← pe) (took m es t old g (move_says m (flag_in n) w es) q v bytes pb numbers pn)
+  move_told t v bytes pb numbers pn = rw (pb, pn, ← ps, ← pm, ← pe) (took old g (move_says m (flag_in n) w es) t (sym v ∙ q.answer))
 
-  pub move_refused : (k : Refusal) → t.verdict ≡ Refused k → (r : ℕ) → r ≡ refusal_number k → FlatMoves (move_says (match_in s' g) (flag_in n) w (events_in old)) old old g g r
-  move_refused k v r p = rw (← ps, ← pm, ← pe) (not_taken m es t old g (move_says m (flag_in n) w es) q k v r p)
+  pub move_refused : (k : Refusal) → a ≡ Err k → (r : ℕ) → r ≡ refusal_number k → FlatMoves (move_says (match_in s' g) (flag_in n) w (events_in old)) old old g g r
+  move_refused k v r p = rw (← ps, ← pm, ← pe) (not_taken old g (move_says m (flag_in n) w es) k (sym v ∙ q.answer) r p)
 
 -- ---- the places
 
-pub places_told : (s s' : Setting) (g : List ℕ) (m : Match) → m ≡ match_in s g → s ≡ s' → (r : List ℕ) → r ≡ places_of m → (old : List ℕ) → Tells whole (gives (places_of (match_in s' g))) old r 0
-places_told s s' g m pm ps r pr old = rw (← ps, ← pm, pr) (given whole (gives (places_of m)) old (places_of m) refl)
+pub places_told : (s s' : Setting) (g : List ℕ) (m : Match) → m ≡ match_in s g → s ≡ s' → (r : List ℕ) → r ≡ places_of m → (old : List ℕ) → Tells whole (Ok (places_of (match_in s' g))) old r 0
+places_told s s' g m pm ps r pr old = rw (← ps, ← pm, pr) (given whole (Ok (places_of m)) old (places_of m) refl)
 
 -- ---- laws for callers
 
@@ -58,7 +59,7 @@ pub move_named : (m : Match) (over : Bool) (w : List ℕ) (es : List Event) → 
 unfolding named
 move_named m over w es = go m.over
   where
-    go : (b : Bool) → named {A = Move} (refuses (by 33) if b else gives (record { game = moved m over es; events = events_shown m over w es })) ≡ true
+    go : (b : Bool) → named {A = Move} (Err Refusal.Over if b else Ok (record { game = moved m over es; events = events_shown m over w es })) ≡ true
     go true = refl
     go false = refl
 

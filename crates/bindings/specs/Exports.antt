@@ -1,7 +1,6 @@
 -- The promises of the exported calls: the refusal, every lent array and every word of the lent buffers, each an equation with the flat form of
 -- what the wrapped call says. old and new are lent memory before and after. Assumes nothing.
-use Rattle.std.specs.Prelude.{ℕ, Bool, false, List, [], ◌∷◌, ◌≡◌, Float, length}
-use Rattle.std.proofs.Math.Option.{Option, none, some}
+use Rattle.std.specs.Prelude.{ℕ, Bool, false, List, [], ◌∷◌, ◌≡◌, Float, length, Option, Some, None}
 use Rattle.lists.specs.Choice.{bit}
 use Rattle.rules.specs.Events.{eight}
 use Rattle.rules.specs.Image.{image_of}
@@ -9,7 +8,7 @@ use Rattle.rules.specs.Step.{Transition}
 use Rattle.rules.specs.View.{lit}
 use Rattle.rules.specs.Says.{Says, lent, Shape, box, discrete}
 use Rattle.rules.specs.Calls.{Draw}
-use Rattle.contents.specs.Calls.{Span}
+use Rattle.contents.specs.declared.Span.{Span}
 use Rattle.standing.specs.Calls.{Move}
 use Rattle.flat.specs.Flat.{events_bytes}
 use Rattle.flat.specs.Games.{match_numbers}
@@ -26,8 +25,8 @@ whole v = v
 
 -- whether there is a key, and the key
 abbrev pub key_numbers : Option ℕ → List ℕ
-key_numbers none = 0 ∷ 0 ∷ []
-key_numbers (some n) = 1 ∷ n ∷ []
+key_numbers None = 0 ∷ 0 ∷ []
+key_numbers (Some n) = 1 ∷ n ∷ []
 
 -- the legal actions are those below the number
 abbrev pub action_numbers : List ℕ → List ℕ

@@ -4,7 +4,6 @@ ghost use Rattle.book.specs.Calls.{write_says, page_says};
 ghost use Rattle.flat.specs.Flat.{setting_in};
 ghost use Rattle.bindings.specs.Exports.{whole, span_numbers, Tells, Writes};
 
-use contents::PageFound;
 use flat::{refusal_number, setting_in};
 use telling::tell_words;
 
@@ -19,9 +18,7 @@ pub extern "C" fn lundaspro_flat_write_book(
 ) -> u64
     ensures { Writes whole (write_says (setting_in setting.now) pages row.now (length out.old)) out.old out.new written.old written.new result }
 {
-    let s = setting_in(setting);
-    let a = book::write(s, pages, row, out);
-    tell_words(a, written)
+    tell_words(book::write(setting_in(setting), pages, row, out), written)
 }
 
 // Where the page lies in the book, a start and a length. Refusals 40, 41, 50 to 56, 21.
@@ -29,12 +26,11 @@ pub extern "C" fn lundaspro_flat_write_book(
 pub extern "C" fn lundaspro_flat_page(book: &[u16], page: u64, part: &mut [u64; 2]) -> u64
     ensures { Tells span_numbers (page_says book.now page) part.old part.new result }
 {
-    let a = book::page_in(book, page);
-    match a {
-        PageFound::Part { start, len } => {
-            *part = [start as u64, len as u64];
+    match book::page_in(book, page) {
+        Ok(found) => {
+            *part = [found.start as u64, found.len as u64];
             0
         }
-        PageFound::Refused(r) => refusal_number(r),
+        Err(r) => refusal_number(r),
     }
 }

@@ -5,7 +5,6 @@ ghost use Rattle.unit.specs.Calls.{outcome_says};
 ghost use Rattle.bindings.specs.Exports.{one, Tells, FlatDraws};
 
 use flat::refusal_number;
-use rules::Answer;
 use telling::tell_number;
 
 // How many outcomes. Refusals 50 to 56, 23, 28.
@@ -13,8 +12,7 @@ use telling::tell_number;
 pub extern "C" fn lundaspro_flat_count(image: &[u16], value: &mut [u64; 1]) -> u64
     ensures { Tells one (count_says image.now) value.old value.new result }
 {
-    let a = arena::count(image);
-    tell_number(a, value)
+    tell_number(arena::count(image), value)
 }
 
 // The words of the image, the cells of the list. Refusals 50 to 56, 23, 28, 27, 29.
@@ -28,14 +26,12 @@ pub extern "C" fn lundaspro_flat_draw(
 ) -> u64
     ensures { FlatDraws (draw_says image.now index (length out.old) (length list.old)) out.old out.new list.old list.new drawn.old drawn.new result }
 {
-    let a = arena::draw(image, index, out, list);
-    let answer = a.answer;
-    match answer {
-        Answer::Done(words) => {
-            *drawn = [words as u64, a.cells as u64];
+    match arena::draw(image, index, out, list) {
+        Ok(made) => {
+            *drawn = [made.words as u64, made.cells as u64];
             0
         }
-        Answer::Refused(r) => refusal_number(r),
+        Err(r) => refusal_number(r),
     }
 }
 
@@ -44,8 +40,7 @@ pub extern "C" fn lundaspro_flat_draw(
 pub extern "C" fn lundaspro_flat_rank(image: &[u16], list: &[u16], index: &mut [u64; 1]) -> u64
     ensures { Tells one (rank_says image.now list.now) index.old index.new result }
 {
-    let a = arena::rank(image, list);
-    tell_number(a, index)
+    tell_number(arena::rank(image, list), index)
 }
 
 // The index. Refusals 80, 81.
@@ -53,6 +48,5 @@ pub extern "C" fn lundaspro_flat_rank(image: &[u16], list: &[u16], index: &mut [
 pub extern "C" fn lundaspro_flat_outcome_of(count: u64, u: f64, index: &mut [u64; 1]) -> u64
     ensures { Tells one (outcome_says count u) index.old index.new result }
 {
-    let a = arena::outcome_of(count, u);
-    tell_number(a, index)
+    tell_number(arena::outcome_of(count, u), index)
 }

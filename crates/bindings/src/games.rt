@@ -1,5 +1,5 @@
 // The calls on a match as a value: nineteen numbers beside the setting, all 0 before the first move.
-ghost use Rattle.rules.specs.Says.{gives};
+ghost use Rattle.std.specs.Prelude.{Ok};
 ghost use Rattle.standing.specs.Calls.{move_says};
 ghost use Rattle.standing.specs.Standing.{places_of};
 ghost use Rattle.flat.specs.Flat.{flag_in, setting_in};
@@ -7,7 +7,6 @@ ghost use Rattle.flat.specs.Games.{events_in, match_in};
 ghost use Rattle.bindings.specs.Exports.{whole, Tells, FlatMoves};
 
 use flat::{events_bytes, events_in, match_in, match_numbers, refusal_number, setting_in};
-use rules::Verdict;
 
 // After a step: its end, the image that it wrote, its events, which are marked where max_ticks ends the match, and the match, which takes the move.
 // Refusal 33.
@@ -21,20 +20,14 @@ pub extern "C" fn lundaspro_flat_take_move(
 ) -> u64
     ensures { FlatMoves (move_says (match_in (setting_in setting.now) game.old) (flag_in terminal) image.now (events_in events.old)) events.old events.new game.old game.new result }
 {
-    let s = setting_in(setting);
-    let m = match_in(s, game);
-    let es = events_in(events);
-    let t = standing::take_move(m, terminal != 0, image, es);
-    let verdict = t.verdict;
-    match verdict {
-        Verdict::Accepted => {
-            let shown = t.events;
-            let after = t.game;
-            *events = events_bytes(shown);
-            *game = match_numbers(after);
+    let m = match_in(setting_in(setting), game);
+    match standing::take_move(m, terminal != 0, image, events_in(events)) {
+        Ok(taken) => {
+            *events = events_bytes(taken.events);
+            *game = match_numbers(taken.game);
             0
         }
-        Verdict::Refused(r) => refusal_number(r),
+        Err(r) => refusal_number(r),
     }
 }
 
@@ -45,10 +38,8 @@ pub extern "C" fn lundaspro_flat_places(
     game: &[u64; 19],
     places: &mut [u64; 8],
 ) -> u64
-    ensures { Tells whole (gives (places_of (match_in (setting_in setting.now) game.now))) places.old places.new result }
+    ensures { Tells whole (Ok (places_of (match_in (setting_in setting.now) game.now))) places.old places.new result }
 {
-    let s = setting_in(setting);
-    let m = match_in(s, game);
-    *places = standing::places(m);
+    *places = standing::places(match_in(setting_in(setting), game));
     0
 }

@@ -6,7 +6,6 @@ ghost use Rattle.flat.specs.Flat.{setting_in, hits_words};
 ghost use Rattle.bindings.specs.Exports.{refusal_of, FlatBody, Tells, Writes, FlatSteps};
 
 use flat::{bit, events_bytes, hits_words, refusal_number, setting_in};
-use rules::{Answer, Verdict};
 use telling::{tell_body, tell_words};
 
 // Refusals 50 to 56.
@@ -14,10 +13,9 @@ use telling::{tell_body, tell_words};
 pub extern "C" fn lundaspro_flat_check_image(image: &[u16]) -> u64
     ensures { result ≡ refusal_of (image_says image.now) }
 {
-    let a = arena::check_image(image);
-    match a {
-        Verdict::Accepted => 0,
-        Verdict::Refused(r) => refusal_number(r),
+    match arena::check_image(image) {
+        Ok(()) => 0,
+        Err(r) => refusal_number(r),
     }
 }
 
@@ -38,10 +36,9 @@ pub extern "C" fn lundaspro_flat_body(image: &[u16], snake: u64, part: &mut [u64
 pub extern "C" fn lundaspro_flat_validate(setting: &[u64; 9]) -> u64
     ensures { result ≡ refusal_of (setting_says (setting_in setting.now)) }
 {
-    let a = arena::validate(setting_in(setting));
-    match a {
-        Verdict::Accepted => 0,
-        Verdict::Refused(r) => refusal_number(r),
+    match arena::validate(setting_in(setting)) {
+        Ok(()) => 0,
+        Err(r) => refusal_number(r),
     }
 }
 
@@ -54,9 +51,7 @@ pub extern "C" fn lundaspro_flat_initial_state(
 ) -> u64
     ensures { Writes image_of (initial_says (setting_in setting.now) (length out.old)) out.old out.new written.old written.new result }
 {
-    let s = setting_in(setting);
-    let a = arena::initial_state(s, out);
-    tell_words(a, written)
+    tell_words(arena::initial_state(setting_in(setting), out), written)
 }
 
 // The eight events; how many words, and whether the match is over. Refusals 1 to 12, 50 to 56, 21, 22, 24, 25, 29.
@@ -71,17 +66,13 @@ pub extern "C" fn lundaspro_flat_step(
 ) -> u64
     ensures { FlatSteps (step_says (setting_in setting.now) image.now actions.now (length out.old)) out.old out.new events.old events.new end.old end.new result }
 {
-    let s = setting_in(setting);
-    let done = arena::step(s, image, actions, out);
-    let answer = done.answer;
-    match answer {
-        Answer::Done(words) => {
-            let told = done.events;
-            *events = events_bytes(told);
-            *end = [words as u64, bit(done.terminal)];
+    match arena::step(setting_in(setting), image, actions, out) {
+        Ok(made) => {
+            *events = events_bytes(made.events);
+            *end = [made.words as u64, bit(made.terminal)];
             0
         }
-        Answer::Refused(r) => refusal_number(r),
+        Err(r) => refusal_number(r),
     }
 }
 
@@ -95,15 +86,11 @@ pub extern "C" fn lundaspro_flat_struck(
 ) -> u64
     ensures { Tells hits_words (struck_says (setting_in setting.now) image.now actions.now) hits.old hits.new result }
 {
-    let s = setting_in(setting);
-    let done = arena::struck(s, image, actions);
-    let verdict = done.verdict;
-    match verdict {
-        Verdict::Accepted => {
-            let told = done.hits;
+    match arena::struck(setting_in(setting), image, actions) {
+        Ok(told) => {
             *hits = hits_words(told);
             0
         }
-        Verdict::Refused(r) => refusal_number(r),
+        Err(r) => refusal_number(r),
     }
 }

@@ -1,13 +1,13 @@
 // The calls on what an agent sees, may do and gets.
-ghost use Rattle.std.specs.Prelude.{◌≡◌, length};
+ghost use Rattle.std.specs.Prelude.{◌≡◌, length, Ok};
 ghost use Rattle.rules.specs.Headings.{number_of, heading_of, action_of, turned};
-ghost use Rattle.rules.specs.Says.{says_space, gives};
+ghost use Rattle.rules.specs.Says.{seen, shape_of};
 ghost use Rattle.rules.specs.Calls.{observe_says, actor_says, legal_says, key_says, truncation_says, reward_says, space_says, action_says};
 ghost use Rattle.flat.specs.Flat.{grid_in, weights_in, event_in, event_bytes};
 ghost use Rattle.bindings.specs.Exports.{one, whole, bit_number, key_numbers, action_numbers, Tells, Writes, FlatSpace};
 
 use flat::{event_bytes, event_in, grid_in, refusal_number, weights_in};
-use rules::{Actor, Heading, Legal, LengthCell, Reward, Space, Truncated};
+use rules::{Actor, Heading, Legal, Refusal, Space};
 use telling::tell_words;
 
 // How many numbers. Refusals 50 to 56, 26, 29.
@@ -20,32 +20,33 @@ pub extern "C" fn lundaspro_flat_observe(
 ) -> u64
     ensures { Writes whole (observe_says image.now agent (length obs.old)) obs.old obs.new written.old written.new result }
 {
-    let a = arena::observe(image, agent, obs);
-    tell_words(a, written)
+    tell_words(arena::observe(image, agent, obs), written)
 }
 
 // A space's five numbers and two bounds.
-fn tell_space(a: Space, sizes: &mut [u64; 5], bounds: &mut [f32; 2]) -> u64
-    ensures { FlatSpace (says_space a) sizes.old sizes.new bounds.old bounds.new result }
+fn tell_space(a: Result<Space, Refusal>, sizes: &mut [u64; 5], bounds: &mut [f32; 2]) -> u64
+    ensures { FlatSpace (seen shape_of a) sizes.old sizes.new bounds.old bounds.new result }
 {
     match a {
-        Space::Box {
-            planes,
-            rows,
-            cols,
-            low,
-            high,
-        } => {
+        Ok(
+            Space::Box {
+                planes,
+                rows,
+                cols,
+                low,
+                high,
+            },
+        ) => {
             *sizes = [0, 0, planes as u64, rows as u64, cols as u64];
             *bounds = [low, high];
             0
         }
-        Space::Discrete(n) => {
+        Ok(Space::Discrete(n)) => {
             *sizes = [1, n as u64, 0, 0, 0];
             *bounds = [0.0, 0.0];
             0
         }
-        Space::Refused(r) => refusal_number(r),
+        Err(r) => refusal_number(r),
     }
 }
 
@@ -58,8 +59,7 @@ pub extern "C" fn lundaspro_flat_observation_space(
 ) -> u64
     ensures { FlatSpace (space_says (grid_in grid)) sizes.old sizes.new bounds.old bounds.new result }
 {
-    let a = arena::observation_space(grid_in(grid));
-    tell_space(a, sizes, bounds)
+    tell_space(arena::observation_space(grid_in(grid)), sizes, bounds)
 }
 
 // Never refused.
@@ -67,8 +67,7 @@ pub extern "C" fn lundaspro_flat_observation_space(
 pub extern "C" fn lundaspro_flat_action_space(sizes: &mut [u64; 5], bounds: &mut [f32; 2]) -> u64
     ensures { FlatSpace action_says sizes.old sizes.new bounds.old bounds.new result }
 {
-    let a = arena::action_space();
-    tell_space(a, sizes, bounds)
+    tell_space(Ok(arena::action_space()), sizes, bounds)
 }
 
 // Whether there is a key, and the key. Refusals 50 to 56.
@@ -76,17 +75,16 @@ pub extern "C" fn lundaspro_flat_action_space(sizes: &mut [u64; 5], bounds: &mut
 pub extern "C" fn lundaspro_flat_length_cell(image: &[u16], key: &mut [u64; 2]) -> u64
     ensures { Tells key_numbers (key_says image.now) key.old key.new result }
 {
-    let a = arena::length_cell(image);
-    match a {
-        LengthCell::Key(n) => {
+    match arena::length_cell(image) {
+        Ok(Some(n)) => {
             *key = [1, n];
             0
         }
-        LengthCell::NoKey => {
+        Ok(None) => {
             *key = [0, 0];
             0
         }
-        LengthCell::Refused(r) => refusal_number(r),
+        Err(r) => refusal_number(r),
     }
 }
 
@@ -95,17 +93,16 @@ pub extern "C" fn lundaspro_flat_length_cell(image: &[u16], key: &mut [u64; 2]) 
 pub extern "C" fn lundaspro_flat_actor(image: &[u16], chance: &mut [u64; 1]) -> u64
     ensures { Tells bit_number (actor_says image.now) chance.old chance.new result }
 {
-    let a = arena::actor(image);
-    match a {
-        Actor::Chance => {
+    match arena::actor(image) {
+        Ok(Actor::Chance) => {
             *chance = [1];
             0
         }
-        Actor::Simultaneous => {
+        Ok(Actor::Simultaneous) => {
             *chance = [0];
             0
         }
-        Actor::Refused(r) => refusal_number(r),
+        Err(r) => refusal_number(r),
     }
 }
 
@@ -118,17 +115,16 @@ pub extern "C" fn lundaspro_flat_legal_actions(
 ) -> u64
     ensures { Tells action_numbers (legal_says image.now agent) actions.old actions.new result }
 {
-    let a = arena::legal_actions(image, agent);
-    match a {
-        Legal::AnyAction => {
+    match arena::legal_actions(image, agent) {
+        Ok(Legal::AnyAction) => {
             *actions = [3];
             0
         }
-        Legal::NoAction => {
+        Ok(Legal::NoAction) => {
             *actions = [0];
             0
         }
-        Legal::Refused(r) => refusal_number(r),
+        Err(r) => refusal_number(r),
     }
 }
 
@@ -142,14 +138,12 @@ pub extern "C" fn lundaspro_flat_truncation(
 ) -> u64
     ensures { Tells event_bytes (truncation_says image.now agent (event_in event.now)) marked.old marked.new result }
 {
-    let e = event_in(event);
-    let a = arena::truncation(image, agent, e);
-    match a {
-        Truncated::Marked(m) => {
-            *marked = event_bytes(m);
+    match arena::truncation(image, agent, event_in(event)) {
+        Ok(told) => {
+            *marked = event_bytes(told);
             0
         }
-        Truncated::Refused(r) => refusal_number(r),
+        Err(r) => refusal_number(r),
     }
 }
 
@@ -162,15 +156,12 @@ pub extern "C" fn lundaspro_flat_reward(
 ) -> u64
     ensures { Tells one (reward_says (weights_in weights.now) (event_in event.now)) sum.old sum.new result }
 {
-    let w = weights_in(weights);
-    let e = event_in(event);
-    let a = arena::reward(w, e);
-    match a {
-        Reward::Sum(x) => {
+    match arena::reward(weights_in(weights), event_in(event)) {
+        Ok(x) => {
             *sum = [x];
             0
         }
-        Reward::Refused(r) => refusal_number(r),
+        Err(r) => refusal_number(r),
     }
 }
 
@@ -192,11 +183,9 @@ pub extern "C" fn lundaspro_flat_relative_to_absolute(
     action: u64,
     after: &mut [u64; 1],
 ) -> u64
-    ensures { Tells one (gives (number_of (turned (heading_of heading) (action_of action)))) after.old after.new result }
+    ensures { Tells one (Ok (number_of (turned (heading_of heading) (action_of action)))) after.old after.new result }
 {
-    let h = heading_in(heading);
-    let a = grid::action_of(action);
-    let to = arena::relative_to_absolute(h, a);
+    let to = arena::relative_to_absolute(heading_in(heading), grid::action_of(action));
     *after = [image::number_of(to) as u64];
     0
 }

@@ -1,5 +1,5 @@
 // The calls on a match as a value: nineteen numbers beside the setting, all 0 before the first move.
-ghost use Rattle.rules.specs.Says.{gives};
+ghost use Rattle.std.specs.Prelude.{Ok};
 ghost use Rattle.standing.specs.Calls.{move_says};
 ghost use Rattle.standing.specs.Standing.{places_of};
 ghost use Rattle.flat.specs.Flat.{flag_in, setting_in};
@@ -28,7 +28,7 @@ pub extern "C" fn lundaspro_flat_places(
     game: &[u64; 19],
     places: &mut [u64; 8],
 ) -> u64
-    ensures { Tells whole (gives (places_of (match_in (setting_in setting.now) game.now))) places.old places.new result }
+    ensures { Tells whole (Ok (places_of (match_in (setting_in setting.now) game.now))) places.old places.new result }
 {
     bindings::lundaspro_flat_places(setting, game, places)
 }

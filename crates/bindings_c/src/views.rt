@@ -1,7 +1,6 @@
 // The calls on what an agent sees, may do and gets.
-ghost use Rattle.std.specs.Prelude.{◌≡◌, length};
+ghost use Rattle.std.specs.Prelude.{◌≡◌, length, Ok};
 ghost use Rattle.rules.specs.Headings.{number_of, heading_of, action_of, turned};
-ghost use Rattle.rules.specs.Says.{says_space, gives};
 ghost use Rattle.rules.specs.Calls.{observe_says, actor_says, legal_says, key_says, truncation_says, reward_says, space_says, action_says};
 ghost use Rattle.flat.specs.Flat.{grid_in, weights_in, event_in, event_bytes};
 ghost use Rattle.bindings.specs.Exports.{one, whole, bit_number, key_numbers, action_numbers, Tells, Writes, FlatSpace};
@@ -99,7 +98,7 @@ pub extern "C" fn lundaspro_flat_relative_to_absolute(
     action: u64,
     after: &mut [u64; 1],
 ) -> u64
-    ensures { Tells one (gives (number_of (turned (heading_of heading) (action_of action)))) after.old after.new result }
+    ensures { Tells one (Ok (number_of (turned (heading_of heading) (action_of action)))) after.old after.new result }
 {
     bindings::lundaspro_flat_relative_to_absolute(heading, action, after)
 }

@@ -3,18 +3,16 @@ use Prim.Native.Nat.{ℕ}
 use mathlib.Core.Path.{◌≡◌, sym, ◌∙◌}
 use mathlib.Core.List.{List}
 use denote.Ref.{Bor}
-use Rattle.rules.specs.declared.Answer.{Answer}
 use Rattle.rules.specs.declared.Setting.{Setting}
-use Rattle.rules.proofs.Answers.{answer_one}
-use Rattle.contents.specs.declared.PageFound.{PageFound}
-use Rattle.contents.proofs.Answers.{found_one}
+use Rattle.contents.specs.declared.Span.{Span}
 use Rattle.book.specs.Promises.{Writes, Pages, Hands}
+use Rattle.rules.specs.Says.{Says}
 
-pub one_write : (s : Setting) (p : ℕ) (row old new other : List ℕ) (r q : Answer) → Writes s p row old new r → Writes s p row old other q → (r ≡ q) × (new ≡ other)
-one_write s p row old new other r q a b = (answer_one r q (a.answer ∙ sym b.answer), a.words ∙ sym b.words)
+pub one_write : (s : Setting) (p : ℕ) (row old new other : List ℕ) (r q : Says ℕ) → Writes s p row old new r → Writes s p row old other q → (r ≡ q) × (new ≡ other)
+one_write s p row old new other r q a b = ((a.answer ∙ sym b.answer), a.words ∙ sym b.words)
 
-pub one_page : (b : List ℕ) (i : ℕ) (r q : PageFound) → Pages b i r → Pages b i q → r ≡ q
-one_page b i r q a c = found_one r q (a.answer ∙ sym c.answer)
+pub one_page : (b : List ℕ) (i : ℕ) (r q : Says Span) → Pages b i r → Pages b i q → r ≡ q
+one_page b i r q a c = a.answer ∙ sym c.answer
 
 -- two parts that reading hands back have equal words at one address
 pub one_read : (book r q : Bor (List ℕ)) (i : ℕ) → Hands book i r → Hands book i q → (r.now ≡ q.now) × (r.ref_ptr ≡ q.ref_ptr)

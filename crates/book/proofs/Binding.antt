@@ -1,4 +1,5 @@
 -- Pages that make a book: its contents are accepted, each page is read again, and writing them gives it. Assumes nothing.
+use Rattle.std.specs.Prelude.{Ok}
 use Prim.Native.Nat.{ℕ, zero, suc, ◌+◌, ◌*◌, ◌-◌, ◌<◌, ◌≤◌}
 use native.Mathlib.Nat.{min-eq_left}
 use native.Mathlib.Omega.{arith}
@@ -11,20 +12,19 @@ use lib.Seq.{take-append_seam, length-take-le}
 use borrow.Author.Tests.{le-ltb, le-leb}
 use Rattle.lists.specs.Below.{sum_below, concat_below}
 use Rattle.lists.specs.Lists.{all}
-use Rattle.rules.specs.Tables.{Table, none_hold, by}
+use Rattle.rules.specs.Tables.{Table, none_hold}
 use Rattle.lists.proofs.Below.{sum_ext, concat_mono, concat_ext}
 use Rattle.lists.proofs.Concat.{block_drop, behind}
 use Rattle.lists.proofs.Lists.{all_append}
 use Rattle.lists.proofs.Tests.{both}
 use Rattle.rules.specs.Facts.{Sound}
 use Rattle.rules.specs.Image.{word, front as image_front, snakes_in, length_at, long_enough, well_formed}
-use Rattle.rules.specs.Says.{gives}
 use Rattle.rules.specs.declared.Setting.{Setting}
 use Rattle.rules.proofs.Facts.{sound}
 use Rattle.rules.proofs.Tables.{fault_none, table_gives, table_given}
 use Rattle.rules.proofs.Faults.{none_after}
 use Rattle.rules.specs.Setting.{setting_order, setting_check}
-use Rattle.rules.specs.declared.Refusal.{Refusal}
+use Rattle.rules.specs.declared.refusal.Refusal.{Refusal}
 use Rattle.contents.specs.Settings.{pair_words, setting_words}
 use Rattle.contents.specs.Contents.{front, start_of, starts_of, contents_of, pages_in, start_in}
 use Rattle.book.specs.Book.{book_of}
@@ -40,6 +40,7 @@ use Rattle.contents.proofs.Clear.{clear}
 use Rattle.book.proofs.Bound.{bound_pages, bound_one, bound_last, bound_lead, bound_ticks, bound_setting, bound_start, start_step, bound_long, bound_end, bound_page}
 use Rattle.book.proofs.Booked.{asked_accepted, asked_few, asked_none, asked_fits, write_says_lem}
 use Rattle.book.proofs.RowLaws.{halves, told_by, blocks_none, rows, row_formed, row_same}
+use Rattle.rules.specs.declared.refusal.Refusal.TheVariants as Refusal
 
 -- page 0 starts right after the contents
 start_zero : (p : ℕ) (f : ℕ → List ℕ) → start_of p f 0 ≡ front p
@@ -93,7 +94,7 @@ module _ (s : Setting) (p : ℕ) (f : ℕ → List ℕ) (ok : Bindable s p f) wh
   unfolding all
   page_passes i h = none_after (f i) _ (ok.formed i h) (rw (ok.same i h))
 
-  pub bound_reads : (i : ℕ) → i < p → page_says book i ≡ gives (record { start = start_of p f i; len = length (f i) })
+  pub bound_reads : (i : ℕ) → i < p → page_says book i ≡ Ok (record { start = start_of p f i; len = length (f i) })
   bound_reads i h =
       let n : start_of p f (1 + i) - start_of p f i ≡ length (f i) = omega (arith, start_step s p f i) in
       past_41 book i bound_opens (rw (bound_pages s p f) h)
@@ -191,16 +192,16 @@ module _ (s : Setting) (p : ℕ) (f : ℕ → List ℕ) (ok : Bindable s p f) wh
 
   line_asked : AskedNone s p line
   unfolding asked_order setting_check all
-  line_asked = record { none = join (setting_order s) ((by 42, ltb 65535 p) ∷ row_order s p line) (fault_none (setting_order s) refl ok.accepted) (rw (le-ltb 65535 p ok.few) line_none) }
+  line_asked = record { none = join (setting_order s) ((Refusal.Pages, ltb 65535 p) ∷ row_order s p line) (fault_none (setting_order s) ok.accepted) (rw (le-ltb 65535 p ok.few) line_none) }
 
-  pub line_writes : (room : ℕ) → length (book_of s p f) ≤ room → write_says s p line room ≡ gives (book_of s p f)
+  pub line_writes : (room : ℕ) → length (book_of s p f) ≤ room → write_says s p line room ≡ Ok (book_of s p f)
   line_writes room h =
       let e : book_of s p (row_page line) ≡ book_of s p f = book_same s p (row_page line) f line_pages in
       write_says_lem s p line line_asked room ∙ rw (e, le-ltb room (length (book_of s p f)) h)
 
 -- ---- what writing gives
 
-module _ (s : Setting) (p : ℕ) (row : List ℕ) (room : ℕ) (b : List ℕ) (e : write_says s p row room ≡ gives b) where
+module _ (s : Setting) (p : ℕ) (row : List ℕ) (room : ℕ) (b : List ℕ) (e : write_says s p row room ≡ Ok b) where
   table : (none_hold (write_order s p row room) ≡ true) × (book_of s p (row_page row) ≡ b)
   unfolding write_says
   table = table_given (write_order s p row room) (book_of s p (row_page row)) b e

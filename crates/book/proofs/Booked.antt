@@ -1,8 +1,9 @@
 -- What writing says by the tests made so far, and the words that it writes. Assumes nothing.
+use Rattle.std.specs.Prelude.{Ok, Err}
 use Prim.Native.Nat.{ℕ, ◌+◌, ◌*◌, ◌<◌, ◌≤◌}
 use native.Mathlib.Omega.{arith}
 use mathlib.Core.Path.{◌≡◌, refl, sym, ap, ◌∙◌}
-use mathlib.Core.Bool.{Bool, true, false, not, false≢true}
+use mathlib.Core.Bool.{Bool, true, false, not}
 use mathlib.Core.List.{List, [], ◌∷◌, ◌++◌}
 use lib.Dec.{ltb}
 use lib.ListN.{length, length-append}
@@ -10,20 +11,17 @@ use borrow.Author.Tests.{lt-ltb, le-ltb, ltb-false}
 use Rattle.lists.specs.Choice.{◌if◌else◌}
 use Rattle.lists.specs.Below.{concat_below}
 use Rattle.lists.specs.Lists.{all, write_at, over_front}
-use Rattle.rules.specs.Tables.{Table, fault, none_hold, by}
+use Rattle.rules.specs.Tables.{Table, none_hold}
 use Rattle.lists.proofs.Concat.{blocks_long}
-use Rattle.rules.proofs.Tables.{and_then, row_out, table_gives, table_after, table_given}
-use Rattle.lists.proofs.Tests.{and_left, and_right}
+use Rattle.rules.proofs.Tables.{and_then, row_out, none_fault, table_gives, table_after, table_given}
+use Rattle.lists.proofs.Tests.{and_right}
 use Rattle.lists.proofs.Writes.{write_more, write_front}
-use Rattle.rules.specs.Says.{refuses, gives, by_table, says_verdict}
+use Rattle.rules.specs.Says.{Says, by_table}
 use Rattle.rules.specs.Calls.{setting_says}
 use Rattle.rules.specs.Setting.{setting_order, setting_check}
 use Rattle.rules.specs.Promises.{Validates}
-use Rattle.rules.specs.declared.Answer.TheVariants.{Done, Refused as RefusedAnswer}
 use Rattle.rules.specs.declared.Setting.{Setting}
-use Rattle.rules.specs.declared.Verdict.{Verdict}
-use Rattle.rules.specs.declared.Verdict.TheVariants.{Accepted, Refused}
-use Rattle.rules.specs.declared.Refusal.{Refusal}
+use Rattle.rules.specs.declared.refusal.Refusal.{Refusal}
 use Rattle.contents.specs.Settings.{pair_words, setting_words}
 use Rattle.contents.specs.Contents.{front, start_of, starts_of, contents_of}
 use Rattle.book.specs.Book.{book_of}
@@ -35,43 +33,34 @@ use Rattle.book.specs.Calls.{write_says}
 use Rattle.book.specs.Promises.{Writes}
 use Rattle.contents.proofs.Laying.{setting_wordy}
 use Rattle.book.proofs.RowLaws.{halves, row_fits, pages_all}
-
--- where no row holds, no number is found
-pub none_fault : (t : Table) → none_hold t ≡ true → fault t ≡ 0
-unfolding fault all
-none_fault [] h = refl
-none_fault (e ∷ es) h = go e.0.number e.1 (and_left _ _ h) (none_fault es (and_right (not e.1) _ h))
-  where
-    go : (n : ℕ) (t : Bool) → not t ≡ true → fault es ≡ 0 → (n if t else fault es) ≡ 0
-    go n true z q = absurd (false≢true z)
-    go n false z q = q
+use Rattle.rules.specs.declared.refusal.Refusal.TheVariants as Refusal
 
 -- ---- every refusal but 29: v is the verdict on the setting
 
 module _ (s : Setting) (p : ℕ) (row : List ℕ) where
   abbrev later : Table
-  later = (by 42, ltb 65535 p) ∷ row_order s p row
+  later = (Refusal.Pages, ltb 65535 p) ∷ row_order s p row
 
-  asked_parts : by_table (asked_order s p row) (gives (tt {0})) ≡ and_then (setting_says s) (by_table later (gives (tt {0})))
+  asked_parts : by_table (asked_order s p row) (Ok (tt {0})) ≡ and_then (setting_says s) (by_table later (Ok (tt {0})))
   unfolding asked_order setting_says
-  asked_parts = table_after (setting_order s) later (gives (tt {0}))
+  asked_parts = table_after (setting_order s) later (Ok (tt {0}))
 
-  module _ (v : Verdict) (q : Validates s v) where
-    by_setting : by_table (asked_order s p row) (gives (tt {0})) ≡ and_then (says_verdict v) (by_table later (gives (tt {0})))
+  module _ (v : Says (Unit {0})) (q : Validates s v) where
+    by_setting : by_table (asked_order s p row) (Ok (tt {0})) ≡ and_then v (by_table later (Ok (tt {0})))
     by_setting = asked_parts ∙ rw (← q.answer)
 
-    pub asked_setting : (k : Refusal) → v ≡ Refused k → Asked s p row v
-    asked_setting k e = record { says = ap says_verdict e ∙ sym (by_setting ∙ rw e) }
+    pub asked_setting : (k : Refusal) → v ≡ Err k → Asked s p row (Err k)
+    asked_setting k e = record { says = sym (by_setting ∙ rw e) }
 
-    module _ (e : v ≡ Accepted) where
-      past_setting : by_table (asked_order s p row) (gives (tt {0})) ≡ by_table later (gives (tt {0}))
+    module _ (e : v ≡ Ok tt) where
+      past_setting : by_table (asked_order s p row) (Ok (tt {0})) ≡ by_table later (Ok (tt {0}))
       past_setting = by_setting ∙ rw e
 
-      pub asked_42 : 65535 < p → (x : Refusal) → x ≡ by 42 → Asked s p row (Refused x)
+      pub asked_42 : 65535 < p → Asked s p row (Err Refusal.Pages)
       unfolding by_table
-      asked_42 h x z = record { says = ap refuses z ∙ sym (past_setting ∙ rw (lt-ltb 65535 p h)) }
+      asked_42 h = record { says = sym (past_setting ∙ rw (lt-ltb 65535 p h)) }
 
-      pub asked_row : p ≤ 65535 → (r : Verdict) → RowChecks s p row r → Asked s p row r
+      pub asked_row : p ≤ 65535 → (r : Says (Unit {0})) → RowChecks s p row r → Asked s p row r
       unfolding by_table
       asked_row h r f = record { says = f.says ∙ sym (past_setting ∙ rw (le-ltb 65535 p h)) }
 
@@ -95,9 +84,9 @@ module _ (s : Setting) (p : ℕ) (row : List ℕ) where
     asked_fits = row_fits s p row asked_none asked_few
 
 -- none refuses
-module _ (s : Setting) (p : ℕ) (row : List ℕ) (v : Verdict) (a : Asked s p row v) (e : v ≡ Accepted) where
+module _ (s : Setting) (p : ℕ) (row : List ℕ) (v : Says (Unit {0})) (a : Asked s p row v) (e : v ≡ Ok tt) where
   pub none_asked : AskedNone s p row
-  none_asked = record { none = (table_given (asked_order s p row) tt tt (sym a.says ∙ ap says_verdict e)).0 }
+  none_asked = record { none = (table_given (asked_order s p row) tt tt (sym a.says ∙ e)).0 }
 
   pub none_wordy : Wordy s
   none_wordy = setting_wordy s (asked_accepted s p row none_asked)
@@ -146,29 +135,29 @@ module _ (s : Setting) (p : ℕ) (row : List ℕ) where
 
 module _ (s : Setting) (p : ℕ) (row : List ℕ) where
   -- every other refusal, and then the room
-  write_parts : (room : ℕ) → write_says s p row room ≡ and_then (by_table (asked_order s p row) (gives (tt {0}))) (refuses (by 29) if ltb room (length (book s p row)) else gives (book s p row))
+  write_parts : (room : ℕ) → write_says s p row room ≡ and_then (by_table (asked_order s p row) (Ok (tt {0}))) (Err Refusal.Buffer if ltb room (length (book s p row)) else Ok (book s p row))
   unfolding write_says write_order by_table
-  write_parts room = table_after (asked_order s p row) ((by 29, ltb room (length (book s p row))) ∷ []) (gives (book s p row))
+  write_parts room = table_after (asked_order s p row) ((Refusal.Buffer, ltb room (length (book s p row))) ∷ []) (Ok (book s p row))
 
   -- where none refuses, the room alone
-  pub write_says_lem : AskedNone s p row → (room : ℕ) → write_says s p row room ≡ (refuses (by 29) if ltb room (length (book s p row)) else gives (book s p row))
-  write_says_lem a room = write_parts room ∙ rw (table_gives (asked_order s p row) (gives (tt {0})) a.none)
+  pub write_says_lem : AskedNone s p row → (room : ℕ) → write_says s p row room ≡ (Err Refusal.Buffer if ltb room (length (book s p row)) else Ok (book s p row))
+  write_says_lem a room = write_parts room ∙ rw (table_gives (asked_order s p row) (Ok (tt {0})) a.none)
 
   module _ (old : List ℕ) where
-    pub writes_refused : (v : Verdict) → Asked s p row v → (k : Refusal) → v ≡ Refused k → Writes s p row old old (RefusedAnswer k)
+    pub writes_refused : (v : Says (Unit {0})) → Asked s p row v → (k : Refusal) → v ≡ Err k → Writes s p row old old (Err k)
     writes_refused v a k z =
-        let e : write_says s p row (length old) ≡ refuses k = write_parts (length old) ∙ rw (← a.says, z) in
+        let e : write_says s p row (length old) ≡ Err k = write_parts (length old) ∙ rw (← a.says, z) in
         record { answer = rw e; words = rw e }
 
     module _ (a : AskedNone s p row) (f : RowFits p row) where
-      by_room : (t : Bool) → ltb (length old) (17 + 2 * p + length row) ≡ t → write_says s p row (length old) ≡ (refuses (by 29) if t else gives (book s p row))
+      by_room : (t : Bool) → ltb (length old) (17 + 2 * p + length row) ≡ t → write_says s p row (length old) ≡ (Err Refusal.Buffer if t else Ok (book s p row))
       by_room t e = write_says_lem a (length old) ∙ rw (book_words s p row f, e)
 
-      pub writes_29 : length old < 17 + 2 * p + length row → (k : Refusal) → k ≡ by 29 → Writes s p row old old (RefusedAnswer k)
-      writes_29 h k z = let e = by_room true (lt-ltb _ _ h) in record { answer = rw (e, z); words = rw e }
+      pub writes_29 : length old < 17 + 2 * p + length row → Writes s p row old old (Err Refusal.Buffer)
+      writes_29 h = let e = by_room true (lt-ltb _ _ h) in record { answer = rw e; words = rw e }
 
       pub writes_done : 17 + 2 * p + length row ≤ length old → (mid new : List ℕ) → ContentsWritten s p row old mid → new ≡ write_at mid (17 + 2 * p) row
-          → Writes s p row old new (Done (17 + 2 * p + length row))
+          → Writes s p row old new (Ok (17 + 2 * p + length row))
       writes_done h mid new c e =
           let z = by_room false (le-ltb _ _ h) in
           let k : 17 + 2 * p ≡ 0 + length (contents_of s p (row_page row)) = omega (arith, contents_long s p (row_page row)) in

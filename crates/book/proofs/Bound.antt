@@ -1,4 +1,5 @@
 -- A book that is bound of pages, read again: its setting, its starts, its pages. Assumes nothing.
+use Rattle.std.specs.Prelude.{Option, Some, None}
 use Prim.Native.Nat.{ℕ, ◌+◌, ◌*◌, ◌-◌, ◌/◌, ◌%◌, ◌<◌, ◌≤◌}
 use native.Mathlib.Omega.{arith}
 use mathlib.Core.Path.{◌≡◌, refl, sym, ap, ◌∙◌}
@@ -12,8 +13,6 @@ use Rattle.lists.proofs.Concat.{block_drop, behind, blocks_long}
 use Rattle.lists.proofs.Tests.{ordered, less, more, bit_le}
 use Rattle.rules.specs.Image.{word}
 use Rattle.rules.specs.Setting.{setting_check}
-use Rattle.rules.specs.declared.Limit.{Limit}
-use Rattle.rules.specs.declared.Limit.TheVariants.{Unset, Is}
 use Rattle.rules.specs.declared.Setting.{Setting}
 use Rattle.rules.proofs.Image.{bit_back}
 use Rattle.rules.proofs.SettingFacts.{accepts}
@@ -36,14 +35,14 @@ pair_back k = omega arith
 pub four_back : (k : ℕ) → four_at (four_words k) 0 ≡ k
 four_back k = omega arith
 
-pub limit_back : (l : Limit) → limit_at (limit_words l) 0 ≡ l
-limit_back Unset = refl
-limit_back (Is k) = ap Is (four_back k)
+pub limit_back : (l : Option ℕ) → limit_at (limit_words l) 0 ≡ l
+limit_back None = refl
+limit_back (Some k) = ap Some (four_back k)
 
 -- what limits write is never off the layout
-limit_on : (l : Limit) → limit_off (limit_words l) 0 ≡ false
-limit_on Unset = refl
-limit_on (Is k) = refl
+limit_on : (l : Option ℕ) → limit_off (limit_words l) 0 ≡ false
+limit_on None = refl
+limit_on (Some k) = refl
 
 module _ (s : Setting) (p : ℕ) (f : ℕ → List ℕ) where
   abbrev book : List ℕ

@@ -1,24 +1,26 @@
 -- What reading a page says, by the tests made so far: what is found by the contents, then the faults and 21 for that page. Assumes nothing.
+use Rattle.std.specs.Prelude.{Ok, Err}
 use Prim.Native.Nat.{ℕ, ◌+◌, ◌<◌, ◌≤◌}
 use native.Mathlib.Omega.{arith}
 use mathlib.Core.Path.{◌≡◌, refl, sym, ap, ◌∙◌}
-use mathlib.Core.Bool.{Bool, true, false, not}
+use mathlib.Core.Bool.{Bool, true, false}
 use Rattle.lists.specs.Choice.{◌if◌else◌}
 use mathlib.Core.List.{List, [], ◌∷◌, append-nil}
 use lib.ListN.{length, take, drop}
 use denote.Ref.{Bor}
-use borrow.Author.Tests.{not-true, not-false}
-use Rattle.rules.specs.Tables.{Table, none_hold, by}
+use Rattle.rules.specs.Tables.{Table, none_hold}
 use Rattle.rules.proofs.Tables.{and_then, row_out, table_both, table_after, table_given}
-use Rattle.rules.proofs.Faults.{image_on, image_out, rows_formed, rows_after}
+use Rattle.rules.proofs.Faults.{no_fault, rows_formed, rows_after}
 use Rattle.rules.specs.Image.{well_formed}
 use Rattle.rules.specs.Orders.{differs}
-use Rattle.rules.specs.Promises.{Checks, Faulty}
-use Rattle.rules.specs.Says.{Says, refuses, gives, says_verdict, by_table}
+use Rattle.rules.specs.Promises.{Examines}
+use Rattle.rules.specs.Facts.{Sound}
+use Rattle.rules.specs.Faults.{image_rows}
+use Rattle.rules.specs.Calls.{image_says}
+use Rattle.rules.proofs.Facts.{sound}
+use Rattle.rules.specs.Says.{Says, by_table}
 use Rattle.rules.specs.declared.Setting.{Setting}
-use Rattle.rules.specs.declared.Refusal.{Refusal}
-use Rattle.rules.specs.declared.Verdict.{Verdict}
-use Rattle.rules.specs.declared.Verdict.TheVariants.{Accepted as Fits, Refused as RefusedVerdict}
+use Rattle.rules.specs.declared.refusal.Refusal.{Refusal}
 use Rattle.contents.specs.Settings.{setting_in}
 use Rattle.contents.specs.Contents.{pages_in}
 use Rattle.book.specs.Book.{page_in}
@@ -26,99 +28,109 @@ use Rattle.contents.specs.Orders.{find_order}
 use Rattle.book.specs.Orders.{page_rows, read_order}
 use Rattle.contents.specs.Accepted.{Accepted}
 use Rattle.book.specs.Read.{PageChecks, Cut}
-use Rattle.contents.specs.Calls.{Span, span_in, find_says, says_page}
+use Rattle.contents.specs.Calls.{span_in, find_says}
+use Rattle.contents.specs.declared.Span.{Span}
 use Rattle.book.specs.Calls.{page_says, then_read}
 use Rattle.contents.specs.Promises.{Finds}
 use Rattle.book.specs.Promises.{Pages, Hands}
-use Rattle.contents.specs.declared.PageFound.{PageFound}
-use Rattle.contents.specs.declared.PageFound.TheVariants.{Part, Refused}
-use Rattle.contents.proofs.Finding.{found, find_is, find_opens, find_counted, find_inside, part_given}
-
--- ---- the faults and 21 of an image
-
-module _ (s : Setting) (w : List ℕ) (t : Bool) (q : Checks w t) where
-  pub page_faulty : not t ≡ true → (x : Refusal) → Faulty w x → PageChecks s w (RefusedVerdict x)
-  page_faulty h x f = record { says = image_out w _ (gives (tt {0})) (sym q.answer ∙ not-true t h) x f }
-
-  module _ (h : not t ≡ false) (u : Bool) (d : u ≡ differs s w) where
-    past_image : by_table (page_rows s w) (gives (tt {0})) ≡ (refuses (by 21) if differs s w else gives (tt {0}))
-    unfolding by_table
-    past_image = image_on w _ (gives (tt {0})) (sym q.answer ∙ not-false t h)
-
-    pub page_21 : u ≡ true → (x : Refusal) → x ≡ by 21 → PageChecks s w (RefusedVerdict x)
-    page_21 e x z = record { says = ap refuses z ∙ sym (past_image ∙ rw (sym d ∙ e)) }
-
-    pub page_fits : u ≡ false → PageChecks s w Fits
-    page_fits e = record { says = sym (past_image ∙ rw (sym d ∙ e)) }
+use Rattle.contents.proofs.Finding.{found, find_is, find_opens, find_counted, find_inside}
+use Rattle.rules.specs.declared.refusal.Refusal.TheVariants as Refusal
 
 -- a whole table by its verdict alone
-pub table_verdict : {A : Type 0} (t : Table) (r : Says A) → by_table t r ≡ and_then (by_table t (gives (tt {0}))) r
+pub table_verdict : {A : Type 0} (t : Table) (r : Says A) → by_table t r ≡ and_then (by_table t (Ok (tt {0}))) r
 unfolding by_table
 table_verdict t r = ap (λ (l : Table). by_table l r) (sym (append-nil t)) ∙ table_after t [] r
+
+-- ---- the faults and 21 of an image: v is its verdict
+
+module _ (s : Setting) (w : List ℕ) (v : Says (Unit {0})) (q : Examines w v) where
+  by_image : by_table (page_rows s w) (Ok (tt {0})) ≡ and_then v (Err Refusal.OtherSetting if differs s w else Ok (tt {0}))
+  unfolding by_table image_says
+  by_image = table_after (image_rows w) ((Refusal.OtherSetting, differs s w) ∷ []) (Ok (tt {0})) ∙ rw (← q.answer)
+
+  pub page_faulty : (k : Refusal) → v ≡ Err k → PageChecks s w (Err k)
+  page_faulty k e = record { says = sym (by_image ∙ rw e) }
+
+  module _ (e : v ≡ Ok tt) where
+    pub page_sound : Sound w
+    unfolding image_says
+    page_sound = sound w (sym (no_fault w) ∙ (table_given (image_rows w) tt tt (sym q.answer ∙ e)).0)
+
+    pub page_21 : differs s w ≡ true → PageChecks s w (Err Refusal.OtherSetting)
+    page_21 d = record { says = sym (by_image ∙ rw (e, d)) }
+
+    pub page_fits : differs s w ≡ false → PageChecks s w (Ok tt)
+    page_fits d = record { says = sym (by_image ∙ rw (e, d)) }
 
 -- ---- a page is found, and then read
 
 -- the table of reading is that of finding, and the page's rows after it
-into : (b : List ℕ) (t : Table) (q : Span) → by_table t (then_read b (gives q)) ≡ then_read b (by_table t (gives q))
+into : (b : List ℕ) (t : Table) (q : Span) → by_table t (then_read b (Ok q)) ≡ then_read b (by_table t (Ok q))
 unfolding by_table
 into b [] q = refl
 into b (e ∷ es) q = go e.1 (into b es q)
   where
-    go : (t : Bool) → by_table es (then_read b (gives q)) ≡ then_read b (by_table es (gives q))
-        → (refuses e.0 if t else by_table es (then_read b (gives q))) ≡ then_read b (refuses e.0 if t else by_table es (gives q))
+    go : (t : Bool) → by_table es (then_read b (Ok q)) ≡ then_read b (by_table es (Ok q))
+        → (Err e.0 if t else by_table es (then_read b (Ok q))) ≡ then_read b (Err e.0 if t else by_table es (Ok q))
     go true z = refl
     go false z = z
 
 pub page_says_lem : (b : List ℕ) (i : ℕ) → page_says b i ≡ then_read b (find_says b (length b) i)
 unfolding page_says find_says read_order page_in
-page_says_lem b i = table_both (find_order b (length b) i) _ (gives (span_in b (length b) i)) ∙ into b (find_order b (length b) i) (span_in b (length b) i)
+page_says_lem b i = table_both (find_order b (length b) i) _ (Ok (span_in b (length b) i)) ∙ into b (find_order b (length b) i) (span_in b (length b) i)
 
 -- the page of accepted contents
 pub past_41 : (b : List ℕ) (i : ℕ) → Accepted b (length b) → i < pages_in b
-    → page_says b i ≡ by_table (page_rows (setting_in b) (page_in b i)) (gives (span_in b (length b) i))
+    → page_says b i ≡ by_table (page_rows (setting_in b) (page_in b i)) (Ok (span_in b (length b) i))
 unfolding page_in
 past_41 b i a h = page_says_lem b i ∙ rw (found b (length b) i a h)
 
-module _ (b : List ℕ) (i : ℕ) (r : PageFound) (f : Finds b (length b) i r) where
+module _ (b : List ℕ) (i : ℕ) (r : Says Span) (f : Finds b (length b) i r) where
   -- 40 and 41 are passed on
-  pub page_none : (k : Refusal) → r ≡ Refused k → Pages b i r
-  page_none k e =
-      let z : find_says b (length b) i ≡ refuses k = sym f.answer ∙ ap says_page e in
-      record { answer = ap says_page e ∙ sym (page_says_lem b i ∙ rw z) }
+  pub page_none : (k : Refusal) → r ≡ Err k → Pages b i (Err k)
+  page_none k e = record { answer = sym (page_says_lem b i ∙ rw (← f.answer, e)) }
+
+  module _ (q : Span) (e : r ≡ Ok q) where
+    -- the contents are long enough for the setting's words
+    pub found_long : 17 ≤ length b
+    found_long = (find_opens b (length b) i q (sym f.answer ∙ e)).long
+
+    pub found_inside : q.start + q.len ≤ length b
+    found_inside = find_inside b (length b) i q (sym f.answer ∙ e)
 
 -- a part was found; v is its verdict
-module _ (book : Bor (List ℕ)) (i : ℕ) (r : PageFound) (f : Finds book.now (length book.now) i r) (start size : ℕ) (e : r ≡ Part start size)
-    (s : Setting) (x : s ≡ setting_in book.now) (part : Bor (List ℕ)) (p : Cut book start size part) (v : Verdict) (g : PageChecks s part.now v) where
+module _ (book : Bor (List ℕ)) (i : ℕ) (r : Says Span) (f : Finds book.now (length book.now) i r) (q : Span) (e : r ≡ Ok q)
+    (s : Setting) (x : s ≡ setting_in book.now) (part : Bor (List ℕ)) (p : Cut book q.start q.len part) (v : Says (Unit {0})) (g : PageChecks s part.now v) where
   abbrev b : List ℕ
   b = book.now
 
-  by_verdict : page_says b i ≡ and_then (says_verdict v) (gives (record { start = start; len = size }))
+  by_verdict : page_says b i ≡ and_then v (Ok q)
   by_verdict =
-      let rows = page_rows (setting_in b) (take size (drop start b)) in
-      let z : says_verdict v ≡ by_table rows (gives (tt {0})) = rw (x, p.words) at g.says in
+      let rows = page_rows (setting_in b) (take q.len (drop q.start b)) in
+      let z : v ≡ by_table rows (Ok (tt {0})) = rw (x, p.words) at g.says in
       page_says_lem b i
-      ∙ rw (part_given b (length b) i r f start size e) (table_verdict rows (gives (record { start = start; len = size })) ∙ rw (← z))
+      ∙ rw (sym f.answer ∙ e) (table_verdict rows (Ok q) ∙ rw (← z))
 
-  pub page_refused : (k : Refusal) → v ≡ RefusedVerdict k → Pages b i (Refused k)
+  pub page_refused : (k : Refusal) → v ≡ Err k → Pages b i (Err k)
   page_refused k y = record { answer = sym (by_verdict ∙ rw y) }
 
-  pub page_part : v ≡ Fits → Pages b i (Part start size)
+  pub page_part : v ≡ Ok tt → Pages b i (Ok q)
   page_part y = record { answer = sym (by_verdict ∙ rw y) }
 
 -- ---- what a page that is read tells
 
 -- it was found, and its rows do not hold
-read_given : (b : List ℕ) (x : Says Span) (q : Span) → then_read b x ≡ gives q → (x ≡ gives q) × (none_hold (page_rows (setting_in b) (take q.len (drop q.start b))) ≡ true)
-read_given b (refuses k) q e = let z : ◌≡◌ {A = ℕ} 0 1 = cc in absurd (omega arith)
-read_given b (gives y) q e =
+read_given : (b : List ℕ) (x : Says Span) (q : Span) → then_read b x ≡ Ok q → (x ≡ Ok q) × (none_hold (page_rows (setting_in b) (take q.len (drop q.start b))) ≡ true)
+read_given b (Err k) q e = let z : ◌≡◌ {A = ℕ} 0 1 = cc in absurd (omega arith)
+read_given b (Ok y) q e =
     let t = table_given (page_rows (setting_in b) (take y.len (drop y.start b))) y q e in
-    (ap gives t.1, rw t.1 at t.0)
+    (ap Ok t.1, rw t.1 at t.0)
 
-module _ (b : List ℕ) (i : ℕ) (q : Span) (e : page_says b i ≡ gives q) where
+module _ (b : List ℕ) (i : ℕ) (q : Span) (e : page_says b i ≡ Ok q) where
   abbrev rows : Table
   rows = page_rows (setting_in b) (take q.len (drop q.start b))
 
-  both : (find_says b (length b) i ≡ gives q) × (none_hold rows ≡ true)
+  both : (find_says b (length b) i ≡ Ok q) × (none_hold rows ≡ true)
   both = read_given b (find_says b (length b) i) q (sym (page_says_lem b i) ∙ e)
 
   pub page_span : span_in b (length b) i ≡ q
@@ -142,21 +154,21 @@ module _ (b : List ℕ) (i : ℕ) (q : Span) (e : page_says b i ≡ gives q) whe
   page_formed = ap well_formed (sym page_words) ∙ rows_formed (take q.len (drop q.start b)) _ both.1
 
   pub page_same : differs (setting_in b) (page_in b i) ≡ false
-  page_same = ap (differs (setting_in b)) (sym page_words) ∙ row_out ((by 21, differs (setting_in b) (take q.len (drop q.start b))) ∷ []) 0 (rows_after (take q.len (drop q.start b)) _ both.1)
+  page_same = ap (differs (setting_in b)) (sym page_words) ∙ row_out ((Refusal.OtherSetting, differs (setting_in b) (take q.len (drop q.start b))) ∷ []) 0 (rows_after (take q.len (drop q.start b)) _ both.1)
 
 -- ---- the part that is handed back
 
-module _ (b : List ℕ) (i : ℕ) (r : PageFound) (p : Pages b i r) where
-  pub read_inside : (start size : ℕ) → r ≡ Part start size → start + size ≤ length b
-  read_inside start size e = page_inside b i (record { start = start; len = size }) (sym p.answer ∙ ap says_page e)
+module _ (b : List ℕ) (i : ℕ) (r : Says Span) (p : Pages b i r) where
+  pub read_inside : (q : Span) → r ≡ Ok q → q.start + q.len ≤ length b
+  read_inside q e = page_inside b i q (sym p.answer ∙ e)
 
-module _ (book : Bor (List ℕ)) (i : ℕ) (r : PageFound) (p : Pages book.now i r) (q : Bor (List ℕ)) where
-  pub hands_none : (n : Refusal) → r ≡ Refused n → Cut book 0 0 q → Hands book i q
+module _ (book : Bor (List ℕ)) (i : ℕ) (r : Says Span) (p : Pages book.now i r) (q : Bor (List ℕ)) where
+  pub hands_none : (n : Refusal) → r ≡ Err n → Cut book 0 0 q → Hands book i q
   hands_none n e c =
-      let z : page_says book.now i ≡ refuses n = sym p.answer ∙ ap says_page e in
+      let z : page_says book.now i ≡ Err n = sym p.answer ∙ e in
       record { words = rw z c.words; place = rw z c.place }
 
-  pub hands_part : (start size : ℕ) → r ≡ Part start size → Cut book start size q → Hands book i q
-  hands_part start size e c =
-      let z : page_says book.now i ≡ gives (record { start = start; len = size }) = sym p.answer ∙ ap says_page e in
+  pub hands_part : (m : Span) → r ≡ Ok m → Cut book m.start m.len q → Hands book i q
+  hands_part m e c =
+      let z : page_says book.now i ≡ Ok m = sym p.answer ∙ e in
       record { words = rw z c.words; place = rw z c.place }

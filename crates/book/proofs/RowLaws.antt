@@ -1,4 +1,5 @@
 -- A writer's row, page by page: how long an image says that it is, which refusal comes, and what a row that passes tells. Assumes nothing.
+use Rattle.std.specs.Prelude.{Ok, Err}
 use Prim.Native.Nat.{ℕ, zero, suc, ◌+◌, ◌*◌, ◌-◌, ◌<◌, ◌≤◌, min}
 use native.Mathlib.Nat.{min-le_right, min-eq_left, le_refl}
 use native.Mathlib.Numerals.{add-one}
@@ -15,27 +16,26 @@ use borrow.Author.Tests.{lt-ltb, le-ltb, ltb-false, le-leb, lt-leb}
 use Rattle.lists.specs.Choice.{◌if◌else◌}
 use Rattle.lists.specs.Below.{sum_below, concat_below}
 use Rattle.lists.specs.Lists.{all}
-use Rattle.rules.specs.Tables.{Table, none_hold, by, by_word}
-use Rattle.rules.specs.Says.{Says, refuses, gives, says_verdict, by_table}
+use Rattle.rules.specs.Tables.{Table, none_hold}
+use Rattle.rules.specs.Says.{Says, by_table}
 use Rattle.lists.proofs.Below.{sum_none, sum_next}
 use Rattle.lists.proofs.Concat.{block_split}
 use Rattle.lists.proofs.Lists.{rest_is, all_append}
-use Rattle.rules.proofs.Tables.{row_out, table_gives, table_both, table_after, table_given}
+use Rattle.rules.proofs.Tables.{and_then, row_out, table_gives, table_both, table_after, table_given, table_first, table_refuses}
 use Rattle.rules.proofs.Faults.{rows_formed, rows_after}
 use Rattle.lists.proofs.Tests.{ordered, less, more, both, and_left, and_right}
 use Rattle.rules.specs.Image.{front, snakes_in, length_at, food_start, food_count_in, long_enough, well_formed}
 use Rattle.rules.specs.Orders.{differs}
 use Rattle.rules.specs.declared.Setting.{Setting}
 use Rattle.rules.proofs.Facts.{sound}
-use Rattle.rules.specs.declared.Refusal.{Refusal}
-use Rattle.rules.specs.declared.Verdict.{Verdict}
-use Rattle.rules.specs.declared.Verdict.TheVariants.{Accepted, Refused}
+use Rattle.rules.specs.declared.refusal.Refusal.{Refusal}
 use Rattle.book.specs.Orders.{page_rows, left_at, row_order}
 use Rattle.contents.specs.Read.{Word}
 use Rattle.book.specs.Read.{PageChecks}
 use Rattle.book.specs.Rows.{told_length, row_start, row_page}
 use Rattle.book.specs.Writing.{Summed, Told, Next, RowChecks, Passed, RowFits}
-use Rattle.book.specs.declared.rows.NextPage.{NextPage}
+use Rattle.book.proofs.Paging.{table_verdict}
+use Rattle.rules.specs.declared.refusal.Refusal.TheVariants as Refusal
 
 -- where no row of two tables holds, none of either does
 pub halves : (t u : Table) → none_hold (t ++ u) ≡ true → (none_hold t ≡ true) × (none_hold u ≡ true)
@@ -97,9 +97,19 @@ module _ (w : List ℕ) where
 
 -- ---- one page
 
-pub next_is : (s : Setting) (rest : List ℕ) (len : ℕ) → Told rest len → (v : Verdict) → PageChecks s (take len rest) v
-    → Next s rest (record { verdict = v; len = len })
-next_is s rest len q v f = record { says = rw q.length_told at f.says; told = q }
+-- v is the verdict on the page that the contents tell
+module _ (s : Setting) (rest : List ℕ) (len : ℕ) (q : Told rest len) (v : Says (Unit {0})) (f : PageChecks s (take len rest) v) where
+  next_of : (r : Says ℕ) → r ≡ and_then v (Ok len) → Next s rest r
+  next_of r e =
+      let rows = page_rows s (take len rest) in
+      let z : r ≡ by_table rows (Ok len) = e ∙ sym (table_verdict rows (Ok len) ∙ rw (← f.says)) in
+      record { says = rw q.length_told at z; inside = omega (arith, q.length_told, q.inside) }
+
+  pub next_out : (k : Refusal) → v ≡ Err k → Next s rest (Err k)
+  next_out k e = next_of (Err k) (rw e)
+
+  pub next_in : v ≡ Ok tt → Next s rest (Ok len)
+  next_in e = next_of (Ok len) (rw e)
 
 -- ---- page by page
 
@@ -115,12 +125,12 @@ module _ (t : ℕ → Table) where
     blocks_then = table_both (concat_below i t) u r ∙ table_gives (concat_below i t) (by_table u r) (blocks_none i none)
 
   -- the first block with a row that holds
-  pub blocks_first : (i p : ℕ) (u : Table) (k : Refusal) → i < p → ((j : ℕ) → j < i → none_hold (t j) ≡ true) → by_table (t i) (gives (tt {0})) ≡ refuses k
-      → by_table (concat_below p t ++ u) (gives (tt {0})) ≡ refuses k
+  pub blocks_first : (i p : ℕ) (u : Table) (k : Refusal) → i < p → ((j : ℕ) → j < i → none_hold (t j) ≡ true) → by_table (t i) (Ok (tt {0})) ≡ Err k
+      → by_table (concat_below p t ++ u) (Ok (tt {0})) ≡ Err k
   blocks_first i p u k h none some =
-      ap (λ (l : Table). by_table l (gives (tt {0}))) (block_split t i p h u)
-      ∙ blocks_then (gives (tt {0})) i none _
-      ∙ table_after (t i) _ (gives (tt {0}))
+      ap (λ (l : Table). by_table l (Ok (tt {0}))) (block_split t i p h u)
+      ∙ blocks_then (Ok (tt {0})) i none _
+      ∙ table_after (t i) _ (Ok (tt {0}))
       ∙ rw some
 
 pub start_next : (row : List ℕ) (i : ℕ) → row_start row (i + 1) ≡ row_start row i + told_length (drop (row_start row i) row)
@@ -137,40 +147,48 @@ module _ (s : Setting) (row : List ℕ) where
     passed_none = record { here = omega arith; start = refl; inside = omega arith; last_is = refl; none = λ j h. absurd (omega (arith, h)) }
 
     module _ (i at last : ℕ) (q : Passed s row p i at last) where
-      module _ (r : NextPage) (y : Next s (take (length row - at) (drop at row)) r) where
+      module _ (r : Says ℕ) (y : Next s (take (length row - at) (drop at row)) r) where
         x : Next s (drop at row) r
         x = rw (rest_is row at) at y
 
-        page_says_lem : says_verdict r.verdict ≡ by_table (rows i) (gives (tt {0}))
+        page_says_lem : r ≡ by_table (rows i) (Ok (told_length (drop (row_start row i) row)))
         unfolding row_page
         page_says_lem = rw q.start at x.says
 
-        next_start : at + r.len ≡ row_start row (i + 1)
-        next_start = rw (x.told.length_told, q.start) (sym (start_next row i))
-
-        -- where its words end
-        pub passed_in : at + r.len ≤ length row
-        passed_in = omega (arith, x.told.inside, length-drop at row, q.inside)
-
-        pub passed_fits : Fits w64 (length row) → Fits w64 (at + r.len)
-        passed_fits f = omega (arith, passed_in, f)
-
-        pub passed_next : r.verdict ≡ Accepted → i < p → Passed s row p (i + 1) (at + r.len) r.len
-        passed_next z h = record {
-          here = omega arith;
-          start = next_start;
-          inside = passed_in;
-          last_is = let e : i + 1 - 1 ≡ i = omega arith in rw e (omega (arith, next_start, q.start));
-          none = λ j l. elim (ordered j i) [
-            | less k t ↦ q.none j k
-            | more k t ↦ let e : j ≡ i = omega arith in rw e (table_given (rows i) tt tt (sym page_says_lem ∙ ap says_verdict z)).0
-          ];
-        }
-
-        pub row_stops : i < p → (k : Refusal) → r.verdict ≡ Refused k → RowChecks s p row r.verdict
+        pub row_stops : (k : Refusal) → r ≡ Err k → i < p → RowChecks s p row (Err k)
         unfolding row_order
-        row_stops h k z =
-            record { says = ap says_verdict z ∙ sym (blocks_first rows i p _ k h q.none (sym page_says_lem ∙ ap says_verdict z)) }
+        row_stops k z h =
+            let none = table_first (rows i) (Ok (tt {0})) k (table_refuses (rows i) _ k (sym page_says_lem ∙ z)) in
+            record { says = sym (blocks_first rows i p _ k h q.none none) }
+
+        -- a page of n words has passed
+        module _ (n : ℕ) (e : r ≡ Ok n) where
+          page_given : (none_hold (rows i) ≡ true) × (told_length (drop (row_start row i) row) ≡ n)
+          page_given = table_given (rows i) _ n (sym page_says_lem ∙ e)
+
+          next_start : at + n ≡ row_start row (i + 1)
+          next_start = omega (arith, start_next row i, q.start, page_given.1)
+
+          -- where its words end
+          pub passed_in : at + n ≤ length row
+          passed_in =
+              let here = ap (λ (a : ℕ). told_length (drop a row)) q.start in
+              omega (arith, here, page_given.1, x.inside, length-drop at row, q.inside)
+
+          pub passed_fits : Fits w64 (length row) → Fits w64 (at + n)
+          passed_fits f = omega (arith, passed_in, f)
+
+          pub passed_next : i < p → Passed s row p (i + 1) (at + n) n
+          passed_next h = record {
+            here = omega arith;
+            start = next_start;
+            inside = passed_in;
+            last_is = let e : i + 1 - 1 ≡ i = omega arith in rw e (omega (arith, next_start, q.start));
+            none = λ j l. elim (ordered j i) [
+              | less k t ↦ q.none j k
+              | more k t ↦ let e : j ≡ i = omega arith in rw e page_given.0
+            ];
+          }
 
       module _ (h : p ≤ i) where
         end : i ≡ p
@@ -179,17 +197,17 @@ module _ (s : Setting) (row : List ℕ) where
         last_start : at ≡ row_start row p
         last_start = q.start ∙ ap (row_start row) end
 
-        past : by_table (row_order s p row) (gives (tt {0})) ≡ by_table ((by_word 53 (left_at row p), ltb (row_start row p) (length row)) ∷ []) (gives (tt {0}))
+        past : by_table (row_order s p row) (Ok (tt {0})) ≡ by_table ((Refusal.Total (left_at row p), ltb (row_start row p) (length row)) ∷ []) (Ok (tt {0}))
         unfolding row_order
-        past = blocks_then rows (gives (tt {0})) p (λ j l. q.none j (omega arith)) _
+        past = blocks_then rows (Ok (tt {0})) p (λ j l. q.none j (omega arith)) _
 
-        pub row_left : at < length row → (x : Refusal) → x ≡ by_word 53 last → RowChecks s p row (Refused x)
+        pub row_left : at < length row → RowChecks s p row (Err (Refusal.Total last))
         unfolding by_table
-        row_left g x z =
+        row_left g =
             let e : last ≡ left_at row p = q.last_is ∙ ap (λ (k : ℕ). left_at row k) end in
-            record { says = ap refuses (z ∙ ap (by_word 53) e) ∙ sym (past ∙ rw (lt-ltb (row_start row p) (length row) (rw last_start at g))) }
+            record { says = ap (λ (n : ℕ). Err (Refusal.Total n)) e ∙ sym (past ∙ rw (lt-ltb (row_start row p) (length row) (rw last_start at g))) }
 
-        pub row_done : length row ≤ at → RowChecks s p row Accepted
+        pub row_done : length row ≤ at → RowChecks s p row (Ok tt)
         unfolding by_table
         row_done g = record { says = sym (past ∙ rw (le-ltb (row_start row p) (length row) (rw last_start at g))) }
 
@@ -217,7 +235,7 @@ module _ (s : Setting) (row : List ℕ) (i : ℕ) (none : none_hold (rows s row 
   page_formed = rows_formed (row_page row i) _ none
 
   page_same : differs s (row_page row i) ≡ false
-  page_same = row_out ((by 21, differs s (row_page row i)) ∷ []) 0 (rows_after (row_page row i) _ none)
+  page_same = row_out ((Refusal.OtherSetting, differs s (row_page row i)) ∷ []) 0 (rows_after (row_page row i) _ none)
 
   pub page_early : told_length (drop (row_start row i) row) ≤ 9253
   unfolding row_page
@@ -231,7 +249,7 @@ module _ (s : Setting) (p : ℕ) (row : List ℕ) (h : none_hold (row_order s p 
   parts i = rows s row i
 
   abbrev left_row : Table
-  left_row = (by_word 53 (left_at row p), ltb (row_start row p) (length row)) ∷ []
+  left_row = (Refusal.Total (left_at row p), ltb (row_start row p) (length row)) ∷ []
 
   both_parts : (none_hold (concat_below p parts) ≡ true) × (none_hold left_row ≡ true)
   unfolding row_order

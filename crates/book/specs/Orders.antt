@@ -1,7 +1,7 @@
 -- Wish 1's refusals as tables, with wish 4's in 20's place: a row is a refusal and when it is given. Words count from the page's own start. Assumes nothing.
 use Rattle.std.specs.Prelude.{ℕ, ◌-◌, List, [], ◌∷◌, ◌++◌, ltb, length}
 use Rattle.lists.specs.Below.{concat_below}
-use Rattle.rules.specs.Tables.{Table, by, by_word}
+use Rattle.rules.specs.Tables.{Table}
 use Rattle.rules.specs.Faults.{image_rows}
 use Rattle.rules.specs.Orders.{differs}
 use Rattle.rules.specs.Setting.{setting_order}
@@ -10,10 +10,11 @@ use Rattle.contents.specs.Settings.{setting_in}
 use Rattle.contents.specs.Orders.{find_order}
 use Rattle.book.specs.Book.{book_of, page_in}
 use Rattle.book.specs.Rows.{row_start, row_page}
+use Rattle.rules.specs.declared.refusal.Refusal.TheVariants as Refusal
 
 -- '20 and 21 for the page'; 'where 20 stood in an order, the whole group stands'
 abbrev pub page_rows : Setting → List ℕ → Table
-page_rows s w = image_rows w ++ ((by 21, differs s w) ∷ [])
+page_rows s w = image_rows w ++ ((Refusal.OtherSetting, differs s w) ∷ [])
 
 -- ---- reading
 
@@ -29,12 +30,12 @@ left_at row p = row_start row p - row_start row (p - 1)
 
 -- '20 and 21 page by page'; 'words after the last, tested after its 21, are 20 too': a total length that is wrong, 53
 unfoldable pub row_order : Setting → ℕ → List ℕ → Table
-row_order s p row = concat_below p (λ i. page_rows s (row_page row i)) ++ ((by_word 53 (left_at row p), ltb (row_start row p) (length row)) ∷ [])
+row_order s p row = concat_below p (λ i. page_rows s (row_page row i)) ++ ((Refusal.Total (left_at row p), ltb (row_start row p) (length row)) ∷ [])
 
 -- 'writing, the setting's, then 42 above 65,535 pages, then 20 and 21 page by page'
 unfoldable pub asked_order : Setting → ℕ → List ℕ → Table
-asked_order s p row = setting_order s ++ ((by 42, ltb 65535 p) ∷ row_order s p row)
+asked_order s p row = setting_order s ++ ((Refusal.Pages, ltb 65535 p) ∷ row_order s p row)
 
 -- 'then 29'; room is the length of the lent buffer
 unfoldable pub write_order : Setting → ℕ → List ℕ → ℕ → Table
-write_order s p row room = asked_order s p row ++ ((by 29, ltb room (length (book_of s p (row_page row)))) ∷ [])
+write_order s p row room = asked_order s p row ++ ((Refusal.Buffer, ltb room (length (book_of s p (row_page row)))) ∷ [])

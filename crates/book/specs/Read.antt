@@ -1,15 +1,14 @@
 -- What the functions that read a page ensure. Assumes nothing.
-use Rattle.std.specs.Prelude.{ℕ, List, ◌≡◌, take, drop}
+use Rattle.std.specs.Prelude.{ℕ, List, ◌≡◌, take, drop, Ok}
 use Rattle.std.specs.Borrow.{Bor}
-use Rattle.rules.specs.Says.{gives, says_verdict, by_table}
+use Rattle.rules.specs.Says.{Says, by_table}
 use Rattle.rules.specs.declared.Setting.{Setting}
-use Rattle.rules.specs.declared.Verdict.{Verdict}
 use Rattle.image.specs.Memory.{word_place}
 use Rattle.book.specs.Orders.{page_rows}
 
 -- a page's fault, 21, or accepted
-pub record PageChecks (s : Setting) (w : List ℕ) (r : Verdict) : Type 0 where
-  pub says : says_verdict r ≡ by_table (page_rows s w) (gives tt)
+pub record PageChecks (s : Setting) (w : List ℕ) (r : Says (Unit {0})) : Type 0 where
+  pub says : r ≡ by_table (page_rows s w) (Ok tt)
 
 -- the part of a lent book from a start on: its words, and its place
 pub record Cut (book : Bor (List ℕ)) (start size : ℕ) (r : Bor (List ℕ)) : Type 0 where

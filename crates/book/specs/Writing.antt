@@ -1,17 +1,15 @@
 -- What the functions of the writer ensure and require. Assumes nothing.
-use Rattle.std.specs.Prelude.{ℕ, ◌-◌, ◌*◌, ◌≤◌, ◌<◌, ◌≡◌, true, List, length, take}
+use Rattle.std.specs.Prelude.{ℕ, ◌-◌, ◌*◌, ◌≤◌, ◌<◌, ◌≡◌, true, List, length, take, Ok}
 use Rattle.lists.specs.Below.{sum_below, concat_below}
 use Rattle.lists.specs.Lists.{write_at}
 use Rattle.rules.specs.Tables.{none_hold}
-use Rattle.rules.specs.Says.{gives, says_verdict, by_table}
+use Rattle.rules.specs.Says.{Says, by_table}
 use Rattle.rules.specs.Image.{length_at}
 use Rattle.rules.specs.declared.Setting.{Setting}
-use Rattle.rules.specs.declared.Verdict.{Verdict}
 use Rattle.contents.specs.Settings.{pair_words}
 use Rattle.contents.specs.Contents.{start_of, contents_of}
 use Rattle.book.specs.Orders.{page_rows, row_order, asked_order}
 use Rattle.book.specs.Rows.{told_length, row_start, row_page}
-use Rattle.book.specs.declared.rows.NextPage.{NextPage}
 
 -- the first i of n lengths, added up
 pub record Summed (w : List ℕ) (n i r : ℕ) : Type 0 where
@@ -24,12 +22,12 @@ pub record Told (w : List ℕ) (r : ℕ) : Type 0 where
   pub inside : r ≤ length w
 
 -- the page at the front of w, and its length
-pub record Next (s : Setting) (w : List ℕ) (r : NextPage) : Type 0 where
-  pub says : says_verdict r.verdict ≡ by_table (page_rows s (take (told_length w) w)) (gives tt)
-  pub told : Told w r.len
+pub record Next (s : Setting) (w : List ℕ) (r : Says ℕ) : Type 0 where
+  pub says : r ≡ by_table (page_rows s (take (told_length w) w)) (Ok (told_length w))
+  pub inside : told_length w ≤ length w
 
-pub record RowChecks (s : Setting) (p : ℕ) (row : List ℕ) (r : Verdict) : Type 0 where
-  pub says : says_verdict r ≡ by_table (row_order s p row) (gives tt)
+pub record RowChecks (s : Setting) (p : ℕ) (row : List ℕ) (r : Says (Unit {0})) : Type 0 where
+  pub says : r ≡ by_table (row_order s p row) (Ok tt)
 
 -- the first i pages of a row have passed, the last of them has `last` words, and the next starts at `at`
 pub record Passed (s : Setting) (row : List ℕ) (p i at last : ℕ) : Type 0 where
@@ -40,8 +38,8 @@ pub record Passed (s : Setting) (row : List ℕ) (p i at last : ℕ) : Type 0 wh
   pub none : (j : ℕ) → j < i → none_hold (page_rows s (row_page row j)) ≡ true
 
 -- every refusal but 29
-pub record Asked (s : Setting) (p : ℕ) (row : List ℕ) (r : Verdict) : Type 0 where
-  pub says : says_verdict r ≡ by_table (asked_order s p row) (gives tt)
+pub record Asked (s : Setting) (p : ℕ) (row : List ℕ) (r : Says (Unit {0})) : Type 0 where
+  pub says : r ≡ by_table (asked_order s p row) (Ok tt)
 
 pub record AskedNone (s : Setting) (p : ℕ) (row : List ℕ) : Type 0 where
   pub none : none_hold (asked_order s p row) ≡ true

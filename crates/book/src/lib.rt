@@ -9,8 +9,9 @@ ghost use Rattle.std.specs.Prelude.{◌≡◌};
 ghost use Rattle.book.specs.Promises.{Pages, Hands};
 ghost use Rattle.book.specs.Turning.{page_after, page_before};
 
-pub use contents::{PageFound, find, setting_in};
+pub use contents::{Span, find, setting_in};
 pub use pages::{check_page, page_in, page_of};
+use rules::Refusal;
 pub use writer::write;
 
 // ---- the reader: it holds the lent book and the page it is at. Opening and turning need no check, since what is read says all.
@@ -59,7 +60,7 @@ pub fn previous<'a>(reader: Reader<'a>) -> Reader<'a>
 }
 
 // Where the page lies, or why it is refused.
-pub fn look<'a>(reader: Reader<'a>) -> PageFound
+pub fn look<'a>(reader: Reader<'a>) -> Result<Span, Refusal>
     ensures { Pages reader.entry.book.now reader.entry.page result }
 {
     page_in(reader.book, reader.page)

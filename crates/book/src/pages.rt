@@ -3,20 +3,18 @@ ghost use Rattle.std.specs.Prelude.{◌+◌, ◌≤◌, length};
 ghost use Rattle.book.specs.Read.{PageChecks, Cut};
 ghost use Rattle.book.specs.Promises.{Pages, Hands};
 
-use contents::PageFound;
-use rules::{Setting, Verdict};
+use contents::Span;
+use rules::{Refusal, Setting};
 
 // 50 to 56, 21, or accepted.
-pub fn check_page(setting: Setting, image: &[u16]) -> Verdict
+pub fn check_page(setting: Setting, image: &[u16]) -> Result<(), Refusal>
     ensures { PageChecks setting image.now result }
 {
-    if !image::well_formed(image) {
-        return Verdict::Refused(image::fault_in(image));
-    }
+    image::check_image(image)?;
     if setting::differs(setting, image) {
-        return Verdict::Refused(refusals::by(21));
+        return Err(Refusal::OtherSetting);
     }
-    Verdict::Accepted
+    Ok(())
 }
 
 fn cut(book: &[u16], start: usize, len: usize) -> &[u16]
@@ -27,17 +25,15 @@ fn cut(book: &[u16], start: usize, len: usize) -> &[u16]
 }
 
 // Where page `page` lies, or 40, 41, 50 to 56, 21.
-pub fn page_in(book: &[u16], page: u64) -> PageFound
+pub fn page_in(book: &[u16], page: u64) -> Result<Span, Refusal>
     ensures { Pages book.now page result }
 {
-    let found = contents::find(book, book.len(), page);
-    let PageFound::Part { start, len } = found else {
-        return found;
-    };
-    match check_page(contents::setting_in(book), cut(book, start, len)) {
-        Verdict::Refused(why) => PageFound::Refused(why),
-        Verdict::Accepted => found,
-    }
+    let found = contents::find(book, book.len(), page)?;
+    check_page(
+        contents::setting_in(book),
+        cut(book, found.start, found.len),
+    )?;
+    Ok(found)
 }
 
 // That page, as the caller's own words and no copy; the empty part at the book's front where it is refused.
@@ -45,7 +41,7 @@ pub fn page_of(book: &[u16], page: u64) -> &[u16]
     ensures { Hands book.entry page result }
 {
     match page_in(book, page) {
-        PageFound::Part { start, len } => cut(book, start, len),
-        PageFound::Refused(_) => cut(book, 0, 0),
+        Ok(found) => cut(book, found.start, found.len),
+        Err(_) => cut(book, 0, 0),
     }
 }

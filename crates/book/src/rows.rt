@@ -5,14 +5,7 @@ ghost use Rattle.book.specs.Writing.{Summed, Told, Next, RowChecks};
 
 use crate::pages::check_page;
 use contents::word;
-use rules::{Setting, Verdict};
-
-// Whether a page is accepted, and how many words it has.
-#[derive(Clone, Copy)]
-pub(crate) struct NextPage {
-    pub(crate) verdict: Verdict,
-    pub(crate) len: usize,
-}
+use rules::{Refusal, Setting};
 
 fn lengths(words: &[u16], n: usize) -> usize
     requires { (front n ≤ length words.now) × (n < 65536) }
@@ -39,31 +32,27 @@ pub(crate) fn told(words: &[u16]) -> usize
     (5 + 4 * n + lengths(words, n) + word(words, 4)).min(words.len())
 }
 
-// The page at the front of what is left of a row.
-fn next_page(setting: Setting, rest: &[u16]) -> NextPage
+// How many words the page at the front of what is left of a row has, if it is accepted.
+fn next_page(setting: Setting, rest: &[u16]) -> Result<usize, Refusal>
     ensures { Next setting rest.now result }
 {
     let len = told(rest);
-    let verdict = check_page(setting, &rest[..len]);
-    NextPage { verdict, len }
+    check_page(setting, &rest[..len])?;
+    Ok(len)
 }
 
 // 50 to 56 and 21 page by page, 53 for words after the last, or accepted.
-pub(crate) fn check_row(setting: Setting, p: usize, row: &[u16]) -> Verdict
+pub(crate) fn check_row(setting: Setting, p: usize, row: &[u16]) -> Result<(), Refusal>
     ensures { RowChecks setting p row.now result }
 {
     let mut at = 0;
     let mut last = 0;
     for _page in 0..p {
-        let next = next_page(setting, &row[at..]);
-        if let Verdict::Refused(_) = next.verdict {
-            return next.verdict;
-        }
-        last = next.len;
+        last = next_page(setting, &row[at..])?;
         at += last;
     }
     if at < row.len() {
-        return Verdict::Refused(refusals::by_word(53, last));
+        return Err(Refusal::Total(last));
     }
-    Verdict::Accepted
+    Ok(())
 }

@@ -6,19 +6,16 @@ ghost use Rattle.book.specs.Promises.{Writes};
 
 use crate::rows::{check_row, told};
 use contents::{write_front, write_pair};
-use rules::{Answer, Setting, Verdict};
+use rules::{Refusal, Setting};
 
 // ---- the refusals but 29
 
-fn asked(setting: Setting, pages: u64, row: &[u16]) -> Verdict
+fn asked(setting: Setting, pages: u64, row: &[u16]) -> Result<(), Refusal>
     ensures { Asked setting pages row.now result }
 {
-    let verdict = setting::validate(setting);
-    if let Verdict::Refused(_) = verdict {
-        return verdict;
-    }
+    setting::validate(setting)?;
     if 65535 < pages {
-        return Verdict::Refused(refusals::by(42));
+        return Err(Refusal::Pages);
     }
     check_row(setting, pages as usize, row)
 }
@@ -50,7 +47,7 @@ fn write_contents(setting: Setting, p: usize, row: &[u16], out: &mut [u16])
 }
 
 // The book of a setting and a row that no number but 29 refuses.
-fn write_book(setting: Setting, p: usize, row: &[u16], out: &mut [u16]) -> Answer
+fn write_book(setting: Setting, p: usize, row: &[u16], out: &mut [u16]) -> Result<usize, Refusal>
     requires asked_none { AskedNone setting p row.now }
     requires wordy { Wordy setting }
     requires row_fits { RowFits p row.now }
@@ -58,19 +55,17 @@ fn write_book(setting: Setting, p: usize, row: &[u16], out: &mut [u16]) -> Answe
 {
     let words = 17 + 2 * p + row.len();
     if out.len() < words {
-        return Answer::Refused(refusals::by(29));
+        return Err(Refusal::Buffer);
     }
     write_contents(setting, p, row, out);
     lists::write_at(out, 17 + 2 * p, row);
-    Answer::Done(words)
+    Ok(words)
 }
 
 // The book of `pages` images that stand in a row: the setting's refusals, 42, then 50 to 56 and 21 page by page, 29.
-pub fn write(setting: Setting, pages: u64, row: &[u16], out: &mut [u16]) -> Answer
+pub fn write(setting: Setting, pages: u64, row: &[u16], out: &mut [u16]) -> Result<usize, Refusal>
     ensures { Writes setting pages row.now out.old out.new result }
 {
-    match asked(setting, pages, row) {
-        Verdict::Refused(why) => Answer::Refused(why),
-        Verdict::Accepted => write_book(setting, pages as usize, row, out),
-    }
+    asked(setting, pages, row)?;
+    write_book(setting, pages as usize, row, out)
 }

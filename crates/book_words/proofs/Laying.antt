@@ -1,4 +1,5 @@
 -- How the words of the contents are written. Assumes nothing.
+use Rattle.std.specs.Prelude.{Option, Some, None, is_some, unwrap_or}
 use Prim.Native.Nat.{ℕ, ◌/◌, ◌%◌}
 use mathlib.Core.Path.{◌≡◌, ◌∙◌}
 use mathlib.Core.Bool.{Bool}
@@ -7,17 +8,15 @@ use lib.IntN.{nat_abs}
 use lib.ListN.{get_or}
 use Rattle.lists.specs.Choice.{bit}
 use Rattle.lists.specs.Lists.{write_at}
-use Rattle.rules.specs.Setting.{is_set}
-use Rattle.rules.specs.declared.Limit.{Limit}
 use Rattle.rules.specs.declared.Setting.{Setting}
-use Rattle.book_words.specs.Settings.{amount}
 use Rattle.book_words.specs.Written.{Five, Wordy, Fronted, PairWritten}
 
 -- ---- the first 17 words
 
-pub five_is : (l : Limit) (t : Bool) (set k : ℕ) → t ≡ is_set l → set ≡ bit t → k ≡ amount l
+pub five_is : (l : Option ℕ) (t : Bool) (set k : ℕ) → t ≡ is_some l → set ≡ bit t → k ≡ unwrap_or l 0
     → Five l (set ∷ k % 4294967296 % 65536 ∷ k % 4294967296 / 65536 ∷ k / 4294967296 % 65536 ∷ k / 4294967296 / 65536 ∷ [])
-five_is l t set k p q r = record { words = rw (q, p, r) }
+five_is None t set k p q r = record { words = rw (q, p, r) }
+five_is (Some n) t set k p q r = record { words = rw (q, p, r) }
 
 module _ (s : Setting) (w : Wordy s) (lead ticks : List ℕ) (five : Five s.win_food_lead lead) (five' : Five s.max_ticks ticks) (p g f : ℕ) (old new : List ℕ) where
   pub front_is : g ≡ nat_abs s.grid_size → f ≡ bit s.play_to_last

@@ -1,11 +1,9 @@
 -- A setting's words in a book's contents, and the setting that such words tell (02, wish 1). Assumes nothing.
-use Rattle.std.specs.Prelude.{ℕ, ◌+◌, ◌*◌, ◌/◌, ◌%◌, Bool, not, ◌&&◌, ◌||◌, List, [], ◌∷◌, ◌++◌, ltb, eqb, pos}
+use Rattle.std.specs.Prelude.{ℕ, ◌+◌, ◌*◌, ◌/◌, ◌%◌, Bool, not, ◌&&◌, ◌||◌, List, [], ◌∷◌, ◌++◌, ltb, eqb, pos, Option, Some, None}
 use Rattle.lists.specs.Choice.{◌if◌else◌, bit}
 use Rattle.rules.specs.Image.{word}
 use Rattle.rules.specs.Setting.{is_set, side_of}
 use Rattle.rules.specs.declared.Setting.{Setting}
-use Rattle.rules.specs.declared.Limit.{Limit}
-use Rattle.rules.specs.declared.Limit.TheVariants.{Unset, Is}
 
 -- ---- a number in words, both ways
 
@@ -25,17 +23,17 @@ four_at b k = pair_at b k + 4294967296 * pair_at b (2 + k)
 
 -- ---- a limit: 'a flag and four words lowest first, all 0 when unset'
 
-abbrev pub amount : Limit → ℕ
-amount Unset = 0
-amount (Is k) = k
+abbrev pub amount : Option ℕ → ℕ
+amount None = 0
+amount (Some k) = k
 
-abbrev pub limit_words : Limit → List ℕ
+abbrev pub limit_words : Option ℕ → List ℕ
 limit_words l = bit (is_set l) ∷ four_words (amount l)
 
-abbrev pub limit_of : Bool → ℕ → Limit
-limit_of set k = Is k if set else Unset
+abbrev pub limit_of : Bool → ℕ → Option ℕ
+limit_of set k = Some k if set else None
 
-abbrev pub limit_at : List ℕ → ℕ → Limit
+abbrev pub limit_at : List ℕ → ℕ → Option ℕ
 limit_at b k = limit_of (eqb (word b k) 1) (four_at b (1 + k))
 
 -- off this layout: a flag above 1, or a word that is not 0 after the flag 0

@@ -1,14 +1,13 @@
 -- What the functions that write a setting's words, and a number's, ensure and require. Assumes nothing.
-use Rattle.std.specs.Prelude.{ℕ, ◌<◌, ◌≡◌, List, [], ◌∷◌, ◌++◌, nat_abs}
+use Rattle.std.specs.Prelude.{ℕ, ◌<◌, ◌≡◌, List, [], ◌∷◌, ◌++◌, nat_abs, Option}
 use Rattle.lists.specs.Lists.{write_at}
 use Rattle.rules.specs.Setting.{side_of}
-use Rattle.rules.specs.declared.Limit.{Limit}
 use Rattle.rules.specs.declared.Setting.{Setting}
 use Rattle.grid.specs.Near.{Plain}
 use Rattle.book_words.specs.Settings.{pair_words, limit_words, setting_words}
 
 -- a limit's five words
-pub record Five (l : Limit) (r : List ℕ) : Type 0 where
+pub record Five (l : Option ℕ) (r : List ℕ) : Type 0 where
   pub words : r ≡ limit_words l
 
 -- a setting whose numbers a word each holds

@@ -1,23 +1,16 @@
 // A setting's words in a book's contents, both ways. No other file names a setting's fields.
 ghost use Rattle.std.specs.Prelude.{◌≡◌, ◌+◌, ◌<◌, ◌≤◌, length};
-ghost use Rattle.rules.specs.Setting.{is_set};
-ghost use Rattle.book_words.specs.Settings.{amount, limit_of, limit_at, setting_in};
+ghost use Rattle.book_words.specs.Settings.{limit_at, setting_in};
 ghost use Rattle.book_words.specs.Written.{Five, Wordy, Fronted};
 
 use crate::words::{four, word};
-use rules::{Limit, Setting};
+use rules::Setting;
 
-fn limit_of(set: bool, number: u64) -> Limit
-    ensures { result ≡ limit_of set number }
-{
-    if set { Limit::Is(number) } else { Limit::Unset }
-}
-
-fn limit_at(contents: &[u16], k: usize) -> Limit
+fn limit_at(contents: &[u16], k: usize) -> Option<u64>
     requires { 4 + k < length contents.now }
     ensures { result ≡ limit_at contents.now k }
 {
-    limit_of(word(contents, k) == 1, four(contents, 1 + k))
+    (word(contents, k) == 1).then_some(four(contents, 1 + k))
 }
 
 // Words 1 to 15.
@@ -27,7 +20,7 @@ pub fn setting_in(contents: &[u16]) -> Setting
 {
     Setting {
         num_snakes: word(contents, 1) as u64,
-        grid_size: grid::signed(contents[2]),
+        grid_size: i32::from(contents[2]),
         initial_length: word(contents, 3) as u64,
         play_to_last: word(contents, 4) == 1,
         win_food_lead: limit_at(contents, 5),
@@ -38,31 +31,15 @@ pub fn setting_in(contents: &[u16]) -> Setting
 
 // ---- words written
 
-fn is_set(limit: Limit) -> bool
-    ensures { result ≡ is_set limit }
-{
-    matches!(limit, Limit::Is(_))
-}
-
-fn amount(limit: Limit) -> u64
-    ensures { result ≡ amount limit }
-{
-    match limit {
-        Limit::Unset => 0,
-        Limit::Is(k) => k,
-    }
-}
-
 // A flag and four words lowest first.
-fn limit_words(limit: Limit) -> [u16; 5]
+fn limit_words(limit: Option<u64>) -> [u16; 5]
     ensures { Five limit result }
 {
-    let set = image::flag(is_set(limit));
-    let k = amount(limit);
+    let k = limit.unwrap_or(0);
     let low = k % 4294967296;
     let high = k / 4294967296;
     [
-        set,
+        image::flag(limit.is_some()),
         (low % 65536) as u16,
         (low / 65536) as u16,
         (high % 65536) as u16,
@@ -81,7 +58,7 @@ pub fn write_front(setting: Setting, p: usize, out: &mut [u16])
     let words = [
         1,
         setting.num_snakes as u16,
-        grid::plain(setting.grid_size),
+        setting.grid_size as u16,
         setting.initial_length as u16,
         image::flag(setting.play_to_last),
         lead[0],

@@ -1,7 +1,7 @@
 -- Refusals 6 and 8 over just what they depend on. Assumes nothing.
-use Rattle.std.specs.Prelude.{ℕ}
-use Rattle.rules.specs.Tables.{fault}
+use Rattle.std.specs.Prelude.{ℕ, Ok}
+use Rattle.rules.specs.Says.{Says, by_table}
 use Rattle.rules.specs.Setting.{crowd_order}
 
-abbrev pub crowd_check : ℕ → ℕ → ℕ → ℕ
-crowd_check n g f = fault (crowd_order n g f)
+abbrev pub crowd_says : ℕ → ℕ → ℕ → Says (Unit {0})
+crowd_says n g f = by_table (crowd_order n g f) (Ok tt)

@@ -1,23 +1,11 @@
 // Refusals 1 to 6 and 8: what a setting's numbers tell before any snake is placed.
 ghost use Rattle.std.specs.Prelude.{◌≡◌, ◌^◌, ◌≤◌, ltb};
 ghost use Rattle.lists.specs.Products.{falling};
-ghost use Rattle.rules.specs.Setting.{is_set, is_zero, side_of};
-ghost use Rattle.rules.specs.SettingParts.{limits_check};
-ghost use Rattle.bounds.specs.Crowds.{crowd_check};
+ghost use Rattle.rules.specs.Setting.{side_of};
+ghost use Rattle.rules.specs.SettingParts.{limits_says};
+ghost use Rattle.bounds.specs.Crowds.{crowd_says};
 
-use rules::{Limit, Setting};
-
-fn is_zero(lead: Limit) -> bool
-    ensures { result ≡ is_zero lead }
-{
-    matches!(lead, Limit::Is(0))
-}
-
-fn is_set(lead: Limit) -> bool
-    ensures { result ≡ is_set lead }
-{
-    matches!(lead, Limit::Is(_))
-}
+use rules::{Refusal, Setting};
 
 // The grid's side; 0 where the grid is negative.
 pub fn side_of(grid: i32) -> u64
@@ -26,50 +14,52 @@ pub fn side_of(grid: i32) -> u64
     grid.max(0) as u64
 }
 
-// Whether the product of k factors from `area` downward is above 2^53; a product that is 0 is one above 2^64 - 1.
+// Whether the product of k factors from `area` downward is above 2^53; no product is one above 2^64 - 1.
 fn too_many(area: usize, k: usize) -> bool
     requires { k ≤ area }
     ensures { result ≡ ltb (2 ^ 53) (falling area k) }
 {
-    let product = lists::product(area, k);
-    product == 0 || 9007199254740992 < product
+    match lists::product(area, k) {
+        Some(product) => 9007199254740992 < product,
+        None => true,
+    }
 }
 
 // Refusals 6 and 8.
-#[tactic(auto, unfolding(rules::specs::Tables::fault))]
-fn crowded(n: u64, side: u64, food: u64) -> u8
+#[tactic(auto, unfolding(rules::specs::Says::by_table))]
+fn crowded(n: u64, side: u64, food: u64) -> Result<(), Refusal>
     requires { side ≤ 32 }
-    ensures { result ≡ crowd_check n side food }
+    ensures { result ≡ crowd_says n side food }
 {
     let area = side * side;
     if area < food {
-        return 6;
+        return Err(Refusal::FoodArea);
     }
     if too_many(area as usize, n.min(food) as usize) {
-        return 8;
+        return Err(Refusal::Product);
     }
-    0
+    Ok(())
 }
 
-#[tactic(auto, unfolding(rules::specs::SettingParts::limits_check, rules::specs::Tables::fault))]
-pub fn limits(setting: Setting) -> u8
-    ensures { result ≡ limits_check setting }
+#[tactic(auto, unfolding(rules::specs::SettingParts::limits_says, rules::specs::Says::by_table))]
+pub fn limits(setting: Setting) -> Result<(), Refusal>
+    ensures { result ≡ limits_says setting }
 {
     let n = setting.num_snakes;
     if n < 2 || 8 < n {
-        return 1;
+        return Err(Refusal::Snakes);
     }
     if setting.initial_length == 0 {
-        return 2;
+        return Err(Refusal::LengthZero);
     }
-    if is_zero(setting.win_food_lead) {
-        return 3;
+    if setting.win_food_lead == Some(0) {
+        return Err(Refusal::LeadZero);
     }
-    if is_set(setting.win_food_lead) && n != 2 {
-        return 4;
+    if setting.win_food_lead.is_some() && n != 2 {
+        return Err(Refusal::LeadNotTwo);
     }
     if 32 < setting.grid_size {
-        return 5;
+        return Err(Refusal::Grid);
     }
     crowded(n, side_of(setting.grid_size), setting.initial_food_count)
 }

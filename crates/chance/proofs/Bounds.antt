@@ -1,4 +1,5 @@
 -- What bounds a draw: the squares of the grid, the free cells, 64 bits. Assumes nothing.
+use Rattle.std.specs.Prelude.{Some}
 use mathlib.Core.Path.{◌≡◌, sym, ap, ◌∙◌}
 use mathlib.Core.List.{List}
 use Prim.Native.Nat.{ℕ, ◌-◌, ◌≤◌, ◌<◌, ◌^◌}
@@ -35,6 +36,6 @@ module _ (w strips : List ℕ) (r : Odds) (o : Stands w strips r) where
   pub size_le : r.size ≤ r.free
   size_le = let a = o.size_is in let b = o.free_is in omega arith
 
-  pub count_fits : (r.count ≡ 0 → ⊥) → falling r.free r.size < 2 ^ 64
+  pub count_fits : (n : ℕ) → r.count ≡ Some n → falling r.free r.size < 2 ^ 64
   unfolding outcomes
-  count_fits n = rw (o.free_is, o.size_is) (let l = ltb-false (2 ^ 64 - 1) (outcomes (state_of w)) (count_in w strips r o n) in omega arith)
+  count_fits n e = rw (o.free_is, o.size_is) (let l = ltb-false (2 ^ 64 - 1) (outcomes (state_of w)) (count_in w strips r o n e) in omega arith)

@@ -1,5 +1,5 @@
 -- A draw's list and its next image, as the code makes them, are those of the definition. Assumes nothing.
-use mathlib.Core.Path.{◌≡◌, sym, ap, ap₂, ◌∙◌}
+use mathlib.Core.Path.{◌≡◌, refl, sym, ap, ap₂, ◌∙◌}
 use mathlib.Core.Bool.{Bool, not, ◌&&◌, ◌||◌}
 use mathlib.Core.List.{List, ◌++◌}
 use Prim.Native.Nat.{ℕ, ◌+◌, ◌-◌, ◌≤◌}
@@ -11,8 +11,6 @@ use borrow.Rule.Slice.PartMut.{put_mid}
 use Rattle.lists.specs.Choice.{◌if◌else◌}
 use Rattle.lists.specs.Lists.{over_front}
 use Rattle.rules.specs.Image.{due_in, birth_in, area_in, image_of, state_of}
-use Rattle.rules.specs.Says.{gives}
-use Rattle.rules.specs.declared.Answer.TheVariants.{Done}
 use Rattle.rules.specs.Chance.{drawn_from, drawn, after_draw}
 use Rattle.rules.proofs.DrawFacts.{drawn_due}
 use Rattle.rules.proofs.Fairness.{listed}
@@ -20,7 +18,7 @@ use Rattle.rules.proofs.FreeCells.{free_short}
 use Rattle.strips.specs.Marks.{unmarked, Open}
 use Rattle.outcomes.specs.declared.odds.Odds.{Odds}
 use Rattle.chance.specs.Next.{next_words, Growing}
-use Rattle.chance.specs.Answers.{draw_of, Ready, Answers}
+use Rattle.chance.specs.Answers.{draw_of, Ready, Drew}
 use Rattle.rules.proofs.DrawFacts.{next_long}
 use Rattle.chance.proofs.NextImage.{next_is, drawn_fresh}
 use Rattle.chance.proofs.Bounds.{size_le}
@@ -94,10 +92,11 @@ module _ (w : List ℕ) (i : ℕ) (o : Odds) (strips : List ℕ) (room : ℕ) (l
         words_next old = rw (due_next, birth_next, part_is) (ap (λ (l : List ℕ). over_front l old) (sym (next_is w p.sound i)))
 
         pub draw_done : (old new : List ℕ) → new ≡ over_front (next_words w d b part) old
-            → Answers (gives (draw_of w i)) old new list (put_mid 0 (o.size - 0) list ys) (record { answer = Done (length w + o.size); cells = o.size })
+            → Drew (draw_of w i) old new list (put_mid 0 (o.size - 0) list ys) (record { words = length w + o.size; cells = o.size })
         draw_done old new k = record {
-          answer = ap gives (sym (next_long w p.sound i p.below ∙ ap (λ (n : ℕ). length w + n) (sym p.stands.size_is)));
-          cells = sym cells_long;
+          answer =
+              let l : length (image_of (after_draw (state_of w) i)) ≡ length w + o.size = next_long w p.sound i p.below ∙ ap (λ (n : ℕ). length w + n) (sym p.stands.size_is) in
+              rw (l, cells_long) refl;
           words = k ∙ words_next old;
           list = list_after;
         }

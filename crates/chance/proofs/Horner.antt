@@ -1,4 +1,5 @@
 -- The rank as a loop adds it up, cell by cell, and the test that each cell is there when its turn comes. Assumes nothing.
+use Rattle.std.specs.Prelude.{Ok, Err}
 use mathlib.Core.Path.{◌≡◌, refl, sym, ap, ap₂, ◌∙◌, subst}
 use mathlib.Core.Bool.{Bool, true, false, ◌&&◌}
 use mathlib.Core.List.{List, [], ◌∷◌}
@@ -17,10 +18,7 @@ use Rattle.lists.proofs.Tests.{both, and_left, and_right}
 use Rattle.lists.proofs.Members.{agree, fails, length_without, place_lt}
 use Rattle.lists.proofs.Products.{falling_next, falling_first, falling_mono, falling_none}
 use Rattle.rules.specs.State.{State}
-use Rattle.rules.specs.Tables.{by}
-use Rattle.rules.specs.Says.{refuses, gives}
-use Rattle.rules.specs.declared.Refusal.{Refusal}
-use Rattle.rules.specs.declared.Number.TheVariants.{Value, Refused}
+use Rattle.rules.specs.declared.refusal.Refusal.{Refusal}
 use Rattle.rules.specs.Chance.{free, draw_size, rank_in, can_rank}
 use Rattle.rules.proofs.FreeCells.{free_distinct}
 use Rattle.rules.proofs.Draws.{InTurn, in_turn_lem, turn_among, turn_distinct}
@@ -28,6 +26,7 @@ use Rattle.rules.proofs.Fairness.{ranked_listed, listed_ranked}
 use Rattle.strips.specs.Marks.{marked, unmarked, Marked, Counted, Free}
 use Rattle.strips.proofs.Finding.{unmarked_less, open_member, square_place, off_area, taken_square}
 use Rattle.chance.specs.Ranking.{in_turn, rank_left, Placed, Rankable, Ranked, RankedTo}
+use Rattle.rules.specs.declared.refusal.Refusal.TheVariants as Refusal
 
 -- ---- the test
 
@@ -160,14 +159,14 @@ module _ (l : List ℕ) (area free : ℕ) (start : List ℕ) where
   }
 
   module _ (b tally : List ℕ) (r j : ℕ) (v : RankedTo l area free start b tally r j) where
-    pub ranked_all : length l ≤ j → Ranked (unmarked start area) l (Value r)
+    pub ranked_all : length l ≤ j → Ranked (unmarked start area) l (Ok r)
     ranked_all h =
         let e = sym v.turn ∙ turn_end (unmarked b area) l j h in
-        record { answer = rw e (ap gives (sym (rank_done (unmarked b area) l j r h) ∙ v.rest)) }
+        record { answer = rw e (ap Ok (sym (rank_done (unmarked b area) l j r h) ∙ v.rest)) }
 
     module _ (h : j < length l) where
-      refused : member (get_or l j 0) (unmarked b area) ≡ false → (x : Refusal) → x ≡ by 30 → Ranked (unmarked start area) l (Refused x)
-      refused m x q = let e = sym v.turn ∙ turn_fails (unmarked b area) l j h m in record { answer = rw e (ap refuses q) }
+      refused : member (get_or l j 0) (unmarked b area) ≡ false → Ranked (unmarked start area) l (Err Refusal.List)
+      refused m = let e = sym v.turn ∙ turn_fails (unmarked b area) l j h m in record { answer = rw e refl }
 
       fits : Rankable l area free start → (p : ℕ) → p < free - j → r * (free - j) + p < 2 ^ 64
       fits q p k = rank_fits free j (length l) r p v.below k h q.few q.fits
@@ -177,11 +176,11 @@ module _ (l : List ℕ) (area free : ℕ) (start : List ℕ) where
 
       -- the cell that stands next
       module _ (c : ℕ) (z : c ≡ get_or l j 0) where
-        pub ranked_off : area ≤ c → (x : Refusal) → x ≡ by 30 → Ranked (unmarked start area) l (Refused x)
+        pub ranked_off : area ≤ c → Ranked (unmarked start area) l (Err Refusal.List)
         ranked_off g = refused (rw (← z) (off_area b area c g))
 
         module _ (t : Bool) (m : t ≡ marked b c) where
-          pub ranked_taken : t ≡ true → (x : Refusal) → x ≡ by 30 → Ranked (unmarked start area) l (Refused x)
+          pub ranked_taken : t ≡ true → Ranked (unmarked start area) l (Err Refusal.List)
           ranked_taken y = refused (rw (← z) (taken_square b area c (sym m ∙ y)))
 
           module _ (y : t ≡ false) (g : c < area) where

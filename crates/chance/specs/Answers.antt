@@ -1,12 +1,11 @@
 -- What a draw may go by once nothing refuses it, and what it answers. Assumes nothing.
 use Rattle.std.specs.Prelude.{ℕ, ◌+◌, ◌<◌, ◌≤◌, List, ◌≡◌, length}
+use Rattle.lists.specs.Lists.{over_front}
 use Rattle.rules.specs.Image.{due_in, image_of, state_of}
 use Rattle.rules.specs.Facts.{Sound}
 use Rattle.rules.specs.Chance.{outcomes, drawn, after_draw}
-use Rattle.rules.specs.Calls.{Draw}
-use Rattle.rules.specs.Says.{Says, refuses, seen, beside, lent, says}
+use Rattle.rules.specs.Calls.{Draw, drawn_of}
 use Rattle.rules.specs.declared.Drawn.{Drawn}
-use Rattle.rules.specs.declared.Refusal.{Refusal}
 use Rattle.outcomes.specs.Odds.{Stands}
 use Rattle.outcomes.specs.declared.odds.Odds.{Odds}
 
@@ -22,14 +21,8 @@ pub record Ready (w : List ℕ) (i : ℕ) (o : Odds) (strips : List ℕ) (room l
   pub words : length w + o.size ≤ room
   pub cells : o.size ≤ list_room
 
--- every word of both buffers, by what the draw says
-pub record Answers (said : Says Draw) (old new old_list new_list : List ℕ) (r : Drawn) : Type 0 where
-  pub answer : says r.answer ≡ seen (λ d. length (image_of d.next)) said
-  pub cells : r.cells ≡ beside (λ d. length d.cells) 0 said
-  pub words : new ≡ lent (λ d. image_of d.next) old said
-  pub list : new_list ≡ lent (λ d. d.cells) old_list said
-
--- that refusal, and no cells
-pub record Refuses (why : Refusal) (r : Drawn) : Type 0 where
-  pub says_so : says r.answer ≡ refuses why
-  pub none : r.cells ≡ 0
+-- every word of both buffers, by the draw
+pub record Drew (d : Draw) (old new old_list new_list : List ℕ) (r : Drawn) : Type 0 where
+  pub answer : r ≡ drawn_of d
+  pub words : new ≡ over_front (image_of d.next) old
+  pub list : new_list ≡ over_front d.cells old_list

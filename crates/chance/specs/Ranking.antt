@@ -1,13 +1,12 @@
 -- What ranking asks of a list, and how far a loop over it has come. Assumes nothing.
-use Rattle.std.specs.Prelude.{ℕ, ◌+◌, ◌-◌, ◌*◌, ◌≤◌, ◌<◌, ◌^◌, Bool, true, not, ◌&&◌, List, [], ◌∷◌, ◌≡◌, length, drop}
+use Rattle.std.specs.Prelude.{ℕ, ◌+◌, ◌-◌, ◌*◌, ◌≤◌, ◌<◌, ◌^◌, Bool, true, not, ◌&&◌, List, [], ◌∷◌, ◌≡◌, length, drop, Ok, Err}
 use Rattle.lists.specs.Choice.{◌if◌else◌}
 use Rattle.lists.specs.Lists.{member, without}
 use Rattle.lists.specs.Products.{falling}
-use Rattle.rules.specs.Tables.{by}
 use Rattle.rules.specs.Chance.{rank_in}
-use Rattle.rules.specs.Says.{refuses, gives, says_number}
-use Rattle.rules.specs.declared.Number.{Number}
 use Rattle.strips.specs.Marks.{unmarked, Open, Counted, Took}
+use Rattle.rules.specs.Says.{Says}
+use Rattle.rules.specs.declared.refusal.Refusal.TheVariants as Refusal
 
 -- each cell of the list is there when its turn comes
 unfoldable pub in_turn : List ℕ → List ℕ → Bool
@@ -26,8 +25,8 @@ pub record Placed (area c : ℕ) (old new tally : List ℕ) (r : ℕ) : Type 0 w
   pub took : Took area c old new tally
 
 -- the rank of a list among those cells, or 30
-pub record Ranked (cells l : List ℕ) (r : Number) : Type 0 where
-  pub answer : says_number r ≡ (refuses (by 30) if not (in_turn cells l) else gives (rank_in cells l))
+pub record Ranked (cells l : List ℕ) (r : Says ℕ) : Type 0 where
+  pub answer : r ≡ (Err Refusal.List if not (in_turn cells l) else Ok (rank_in cells l))
 
 -- the rank so far, r, times what the cells left can do, and their own rank
 abbrev pub rank_left : List ℕ → List ℕ → ℕ → ℕ → ℕ

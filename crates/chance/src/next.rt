@@ -4,26 +4,16 @@ ghost use Rattle.lists.specs.Choice.{◌if◌else◌};
 ghost use Rattle.lists.specs.Lists.{over_front};
 ghost use Rattle.rules.specs.Facts.{Sound};
 ghost use Rattle.rules.specs.Chance.{drawn_from};
-ghost use Rattle.rules.specs.Says.{gives};
 ghost use Rattle.rules.specs.Promises.{Draws};
 ghost use Rattle.strips.specs.Marks.{unmarked, Open};
 ghost use Rattle.chance.specs.Next.{next_words, Growing};
-ghost use Rattle.chance.specs.Answers.{draw_of, Ready, Answers, Refuses};
+ghost use Rattle.chance.specs.Answers.{draw_of, Ready, Drew};
 
 use image::{put_all, write_contents};
 use lists::write_at;
 use outcomes::{Odds, odds_of, pick_cells, split};
-use rules::{Answer, Drawn, Refusal};
+use rules::{Drawn, Refusal};
 use strips::count_strips;
-
-pub fn refused(why: Refusal) -> Drawn
-    ensures { Refuses why result }
-{
-    Drawn {
-        answer: Answer::Refused(why),
-        cells: 0,
-    }
-}
 
 // The cells that the index draws, over the whole list.
 fn draw_list(list: &mut [u16], index: u64, free: usize, area: usize, strips: &mut [u64; 16])
@@ -80,7 +70,7 @@ fn draw_into(
     list: &mut [u16],
 ) -> Drawn
     requires { Ready image.now index found strips.old (length out.old) (length list.old) }
-    ensures { Answers (gives (draw_of image.now index)) out.old out.new list.old list.new result }
+    ensures { Drew (draw_of image.now index) out.old out.new list.old list.new result }
 {
     let g = image[1] as usize;
     let due = image[2] as usize;
@@ -90,29 +80,32 @@ fn draw_into(
     let stays = birth_after(due, birth, found.free);
     write_next(image, left, stays, &list[0..found.size], out);
     Drawn {
-        answer: Answer::Done(image.len() + found.size),
+        words: image.len() + found.size,
         cells: found.size,
     }
 }
 
 // Refusals 23, 28, 27, 29; nothing is written before the last of them.
-pub fn draw_due(image: &[u16], index: u64, out: &mut [u16], list: &mut [u16]) -> Drawn
+pub fn draw_due(
+    image: &[u16],
+    index: u64,
+    out: &mut [u16],
+    list: &mut [u16],
+) -> Result<Drawn, Refusal>
     requires { Sound image.now }
     ensures { Draws image.now index out.old out.new list.old list.new result }
 {
     if image[2] == 0 {
-        return refused(refusals::by(23));
+        return Err(Refusal::NoneDue);
     }
     let mut strips = [0u64; 16];
     let found = odds_of(image, &mut strips);
-    if found.count == 0 {
-        return refused(refusals::by(28));
-    }
-    if found.count <= index {
-        return refused(refusals::by(27));
+    let count = found.count.ok_or(Refusal::Count)?;
+    if count <= index {
+        return Err(Refusal::Outcome);
     }
     if out.len() < image.len() + found.size || list.len() < found.size {
-        return refused(refusals::by(29));
+        return Err(Refusal::Buffer);
     }
-    draw_into(image, index, found, &mut strips, out, list)
+    Ok(draw_into(image, index, found, &mut strips, out, list))
 }

@@ -5,7 +5,7 @@ ghost use Rattle.strips.specs.Marks.{unmarked, Counted, Free};
 ghost use Rattle.chance.specs.Ranking.{Placed, Rankable, Ranked};
 
 use outcomes::odds_of;
-use rules::Number;
+use rules::Refusal;
 use strips::{count_strips, free_below, is_marked, take};
 
 // The place of a free cell among the free ones, which it then leaves.
@@ -25,7 +25,7 @@ fn rank_cells(
     free: usize,
     strips: &mut [u64; 16],
     tally: &mut [u8; 16],
-) -> Number
+) -> Result<u64, Refusal>
     requires rankable { Rankable list.now area free strips.old }
     requires counted { Counted area strips.old tally.old }
     ensures { Ranked (unmarked strips.old area) list.now result }
@@ -34,28 +34,26 @@ fn rank_cells(
     for (j, word) in list.iter().enumerate() {
         let cell = usize::from(*word);
         if area <= cell || is_marked(strips, cell) {
-            return Number::Refused(refusals::by(30));
+            return Err(Refusal::List);
         }
         rank = rank * (free - j) as u64 + take_place(strips, tally, area, cell) as u64;
     }
-    Number::Value(rank)
+    Ok(rank)
 }
 
 // Refusals 23, 28, 30.
-pub fn rank_due(image: &[u16], list: &[u16]) -> Number
+pub fn rank_due(image: &[u16], list: &[u16]) -> Result<u64, Refusal>
     requires { Sound image.now }
     ensures { Ranks image.now list.now result }
 {
     if image[2] == 0 {
-        return Number::Refused(refusals::by(23));
+        return Err(Refusal::NoneDue);
     }
     let mut strips = [0u64; 16];
     let found = odds_of(image, &mut strips);
-    if found.count == 0 {
-        return Number::Refused(refusals::by(28));
-    }
+    found.count.ok_or(Refusal::Count)?;
     if list.len() != found.size {
-        return Number::Refused(refusals::by(30));
+        return Err(Refusal::List);
     }
     let g = image[1] as usize;
     let area = g * g;

@@ -1,4 +1,5 @@
 -- Who leads: of two that live the longer by the lead or more, from whom the definition's leads are read. Assumes nothing.
+use Rattle.std.specs.Prelude.{Option, Some, None}
 use Prim.Native.Nat.{ℕ, zero, suc, ◌+◌, ◌-◌, ◌<◌, ◌≤◌}
 use native.Mathlib.Nat.{le_refl, add-zero, add-suc}
 use native.Mathlib.Omega.{arith}
@@ -12,11 +13,9 @@ use Rattle.lists.specs.Choice.{bit}
 use Rattle.lists.specs.Below.{some_below, count_below}
 use Rattle.lists.proofs.Tests.{compared, same, other, ordered, less, more, and_left, and_right}
 use Rattle.lists.proofs.Below.{some_found, some_false, count_none, count_next}
-use Rattle.rules.specs.declared.Limit.{Limit}
-use Rattle.rules.specs.declared.Limit.TheVariants.{Unset, Is}
 use Rattle.consequences.specs.declared.after.After.{After}
 use Rattle.consequences.specs.After.{gone, living}
-use Rattle.consequences.specs.Leads.{Living, NoneLiving, NextLiving, TwoLive, Longer, leads_in, Leader, Leads}
+use Rattle.consequences.specs.Leads.{Living, NoneLiving, FirstLiving, TwoLive, Longer, leads_in, Leader, Leads}
 
 -- ---- counts
 
@@ -49,66 +48,56 @@ module _ (all : List After) (n from : ℕ) where
 
 -- ---- the two that live
 
-module _ (all : List After) (n alive : ℕ) (c : Living all n alive) (two : alive ≡ 2) (i : ℕ) (p : NextLiving all n 0 i) where
+module _ (all : List After) (n alive : ℕ) (c : Living all n alive) (two : alive ≡ 2) where
   abbrev count : ℕ → ℕ
   count k = count_below k (living all)
 
-  first_in : i < n
-  first_in = elim (ordered i n) [
-    | less l t ↦ l
-    | more l t ↦
-        let e : count i ≡ count n = ap count (omega (arith, p.past.end)) in
-        absurd (omega (arith, c.count, p.past.none, count_none (living all)))
-  ]
+  -- one is found, and then another
+  pub some_first : NoneLiving all n 0 n → ⊥
+  some_first p = omega (arith, c.count, p.none, count_none (living all))
 
-  one_so_far : count (i + 1) ≡ 1
-  one_so_far = omega (arith, count_next (living all) i, bit_one (living all i) (p.lives first_in), p.past.none, count_none (living all))
+  module _ (i : ℕ) (p : FirstLiving all n 0 i) where
+    one_so_far : count (i + 1) ≡ 1
+    one_so_far = omega (arith, count_next (living all) i, bit_one (living all i) p.lives, p.past.none, count_none (living all))
 
-  pub next_in_lem : i + 1 ≤ n
-  next_in_lem = omega (arith, first_in)
+    pub next_in_lem : i + 1 ≤ n
+    next_in_lem = omega (arith, p.one)
 
-  module _ (j : ℕ) (q : NextLiving all n (i + 1) j) where
-    second_in : j < n
-    second_in = elim (ordered j n) [
-      | less l t ↦ l
-      | more l t ↦
-          let e : count j ≡ count n = ap count (omega (arith, q.past.end)) in
-          absurd (omega (arith, c.count, q.past.none, one_so_far))
-    ]
+    pub some_second : NoneLiving all n (i + 1) n → ⊥
+    some_second q = omega (arith, c.count, q.none, one_so_far)
 
-    all_so_far : count n ≡ count (j + 1)
-    all_so_far = omega (arith, c.count, count_next (living all) j, bit_one (living all j) (q.lives second_in), q.past.none, one_so_far)
+    module _ (j : ℕ) (q : FirstLiving all n (i + 1) j) where
+      all_so_far : count n ≡ count (j + 1)
+      all_so_far = omega (arith, c.count, count_next (living all) j, bit_one (living all j) q.lives, q.past.none, one_so_far)
 
-    others_out : (x : ℕ) → x < n → (x ≡ i → ⊥) → (x ≡ j → ⊥) → living all x ≡ false
-    others_out x l a b = elim (ordered x i) [
-      | less k t ↦ none_between (living all) 0 i x (omega arith) k p.past.none
-      | more k t ↦ elim (ordered x j) [
-        | less m t ↦ none_between (living all) (i + 1) j x (omega arith) m q.past.none
-        | more m t ↦ none_between (living all) (j + 1) n x (omega arith) l all_so_far
+      others_out : (x : ℕ) → x < n → (x ≡ i → ⊥) → (x ≡ j → ⊥) → living all x ≡ false
+      others_out x l a b = elim (ordered x i) [
+        | less k t ↦ none_between (living all) 0 i x (omega arith) k p.past.none
+        | more k t ↦ elim (ordered x j) [
+          | less m t ↦ none_between (living all) (i + 1) j x (omega arith) m q.past.none
+          | more m t ↦ none_between (living all) (j + 1) n x (omega arith) l all_so_far
+        ]
       ]
-    ]
 
-    pub two_live : TwoLive all n i j
-    two_live = record {
-      few = c.few;
-      one = first_in;
-      two = second_in;
-      apart = λ e. omega (arith, q.past.on);
-      first = p.lives first_in;
-      second = q.lives second_in;
-      others = others_out;
-    }
+      pub two_live : TwoLive all n i j
+      two_live = record {
+        few = c.few;
+        one = p.one;
+        two = q.one;
+        apart = λ e. omega (arith, q.past.on);
+        first = p.lives;
+        second = q.lives;
+        others = others_out;
+      }
 
 -- ---- who leads
 
 -- nobody
-nobody_leads : (all : List After) (n alive : ℕ) (lead : Limit) → ((x y : ℕ) → x < n → y < n → leads_in all alive lead x y ≡ false) → Leader all n alive lead n
+nobody_leads : (all : List After) (n alive : ℕ) (lead : Option ℕ) → ((x y : ℕ) → x < n → y < n → leads_in all alive lead x y ≡ false) → Leader all n alive lead None
 nobody_leads all n alive lead h = record {
-  wins = λ x l. some_false (leads_in all alive lead x) n (λ y m. h x y l m) ∙ sym (ne_eqb x n (λ e. omega arith));
-  loses = λ x l.
-      some_false (λ y. leads_in all alive lead y x) n (λ y m. h y x m l)
-      ∙ sym (ap (λ (b : Bool). living all x && not (eqb x n) && b) (le-ltb n n (le_refl n)) ∙ and-false (living all x && not (eqb x n)));
-  ends = some_false (λ x. some_below n (leads_in all alive lead x)) n (λ x l. some_false (leads_in all alive lead x) n (λ y m. h x y l m)) ∙ sym (le-ltb n n (le_refl n));
+  wins = λ x l. some_false (leads_in all alive lead x) n (λ y m. h x y l m);
+  loses = λ x l. some_false (λ y. leads_in all alive lead y x) n (λ y m. h y x m l) ∙ sym (and-false (living all x && true));
+  ends = some_false (λ x. some_below n (leads_in all alive lead x)) n (λ x l. some_false (leads_in all alive lead x) n (λ y m. h x y l m));
 }
 
 swap_live : (all : List After) (n i j : ℕ) → TwoLive all n i j → TwoLive all n j i
@@ -124,7 +113,7 @@ swap_live all n i j t = record {
 
 module _ (all : List After) (k : ℕ) where
   abbrev lead : ℕ → ℕ → Bool
-  lead = leads_in all 2 (Is k)
+  lead = leads_in all 2 (Some k)
 
   lead_first : (x y : ℕ) → living all x ≡ false → lead x y ≡ false
   lead_first x y e = rw e
@@ -171,40 +160,40 @@ module _ (all : List After) (n i j : ℕ) (t : TwoLive all n i j) (k : ℕ) wher
     first_leads : some_below n (lead all k i) ≡ true
     first_leads = some_found (lead all k i) n j t.two a
 
-    pub leads_one : Leader all n 2 (Is k) i
+    pub leads_one : Leader all n 2 (Some k) (Some i)
     leads_one = record {
-      wins = λ x l. elim (compared x i) [
-        | same e u ↦ ap (λ (x : ℕ). some_below n (lead all k x)) e ∙ first_leads ∙ sym u
-        | other e u ↦ some_false (lead all k x) n (λ y m. no_other x y l m (λ q. e q.0)) ∙ sym u
+      wins = λ x l. elim (compared i x) [
+        | same e u ↦ ap (λ (x : ℕ). some_below n (lead all k x)) (sym e) ∙ first_leads ∙ sym u
+        | other e u ↦ some_false (lead all k x) n (λ y m. no_other x y l m (λ q. e (sym q.0))) ∙ sym u
       ];
       loses = λ x l. elim (compared x j) [
         | same e u ↦
             ap (λ (x : ℕ). some_below n (λ y. lead all k y x)) e
             ∙ some_found (λ y. lead all k y j) n i t.one a
-            ∙ sym (ap (λ (x : ℕ). living all x && not (eqb x i) && ltb i n) e ∙ rw (t.second, ne_eqb j i (λ q. t.apart (sym q)), lt-ltb i n t.one))
-        | other e u ↦ some_false (λ y. lead all k y x) n (λ y m. no_other y x m l (λ q. e q.1)) ∙ elim (compared x i) [
+            ∙ sym (ap (λ (x : ℕ). living all x && not (eqb i x) && true) e ∙ rw (t.second, ne_eqb i j t.apart))
+        | other e u ↦ some_false (λ y. lead all k y x) n (λ y m. no_other y x m l (λ q. e q.1)) ∙ elim (compared i x) [
           | same f v ↦ sym (rw (v, and-false (living all x)))
-          | other f v ↦ sym (rw (t.others x l f e))
+          | other f v ↦ sym (rw (t.others x l (λ q. f (sym q)) e))
         ]
       ];
-      ends = some_found (λ x. some_below n (lead all k x)) n i t.one first_leads ∙ sym (lt-ltb i n t.one);
+      ends = some_found (λ x. some_below n (lead all k x)) n i t.one first_leads;
     }
 
 -- i and j live; r is whether i is the longer by k or more, s whether j is
 module _ (all : List After) (n i j : ℕ) (t : TwoLive all n i j) (k : ℕ) where
-  pub leads_first : (r : Bool) → Longer (get_or all i gone) (get_or all j gone) k r → r ≡ true → Leads all n k i
+  pub leads_first : (r : Bool) → Longer (get_or all i gone) (get_or all j gone) k r → r ≡ true → Leads all n k (Some i)
   leads_first r p e = record { leader = leads_one all n i j t k (lead_is all n i j t k r p ∙ e) }
 
-  pub leads_second : (s : Bool) → Longer (get_or all j gone) (get_or all i gone) k s → s ≡ true → Leads all n k j
+  pub leads_second : (s : Bool) → Longer (get_or all j gone) (get_or all i gone) k s → s ≡ true → Leads all n k (Some j)
   leads_second s q e = let u = swap_live all n i j t in record { leader = leads_one all n j i u k (lead_is all n j i u k s q ∙ e) }
 
-  pub leads_neither : (r s : Bool) → Longer (get_or all i gone) (get_or all j gone) k r → Longer (get_or all j gone) (get_or all i gone) k s → r ≡ false → s ≡ false → Leads all n k n
+  pub leads_neither : (r s : Bool) → Longer (get_or all i gone) (get_or all j gone) k r → Longer (get_or all j gone) (get_or all i gone) k s → r ≡ false → s ≡ false → Leads all n k None
   leads_neither r s p q d e =
       let u = swap_live all n i j t in
       let a = lead_is all n i j t k r p ∙ d in
       let b = lead_is all n j i u k s q ∙ e in
       record {
-        leader = nobody_leads all n 2 (Is k) (λ x y l m. elim (compared x i) [
+        leader = nobody_leads all n 2 (Some k) (λ x y l m. elim (compared x i) [
           | same c v ↦ elim (compared y j) [ same f v ↦ rw (c, f) a | other f v ↦ lead_other all n i j t k b x y l m (λ q. f q.1) ]
           | other c v ↦ lead_other all n i j t k b x y l m (λ q. c q.0)
         ]);
@@ -212,10 +201,13 @@ module _ (all : List After) (n i j : ℕ) (t : TwoLive all n i j) (k : ℕ) wher
 
 -- ---- by the lead that is set
 
-module _ (all : List After) (n alive : ℕ) (lead : Limit) where
-  pub leader_unset : lead ≡ Unset → Leader all n alive lead n
-  leader_unset e = rw e (nobody_leads all n alive Unset (λ x y l m. refl))
+module _ (all : List After) (n alive : ℕ) (lead : Option ℕ) where
+  pub leader_unset : lead ≡ None → Leader all n alive lead None
+  leader_unset e = rw e (nobody_leads all n alive None (λ x y l m. refl))
 
-  module _ (k : ℕ) (e : lead ≡ Is k) where
-    pub leader_alone : (alive ≡ 2 → ⊥) → Leader all n alive lead n
-    leader_alone h = rw e (nobody_leads all n alive (Is k) (λ x y l m. rw (ne_eqb alive 2 h)))
+  module _ (k : ℕ) (e : lead ≡ Some k) where
+    pub leader_alone : (alive ≡ 2 → ⊥) → Leader all n alive lead None
+    leader_alone h = rw e (nobody_leads all n alive (Some k) (λ x y l m. rw (ne_eqb alive 2 h)))
+
+    pub leader_two : alive ≡ 2 → (r : Option ℕ) → Leads all n k r → Leader all n alive lead r
+    leader_two h r q = rw (e, h) q.leader

@@ -15,7 +15,7 @@ pub struct After {
     pub heading: Heading,
     pub lives: bool,
     pub ate: bool,
-    pub cause: Cause,
+    pub cause: Option<Cause>,
     pub cell: u16,
     pub keep: u16,
 }
@@ -29,7 +29,7 @@ pub struct Tally {
 }
 
 // 'The dying lose their head cell', and did not eat.
-fn settle(m: Move, cause: Cause) -> After
+fn settle(m: Move, cause: Option<Cause>) -> After
     ensures { result ≡ settled m cause }
 {
     let lasts = !is_death(cause);
@@ -45,7 +45,7 @@ fn settle(m: Move, cause: Cause) -> After
 
 pub fn settle_all(judged: Judged, n: usize) -> Snakes
     requires { n ≤ 8 }
-    ensures places { result.all ≡ filled (settled_at judged.moves judged.fates) n 8 gone }
+    ensures places { result.all ≡ filled (settled_at judged.moves judged.causes) n 8 gone }
     ensures count { result.count ≡ n }
 {
     let mut all = [After {
@@ -54,10 +54,10 @@ pub fn settle_all(judged: Judged, n: usize) -> Snakes
         cell: 0,
         keep: 0,
         ate: false,
-        cause: Cause::NoCause,
+        cause: None,
     }; 8];
     for i in 0..n {
-        all[i] = settle(judged.moves[i], judged.fates[i].cause);
+        all[i] = settle(judged.moves[i], judged.causes[i]);
     }
     Snakes { all, count: n }
 }

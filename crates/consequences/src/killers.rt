@@ -1,18 +1,17 @@
 // Who is credited with a death: 'An OppBody victim credits the lowest-numbered survivor whose body holds the fatal cell, if any'.
-ghost use Rattle.std.specs.Prelude.{◌≡◌, ◌<◌, ◌≤◌};
+ghost use Rattle.std.specs.Prelude.{◌≡◌, ◌<◌, ◌≤◌, None};
 ghost use Rattle.lists.specs.Below.{filled};
 ghost use Rattle.rules.specs.Events.{by_body};
 ghost use Rattle.consequences.specs.After.{killer_in, PartIn, InImage, HasCell, Holder, KilledBy, Credited};
 
 use crate::after::After;
 use crate::settled::Snakes;
-use lists::is_found;
 use rules::Cause;
 
-fn is_by_body(c: Cause) -> bool
+fn is_by_body(c: Option<Cause>) -> bool
     ensures { result ≡ by_body c }
 {
-    matches!(c, Cause::OppBody)
+    matches!(c, Some(Cause::OppBody))
 }
 
 // Whether snake j is a survivor whose body holds a cell; the dead are not searched.
@@ -26,25 +25,25 @@ fn has_cell(image: &[u16], j: usize, a: After, cell: u16) -> bool
     }
     let start = image[layout::start_at(j)] as usize;
     let found = image::find_in(image, start, a.keep as usize, cell);
-    at_head | is_found(found)
+    at_head | found.is_some()
 }
 
 impl Snakes {
-    // The lowest-numbered survivor whose body holds a cell, or the count: the definition of a step (`killer_of`) has that number for nobody.
-    fn find_killer(&self, image: &[u16], cell: u16) -> usize
+    // The lowest-numbered survivor whose body holds a cell.
+    fn find_killer(&self, image: &[u16], cell: u16) -> Option<usize>
         requires { InImage image.now self.now.all self.now.count }
         ensures { Holder image.now self.now.all self.now.count cell result }
     {
         for (j, a) in self.each().iter().enumerate() {
             if has_cell(image, j, *a, cell) {
-                return j;
+                return Some(j);
             }
         }
-        self.count
+        None
     }
 
-    // Whom the death of a snake is credited to, or the count.
-    fn killer_of(&self, image: &[u16], i: usize) -> usize
+    // Whom the death of a snake is credited to.
+    fn killer_of(&self, image: &[u16], i: usize) -> Option<usize>
         requires in_image { InImage image.now self.now.all self.now.count }
         requires i_bound { i < 8 }
         ensures { KilledBy image.now self.now.all self.now.count i result }
@@ -53,14 +52,14 @@ impl Snakes {
         if is_by_body(a.cause) {
             return self.find_killer(image, a.cell);
         }
-        self.count
+        None
     }
 
-    pub fn find_killers(&self, image: &[u16]) -> [usize; 8]
+    pub fn find_killers(&self, image: &[u16]) -> [Option<usize>; 8]
         requires { InImage image.now self.now.all self.now.count }
-        ensures { result ≡ filled (killer_in image.now self.now.all self.now.count) self.now.count 8 0 }
+        ensures { result ≡ filled (killer_in image.now self.now.all self.now.count) self.now.count 8 None }
     {
-        let mut to = [0; 8];
+        let mut to = [None; 8];
         for i in 0..self.count {
             to[i] = self.killer_of(image, i);
         }
@@ -68,9 +67,9 @@ impl Snakes {
     }
 }
 
-pub fn is_killer(to: [usize; 8], n: usize, j: usize) -> bool
+pub fn is_killer(to: [Option<usize>; 8], n: usize, j: usize) -> bool
     requires { n ≤ 8 }
     ensures { Credited to n j result }
 {
-    to[..n].contains(&j)
+    to[..n].contains(&Some(j))
 }

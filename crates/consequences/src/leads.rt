@@ -4,7 +4,6 @@ ghost use Rattle.consequences.specs.Leads.{Living, NextLiving, TwoLive, Longer, 
 
 use crate::after::After;
 use crate::settled::Snakes;
-use rules::Limit;
 
 // Whether a is longer than b by k or more; what lives has its head beside what it keeps.
 fn is_longer(a: After, b: After, k: u64) -> bool
@@ -14,55 +13,53 @@ fn is_longer(a: After, b: After, k: u64) -> bool
 }
 
 impl Snakes {
-    // The first snake from `from` on that lives, or the count.
-    fn find_living(&self, from: usize) -> usize
+    // The first snake from `from` on that lives.
+    fn find_living(&self, from: usize) -> Option<usize>
         requires { from ≤ self.now.count }
         ensures { NextLiving self.now.all self.now.count from result }
     {
         for i in from..self.count {
             if self.all[i].lives {
-                return i;
+                return Some(i);
             }
         }
-        self.count
+        None
     }
 
-    // Of two that live, the one that leads, or the count.
-    fn leader_of(&self, i: usize, j: usize, k: u64) -> usize
+    // Of two that live, the one that leads.
+    fn leader_of(&self, i: usize, j: usize, k: u64) -> Option<usize>
         requires { TwoLive self.now.all self.now.count i j }
         ensures { Leads self.now.all self.now.count k result }
     {
         let a = self.all[i];
         let b = self.all[j];
         if is_longer(a, b, k) {
-            return i;
+            return Some(i);
         }
         if is_longer(b, a, k) {
-            return j;
+            return Some(j);
         }
-        self.count
+        None
     }
 
-    // The snake that leads by the lead or more, or the count. Without a lead nobody is compared.
-    pub fn find_leader(&self, alive: usize, lead: Limit) -> usize
+    // The snake that leads by the lead or more. Without a lead nobody is compared.
+    pub fn find_leader(&self, alive: usize, lead: Option<u64>) -> Option<usize>
         requires { Living self.now.all self.now.count alive }
         ensures { Leader self.now.all self.now.count alive lead result }
     {
-        let Limit::Is(k) = lead else {
-            return self.count;
-        };
+        let k = lead?;
         if alive != 2 {
-            return self.count;
+            return None;
         }
-        let i = self.find_living(0);
-        let j = self.find_living(i + 1);
+        let i = self.find_living(0)?;
+        let j = self.find_living(i + 1)?;
         self.leader_of(i, j, k)
     }
 }
 
-pub fn is_terminal(n: usize, alive: usize, last: bool, leader: usize) -> bool
-    ensures { Ends n alive last leader result }
+pub fn is_terminal(alive: usize, last: bool, leader: Option<usize>) -> bool
+    ensures { Ends alive last leader result }
 {
     let most = if last { 0 } else { 1 };
-    (alive <= most) | (leader < n)
+    (alive <= most) | leader.is_some()
 }

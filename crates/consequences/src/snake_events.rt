@@ -12,27 +12,39 @@ use rules::Event;
 
 impl Snakes {
     // Snake i's, settled so.
-    fn event_of(&self, to: [usize; 8], counts: Tally, leader: usize, i: usize) -> Event
+    fn event_of(
+        &self,
+        to: [Option<usize>; 8],
+        counts: Tally,
+        leader: Option<usize>,
+        i: usize,
+    ) -> Event
         requires { i < 8 }
         ensures { result ≡ event_at self.now.all to self.now.count counts.alive counts.deaths leader i }
     {
         let a = self.all[i];
         let Tally { alive, deaths, .. } = counts;
         let died = is_death(a.cause);
+        let leads = leader == Some(i);
         // `&` and `|`: flags that are all known, with no branch; `&&` would be no plainer.
         Event {
             ate_food: a.ate,
             died,
             death_cause: a.cause,
             killed_opponent: is_killer(to, self.count, i),
-            won: a.lives & (alive == 1) & (0 < deaths) | (i == leader),
-            lost: died & (0 < alive) | a.lives & (i != leader) & (leader < self.count),
+            won: a.lives & (alive == 1) & (0 < deaths) | leads,
+            lost: died & (0 < alive) | a.lives & !leads & leader.is_some(),
             drew: died & (alive == 0) & (1 < deaths),
             survived_to_max_ticks: false,
         }
     }
 
-    pub fn all_events(&self, to: [usize; 8], counts: Tally, leader: usize) -> [Event; 8]
+    pub fn all_events(
+        &self,
+        to: [Option<usize>; 8],
+        counts: Tally,
+        leader: Option<usize>,
+    ) -> [Event; 8]
         ensures { result ≡ filled (event_at self.now.all to self.now.count counts.alive counts.deaths leader) self.now.count 8 blank }
     {
         let mut told = no_events();

@@ -1,4 +1,5 @@
 -- Finding a page looks at the contents alone. Assumes nothing.
+use Rattle.std.specs.Prelude.{Ok}
 use Prim.Native.Nat.{ℕ, ◌+◌, ◌*◌, ◌-◌, ◌<◌, ◌≤◌}
 use native.Mathlib.Omega.{arith}
 use mathlib.Core.Path.{◌≡◌, refl, sym, ap, ap₂, ◌∙◌}
@@ -9,22 +10,27 @@ use lib.ListN.{length, take}
 use lib.Seq.{get_or-take, take_all, length-take-le}
 use borrow.Author.Tests.{le-ltb}
 use Rattle.lists.specs.Below.{all_below, some_below}
-use Rattle.rules.specs.Tables.{Table, by}
+use Rattle.rules.specs.Tables.{Table}
 use Rattle.lists.proofs.Below.{all_ext, some_ext}
 use Rattle.lists.proofs.Tests.{ordered, less, more}
 use Rattle.rules.specs.Image.{word}
-use Rattle.rules.specs.Says.{Says, gives, by_table}
+use Rattle.rules.specs.Says.{Says, by_table}
 use Rattle.rules.specs.Setting.{setting_check}
 use Rattle.rules.specs.declared.Setting.{Setting}
-use Rattle.rules.specs.declared.Refusal.{Refusal}
+use Rattle.rules.specs.declared.refusal.Refusal.{Refusal}
 use Rattle.contents.specs.Settings.{limit_at, limit_off, setting_in}
 use Rattle.contents.specs.Contents.{front, pages_in, start_in, end_in}
 use Rattle.contents.specs.Orders.{layout_rows, start_rows, contents_order, rises, outside}
-use Rattle.contents.specs.Calls.{Span, span_in, find_says}
+use Rattle.contents.specs.Calls.{span_in, find_says}
+use Rattle.contents.specs.declared.Span.{Span}
 use Rattle.contents.proofs.Finding.{find_parts}
+use Rattle.rules.specs.declared.refusal.Refusal.TheVariants as Refusal
 
 row_cons : {k : Refusal} {t u : Bool} {x y : Table} → t ≡ u → x ≡ y → (k, t) ∷ x ≡ (k, u) ∷ y
 row_cons {k} e q = ap₂ (λ (t : Bool) (x : Table). (k, t) ∷ x) e q
+
+span_both : (x y u v : ℕ) → x ≡ u → y ≡ v → ◌≡◌ {A = Says Span} (Ok (record { start = x; len = y - x })) (Ok (record { start = u; len = v - u }))
+span_both x y u v e q = rw (e, q)
 
 -- b and c have the same contents, and are cut short together: fronts of books of n words
 module _ (b c : List ℕ) (n : ℕ) (short : ltb (length b) 17 ≡ ltb (length c) 17) (cut : ltb (length b) (front (pages_in b)) ≡ ltb (length c) (front (pages_in b)))
@@ -87,10 +93,10 @@ module _ (b c : List ℕ) (n : ℕ) (short : ltb (length b) 17 ≡ ltb (length c
       refl))))))))))
 
   module _ (i : ℕ) where
-    span_same : i < p → gives (span_in b n i) ≡ gives (span_in c n i)
-    span_same l = ap₂ (λ (x y : ℕ). gives (record { start = x; len = y - x })) (start_same i l) (end_same i)
+    span_same : i < p → ◌≡◌ {A = Says Span} (Ok (span_in b n i)) (Ok (span_in c n i))
+    span_same l = span_both _ _ _ _ (start_same i l) (end_same i)
 
-    last_same : (r q : Says Span) → (i < p → r ≡ q) → by_table ((by 41, not (ltb i (pages_in b))) ∷ []) r ≡ by_table ((by 41, not (ltb i (pages_in c))) ∷ []) q
+    last_same : (r q : Says Span) → (i < p → r ≡ q) → by_table ((Refusal.Page, not (ltb i (pages_in b))) ∷ []) r ≡ by_table ((Refusal.Page, not (ltb i (pages_in c))) ∷ []) q
     unfolding by_table
     last_same r q e = rw (← count) (elim (ordered i p) [ less l t ↦ rw (e l) | more l t ↦ rw t ])
 

@@ -1,4 +1,5 @@
 -- Where a page lies, by the contents and the book's length: accepted contents as facts, and what `find` says by the tests made so far. Assumes nothing.
+use Rattle.std.specs.Prelude.{Ok, Err}
 use Prim.Native.Nat.{ℕ, ◌+◌, ◌*◌, ◌-◌, ◌<◌, ◌≤◌}
 use native.Mathlib.Omega.{arith}
 use mathlib.Core.Path.{◌≡◌, refl, sym, ap, ◌∙◌}
@@ -10,28 +11,28 @@ use lib.ListN.{length, get_or}
 use borrow.Author.Tests.{eqb-true, eq-eqb, lt-ltb, le-ltb, ltb-true, ltb-false, leb-false, not-true, not-false}
 use Rattle.lists.specs.Below.{all_below}
 use Rattle.lists.specs.Lists.{all}
-use Rattle.rules.specs.Tables.{Table, none_hold, by, by_word}
+use Rattle.rules.specs.Tables.{Table, none_hold}
 use Rattle.lists.proofs.Tests.{ordered, less, more, and_left, and_right}
 use Rattle.lists.proofs.Lists.{all_append}
 use Rattle.lists.proofs.Below.{all_at, some_never}
-use Rattle.rules.proofs.Tables.{row_out, table_gives, table_both, table_given}
+use Rattle.rules.proofs.Tables.{and_then, row_out, table_after, table_gives, table_both, table_given}
 use Rattle.rules.specs.Image.{word}
-use Rattle.rules.specs.Says.{Says, refuses, gives, by_table}
-use Rattle.rules.specs.declared.Refusal.{Refusal}
+use Rattle.rules.specs.Says.{Says, by_table}
+use Rattle.rules.specs.declared.refusal.Refusal.{Refusal}
 use Rattle.contents.specs.Contents.{front, pages_in, start_in, end_in}
 use Rattle.contents.specs.Orders.{layout_rows, start_rows, contents_order, rises, outside, find_order}
 use Rattle.contents.specs.Accepted.{Accepted}
 use Rattle.contents.specs.Read.{Word, Pair, ContentsFit, Ends}
-use Rattle.contents.specs.Calls.{Span, span_in, find_says, says_page}
+use Rattle.contents.specs.Calls.{span_in, find_says}
+use Rattle.contents.specs.declared.Span.{Span}
 use Rattle.contents.specs.Promises.{Finds}
-use Rattle.contents.specs.declared.PageFound.{PageFound}
-use Rattle.contents.specs.declared.PageFound.TheVariants.{Part, Refused}
+use Rattle.rules.specs.declared.refusal.Refusal.TheVariants as Refusal
 
 -- ---- accepted contents: c is the front of a book of n words
 
 module _ (c : List ℕ) (n : ℕ) (h : none_hold (contents_order c n) ≡ true) where
   -- the k-th row of the table of 40
-  row : (k : ℕ) → (get_or (contents_order c n) k (by 0, false)).1 ≡ false
+  row : (k : ℕ) → (get_or (contents_order c n) k (Refusal.Buffer, false)).1 ≡ false
   row k = row_out (contents_order c n) k h
 
   all_rise : all_below (pages_in c - 1) (rises c) ≡ true
@@ -60,9 +61,9 @@ module _ (c : List ℕ) (n : ℕ) (h : none_hold (contents_order c n) ≡ true) 
     starts_in = λ i g. leb-false _ _ (some_never (outside c n) (pages_in c) i g (row 9));
   }
 
-module _ (c : List ℕ) (n : ℕ) (t : Bool) (q : ContentsFit c n t) (h : not t ≡ false) where
+module _ (c : List ℕ) (n : ℕ) (r : Says (Unit {0})) (q : ContentsFit c n r) (h : r ≡ Ok tt) where
   pub opened : Accepted c n
-  opened = accepted c n (sym q.fits ∙ not-false t h)
+  opened = accepted c n (table_given (contents_order c n) tt tt (sym q.says ∙ h)).0
 
   -- word 16 is there
   pub counted : 16 < length c
@@ -95,54 +96,36 @@ module _ (c : List ℕ) (n : ℕ) (a : Accepted c n) (i : ℕ) (h : i < pages_in
 
 -- ---- what is said
 
--- a refusal of that number, and no word
-abbrev one_number : ℕ → Refusal → Bool
-one_number k m = eqb m.number k && eqb m.word 0
-
-one_number_lem : (k : ℕ) (m : Refusal) → one_number k m ≡ true → m ≡ by k
-one_number_lem k m h =
-    let n : m.number ≡ k = eqb-true m.number k (and_left _ _ h) in
-    let z : m.word ≡ 0 = eqb-true m.word 0 (and_right (eqb m.number k) _ h) in
-    λ i. by_word (n i) (z i)
-
--- a table of one number refuses by it
-by_one : {A : Type 0} (k : ℕ) (t : Table) (r : Says A) → all (λ (e : Refusal × Bool). one_number k e.0) t ≡ true → none_hold t ≡ false → by_table t r ≡ refuses (by k)
-unfolding by_table all
-by_one k [] r n h = absurd (true≢false h)
-by_one k (e ∷ es) r n h = go e.0 e.1 (one_number_lem k e.0 (and_left _ _ n)) (λ q. by_one k es r (and_right (one_number k e.0) _ n) q) h
-  where
-    go : (m : Refusal) (t : Bool) → m ≡ by k → (none_hold es ≡ false → by_table es r ≡ refuses (by k)) → (not t && none_hold es) ≡ false → (refuses m if t else by_table es r) ≡ refuses (by k)
-    go m true z f q = ap refuses z
-    go m false z f q = f q
-
 module _ (c : List ℕ) (n i : ℕ) where
   -- 40, then 41
-  pub find_parts : find_says c n i ≡ by_table (contents_order c n) (by_table ((by 41, not (ltb i (pages_in c))) ∷ []) (gives (span_in c n i)))
+  pub find_parts : find_says c n i ≡ by_table (contents_order c n) (by_table ((Refusal.Page, not (ltb i (pages_in c))) ∷ []) (Ok (span_in c n i)))
   unfolding find_says find_order
-  find_parts = table_both (contents_order c n) _ (gives (span_in c n i))
+  find_parts = table_both (contents_order c n) _ (Ok (span_in c n i))
 
-  pub find_40 : (t : Bool) → ContentsFit c n t → not t ≡ true → (k : Refusal) → k ≡ by 40 → Finds c n i (Refused k)
-  unfolding contents_order layout_rows start_rows all
-  find_40 t q h k e = record { answer = ap refuses e ∙ sym (find_parts ∙ by_one 40 (contents_order c n) _ refl (sym q.fits ∙ not-true t h)) }
+  pub find_40 : (r : Says (Unit {0})) → ContentsFit c n r → (k : Refusal) → r ≡ Err k → Finds c n i (Err k)
+  unfolding find_says find_order
+  find_40 r q k h =
+      let u : Table = (Refusal.Page, not (ltb i (pages_in c))) ∷ [] in
+      record { answer = sym (table_after (contents_order c n) u (Ok (span_in c n i)) ∙ ap (λ (y : Says (Unit {0})). and_then y (by_table u (Ok (span_in c n i)))) (sym q.says ∙ h)) }
 
   module _ (a : Accepted c n) where
-    past_40 : find_says c n i ≡ by_table ((by 41, not (ltb i (pages_in c))) ∷ []) (gives (span_in c n i))
+    past_40 : find_says c n i ≡ by_table ((Refusal.Page, not (ltb i (pages_in c))) ∷ []) (Ok (span_in c n i))
     past_40 = find_parts ∙ table_gives (contents_order c n) _ a.passed
 
-    pub find_41 : (p : ℕ) → Word c 16 p → p ≤ i → (k : Refusal) → k ≡ by 41 → Finds c n i (Refused k)
+    pub find_41 : (p : ℕ) → Word c 16 p → p ≤ i → Finds c n i (Err Refusal.Page)
     unfolding by_table
-    find_41 p w h k e = record { answer = ap refuses e ∙ sym (past_40 ∙ rw (le-ltb i (pages_in c) (omega (arith, w.value)))) }
+    find_41 p w h = record { answer = sym (past_40 ∙ rw (le-ltb i (pages_in c) (omega (arith, w.value)))) }
 
-    pub found : i < pages_in c → find_says c n i ≡ gives (span_in c n i)
+    pub found : i < pages_in c → find_says c n i ≡ Ok (span_in c n i)
     unfolding by_table
     found h = past_40 ∙ rw (lt-ltb i (pages_in c) h)
 
-    pub find_part : i < pages_in c → (start end : ℕ) → Pair c (17 + 2 * i) start → Ends c n i end → Finds c n i (Part start (end - start))
+    pub find_part : i < pages_in c → (start end : ℕ) → Pair c (17 + 2 * i) start → Ends c n i end → Finds c n i (Ok (record { start = start; len = end - start }))
     find_part h start end q z = record { answer = rw (q.value, z.value) (sym (found h)) }
 
 -- ---- what a page that is found tells
 
-module _ (c : List ℕ) (n i : ℕ) (q : Span) (e : find_says c n i ≡ gives q) where
+module _ (c : List ℕ) (n i : ℕ) (q : Span) (e : find_says c n i ≡ Ok q) where
   no_row : none_hold (find_order c n i) ≡ true
   unfolding find_says
   no_row = (table_given (find_order c n i) (span_in c n i) q e).0
@@ -151,7 +134,7 @@ module _ (c : List ℕ) (n i : ℕ) (q : Span) (e : find_says c n i ≡ gives q)
   unfolding find_says
   find_is = (table_given (find_order c n i) (span_in c n i) q e).1
 
-  both_halves : (none_hold (contents_order c n) && none_hold ((by 41, not (ltb i (pages_in c))) ∷ [])) ≡ true
+  both_halves : (none_hold (contents_order c n) && none_hold ((Refusal.Page, not (ltb i (pages_in c))) ∷ [])) ≡ true
   unfolding find_order
   both_halves = sym (all_append (λ (z : Refusal × Bool). not z.1) (contents_order c n) _) ∙ no_row
 
@@ -159,7 +142,7 @@ module _ (c : List ℕ) (n i : ℕ) (q : Span) (e : find_says c n i ≡ gives q)
   find_opens = accepted c n (and_left _ _ both_halves)
 
   pub find_counted : i < pages_in c
-  find_counted = ltb-true i (pages_in c) (not-false _ (row_out ((by 41, not (ltb i (pages_in c))) ∷ []) 0 (and_right (none_hold (contents_order c n)) _ both_halves)))
+  find_counted = ltb-true i (pages_in c) (not-false _ (row_out ((Refusal.Page, not (ltb i (pages_in c))) ∷ []) 0 (and_right (none_hold (contents_order c n)) _ both_halves)))
 
   pub find_inside : q.start + q.len ≤ n
   find_inside =
@@ -167,16 +150,16 @@ module _ (c : List ℕ) (n i : ℕ) (q : Span) (e : find_says c n i ≡ gives q)
       omega (arith, ap (λ (s : Span). s.start) find_is, ap (λ (s : Span). s.len) find_is, z.above, z.inside)
 
 -- the same of the answer
-module _ (c : List ℕ) (n i : ℕ) (r : PageFound) (f : Finds c n i r) (start size : ℕ) (e : r ≡ Part start size) where
-  pub part_given : find_says c n i ≡ gives (record { start = start; len = size })
-  part_given = sym f.answer ∙ ap says_page e
+module _ (c : List ℕ) (n i : ℕ) (r : Says Span) (f : Finds c n i r) (q : Span) (e : r ≡ Ok q) where
+  pub part_given : find_says c n i ≡ Ok q
+  part_given = sym f.answer ∙ e
 
   pub part_opens : Accepted c n
-  part_opens = find_opens c n i _ part_given
+  part_opens = find_opens c n i q part_given
 
   -- the contents are long enough for the setting's words
   pub part_long : 17 ≤ length c
   part_long = part_opens.long
 
-  pub part_inside : start + size ≤ n
-  part_inside = find_inside c n i _ part_given
+  pub part_inside : q.start + q.len ≤ n
+  part_inside = find_inside c n i q part_given

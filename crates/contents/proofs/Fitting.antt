@@ -1,32 +1,54 @@
 -- The tests of a book's contents, row by row of the table of 40. Assumes nothing.
+use Rattle.std.specs.Prelude.{Ok, Err, is_ok, ⊤}
 use Prim.Native.Nat.{ℕ, zero, suc, ◌+◌, ◌*◌, ◌-◌, ◌<◌, ◌≤◌}
 use native.Mathlib.Omega.{arith}
 use mathlib.Core.Path.{◌≡◌, refl, sym, ap, ◌∙◌}
-use mathlib.Core.Bool.{Bool, true, false, not, ◌&&◌, ◌||◌}
+use mathlib.Core.Bool.{Bool, true, false, not, ◌&&◌, ◌||◌, true≢false, and-false}
 use mathlib.Core.List.{List, [], ◌∷◌}
 use lib.Dec.{leb, ltb, eqb}
 use lib.ListN.{length, get_or}
 use borrow.Author.Tests.{eq-eqb, ne_eqb, lt-ltb, le-ltb, le-leb, lt-leb, ltb-true, not-true, not-false}
 use Rattle.lists.specs.Below.{all_below, some_below}
 use Rattle.lists.specs.Lists.{all}
-use Rattle.rules.specs.Tables.{Table, none_hold, by}
+use Rattle.lists.specs.Choice.{◌if◌else◌}
+use Rattle.rules.specs.Tables.{Table, none_hold}
 use Rattle.lists.proofs.Tests.{ordered, less, more}
 use Rattle.lists.proofs.Below.{all_none, all_next, all_at, some_found, some_false}
 use Rattle.lists.proofs.Lists.{all_append}
 use Rattle.rules.specs.Image.{word}
 use Rattle.rules.specs.Promises.{Validates}
+use Rattle.rules.specs.Setting.{setting_check}
 use Rattle.rules.specs.declared.Setting.{Setting}
-use Rattle.rules.specs.declared.Verdict.{Verdict}
-use Rattle.rules.specs.declared.Verdict.TheVariants.{Accepted, Refused}
-use Rattle.rules.specs.declared.Refusal.{Refusal}
-use Rattle.contents.proofs.Verdicts.{accepted_check, refused_not}
+use Rattle.rules.specs.declared.refusal.Refusal.{Refusal}
+use Rattle.rules.proofs.SettingParts.{accepted_says, says_accepted}
+use Rattle.rules.proofs.Tables.{table_gives}
 use Rattle.contents.specs.Settings.{four_at, limit_off, setting_in}
 use Rattle.contents.specs.Contents.{front, pages_in, start_in}
 use Rattle.contents.specs.Orders.{layout_rows, rises, outside, start_rows, contents_order}
 use Rattle.contents.specs.Read.{Word, Pair, OffLimit, SettingFits, LayoutFits, Rising, StartsFit, ContentsFit}
+use Rattle.rules.specs.Says.{Says, by_table}
+use Rattle.rules.specs.declared.refusal.Refusal.TheVariants as Refusal
+
+refused_none : {k : Refusal} → ◌≡◌ {A = Says (Unit {0})} (Err k) (Ok tt) → ⊥
+refused_none e = let z : ◌≡◌ {A = ℕ} 0 1 = cc in omega arith
+
+-- each row refuses by k
+each_by : Refusal → Table → Type 0
+each_by k [] = ⊤
+each_by k (e ∷ es) = (e.0 ≡ k) × each_by k es
+
+-- a table of one refusal refuses by it
+by_one : {A : Type 0} (k : Refusal) (t : Table) (r : Says A) → each_by k t → none_hold t ≡ false → by_table t r ≡ Err k
+unfolding by_table all each_by
+by_one k [] r n h = absurd (true≢false h)
+by_one k (e ∷ es) r n h = go e.0 e.1 n.0 (λ q. by_one k es r n.1 q) h
+  where
+    go : (m : Refusal) (t : Bool) → m ≡ k → (none_hold es ≡ false → by_table es r ≡ Err k) → (not t && none_hold es) ≡ false → (Err m if t else by_table es r) ≡ Err k
+    go m true z f q = ap Err z
+    go m false z f q = f q
 
 -- a row that holds
-pub row_in : (t : Table) (k : ℕ) → (get_or t k (by 0, false)).1 ≡ true → none_hold t ≡ false
+pub row_in : (t : Table) (k : ℕ) → (get_or t k (Refusal.Buffer, false)).1 ≡ true → none_hold t ≡ false
 unfolding all
 row_in [] k h = sym h
 row_in (e ∷ es) zero h = rw h
@@ -49,12 +71,10 @@ twice_not false = refl
 pub limit_off_is : (b : List ℕ) (k flag n : ℕ) → Word b k flag → n ≡ four_at b (1 + k) → OffLimit b k (ltb 1 flag || (eqb flag 0 && not (eqb n 0)))
 limit_off_is b k flag n w e = record { off = rw (w.value, e) }
 
-module _ (b : List ℕ) (s : Setting) (v : Verdict) (e : s ≡ setting_in b) (q : Validates s v) where
-  pub setting_taken : v ≡ Accepted → SettingFits b true
-  setting_taken h = record { fits = sym (eq-eqb _ 0 (rw e at (accepted_check s v q h))) }
-
-  pub setting_refused : (n : Refusal) → v ≡ Refused n → SettingFits b false
-  setting_refused n h = record { fits = sym (ne_eqb _ 0 (rw e at (refused_not s v q n h))) }
+-- an answer on a setting is a verdict on it
+pub setting_fits_is : (b : List ℕ) (s : Setting) (v : Says (Unit {0})) → s ≡ setting_in b → Validates s v → SettingFits b (is_ok v)
+setting_fits_is b s (Ok u) e q = record { fits = sym (eq-eqb _ 0 (rw e at (says_accepted s (sym q.answer)))) }
+setting_fits_is b s (Err k) e q = record { fits = sym (ne_eqb _ 0 (rw e at (λ (z : setting_check s ≡ 0). refused_none (q.answer ∙ accepted_says s z)))) }
 
 module _ (b : List ℕ) where
   pub layout_first : (n : ℕ) → Word b 0 n → (n ≡ 1 → ⊥) → LayoutFits b false
@@ -166,15 +186,24 @@ module _ (c : List ℕ) (n p : ℕ) (w : Word c 16 p) where
 -- ---- the whole table
 
 module _ (c : List ℕ) (n : ℕ) where
-  pub contents_cut : length c < 17 → ContentsFit c n false
+  refused : none_hold (contents_order c n) ≡ false → ContentsFit c n (Err Refusal.Contents)
+  unfolding contents_order layout_rows start_rows each_by
+  refused h = record { says = sym (by_one Refusal.Contents (contents_order c n) (Ok tt) (refl, (refl, (refl, (refl, (refl, (refl, (refl, (refl, (refl, (refl, (refl, tt))))))))))) h) }
+
+  pub contents_cut : length c < 17 → ContentsFit c n (Err Refusal.Contents)
   unfolding contents_order
-  contents_cut h = record { fits = sym (row_in (contents_order c n) 0 (lt-ltb (length c) 17 h)) }
+  contents_cut h = refused (row_in (contents_order c n) 0 (lt-ltb (length c) 17 h))
 
-  pub contents_off : 17 ≤ length c → (t : Bool) → LayoutFits c t → not t ≡ true → ContentsFit c n false
+  -- the rest of the table, where the front is there
+  parts : 17 ≤ length c → (t r : Bool) → LayoutFits c t → StartsFit c n r → none_hold (contents_order c n) ≡ (t && r)
   unfolding contents_order all
-  contents_off h t q u = record { fits = rw (le-ltb (length c) 17 h, all_append (λ (e : Refusal × Bool). not e.1) (layout_rows c) (start_rows c n), ← q.fits, not-true t u) }
+  parts h t r q v = rw (le-ltb (length c) 17 h, all_append (λ (e : Refusal × Bool). not e.1) (layout_rows c) (start_rows c n), ← q.fits, ← v.fits)
 
-  pub contents_on : 17 ≤ length c → (t r : Bool) → LayoutFits c t → not t ≡ false → StartsFit c n r → ContentsFit c n r
-  unfolding contents_order all
-  contents_on h t r q u v =
-      record { fits = rw (le-ltb (length c) 17 h, all_append (λ (e : Refusal × Bool). not e.1) (layout_rows c) (start_rows c n), ← q.fits, ← v.fits, not-false t u) }
+  pub contents_off : 17 ≤ length c → (t : Bool) → LayoutFits c t → t ≡ false → ContentsFit c n (Err Refusal.Contents)
+  contents_off h t q u = refused (parts h t _ q (record { fits = refl }) ∙ rw u)
+
+  pub contents_late : 17 ≤ length c → (t r : Bool) → LayoutFits c t → StartsFit c n r → r ≡ false → ContentsFit c n (Err Refusal.Contents)
+  contents_late h t r q v u = refused (parts h t r q v ∙ rw u (and-false t))
+
+  pub contents_on : 17 ≤ length c → (t r : Bool) → LayoutFits c t → t ≡ true → StartsFit c n r → r ≡ true → ContentsFit c n (Ok tt)
+  contents_on h t r q u v w = record { says = sym (table_gives (contents_order c n) (Ok tt) (parts h t r q v ∙ rw (u, w))) }

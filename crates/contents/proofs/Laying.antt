@@ -1,19 +1,19 @@
 -- An accepted setting's numbers fit their words. Assumes nothing.
+use Rattle.std.specs.Prelude.{Ok}
 use Prim.Native.Nat.{ℕ, ◌<◌, ◌≤◌}
 use native.Mathlib.Omega.{arith}
-use mathlib.Core.Path.{◌≡◌}
+use mathlib.Core.Path.{◌≡◌, sym, ◌∙◌}
 use lib.IntN.{ℤ, pos, nat_abs}
 use Rattle.rules.specs.Setting.{area_of, side_of, setting_check}
 use Rattle.rules.specs.SettingFacts.{Accepts}
 use Rattle.rules.specs.Promises.{Validates}
 use Rattle.rules.specs.declared.Setting.{Setting}
-use Rattle.rules.specs.declared.Verdict.{Verdict}
-use Rattle.rules.specs.declared.Verdict.TheVariants.{Accepted}
 use Rattle.rules.proofs.Facts.{square_le}
 use Rattle.rules.proofs.SettingFacts.{accepts}
 use Rattle.grid.specs.Near.{Plain}
-use Rattle.contents.proofs.Verdicts.{accepted_check}
+use Rattle.rules.proofs.SettingParts.{says_accepted}
 use Rattle.contents.specs.Written.{Wordy}
+use Rattle.rules.specs.Says.{Says}
 
 -- ---- an accepted setting's numbers fit their words
 
@@ -39,5 +39,5 @@ module _ (s : Setting) (e : setting_check s ≡ 0) where
     fed = omega (arith, facts.food_free, area_small);
   }
 
-pub accepted_wordy : (s : Setting) (v : Verdict) → Validates s v → v ≡ Accepted → Wordy s
-accepted_wordy s v q h = setting_wordy s (accepted_check s v q h)
+pub accepted_wordy : (s : Setting) (v : Says (Unit {0})) → Validates s v → v ≡ (Ok tt) → Wordy s
+accepted_wordy s v q h = setting_wordy s (says_accepted s (sym q.answer ∙ h))

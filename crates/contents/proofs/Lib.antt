@@ -1,4 +1,3 @@
-pub mod Verdicts
 pub mod Fitting
 pub mod Finding
 pub mod Laying

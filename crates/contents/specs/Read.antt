@@ -1,7 +1,8 @@
 -- What the functions that read a book's contents ensure. Assumes nothing.
-use Rattle.std.specs.Prelude.{ℕ, ◌<◌, ◌≤◌, Bool, List, ◌≡◌, eqb}
+use Rattle.std.specs.Prelude.{ℕ, ◌<◌, ◌≤◌, Bool, List, ◌≡◌, eqb, Ok}
 use Rattle.lists.specs.Below.{all_below}
 use Rattle.rules.specs.Tables.{none_hold}
+use Rattle.rules.specs.Says.{Says, by_table}
 use Rattle.rules.specs.Setting.{setting_check}
 use Rattle.contents.specs.Settings.{limit_off, setting_in}
 use Rattle.contents.specs.Contents.{start_in, end_in}
@@ -28,8 +29,8 @@ pub record Rising (b : List ℕ) (n i : ℕ) (r : Bool) : Type 0 where
 pub record StartsFit (c : List ℕ) (n : ℕ) (r : Bool) : Type 0 where
   pub fits : r ≡ none_hold (start_rows c n)
 
-pub record ContentsFit (c : List ℕ) (n : ℕ) (r : Bool) : Type 0 where
-  pub fits : r ≡ none_hold (contents_order c n)
+pub record ContentsFit (c : List ℕ) (n : ℕ) (r : Says (Unit {0})) : Type 0 where
+  pub says : r ≡ by_table (contents_order c n) (Ok tt)
 
 -- ---- where a page ends
 

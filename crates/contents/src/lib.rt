@@ -6,11 +6,10 @@ mod tests;
 
 pub use book_words::{pair, setting_in, word, write_front, write_pair};
 pub use places::find;
-use rules::Refusal;
 
 // Where a page lies in its book, in words.
 #[derive(Clone, Copy)]
-pub enum PageFound {
-    Part { start: usize, len: usize },
-    Refused(Refusal),
+pub struct Span {
+    pub start: usize,
+    pub len: usize,
 }

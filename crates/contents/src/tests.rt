@@ -3,7 +3,7 @@ ghost use Rattle.std.specs.Prelude.{◌+◌, ◌*◌, ◌<◌, ◌≤◌, length
 ghost use Rattle.contents.specs.Read.{OffLimit, SettingFits, LayoutFits, Rising, StartsFit, ContentsFit};
 
 use book_words::{four, pair, setting_in, word};
-use rules::Verdict;
+use rules::Refusal;
 
 fn limit_off(contents: &[u16], k: usize) -> bool
     requires { 4 + k < length contents.now }
@@ -13,11 +13,12 @@ fn limit_off(contents: &[u16], k: usize) -> bool
     (1 < flag) | ((flag == 0) & (four(contents, 1 + k) != 0))
 }
 
+#[tactic(auto, using(crate::proofs::Fitting::setting_fits_is))]
 fn setting_fits(contents: &[u16]) -> bool
     requires { 17 ≤ length contents.now }
     ensures { SettingFits contents.now result }
 {
-    matches!(setting::validate(setting_in(contents)), Verdict::Accepted)
+    setting::validate(setting_in(contents)).is_ok()
 }
 
 // Words 0 to 15.
@@ -73,14 +74,11 @@ fn starts_fit(contents: &[u16], words: usize) -> bool
     pair(contents, 17 + 2 * (p - 1)) < words
 }
 
-pub(crate) fn accepted(contents: &[u16], words: usize) -> bool
+pub(crate) fn check_contents(contents: &[u16], words: usize) -> Result<(), Refusal>
     ensures { ContentsFit contents.now words result }
 {
-    if contents.len() < 17 {
-        return false;
+    if contents.len() < 17 || !layout_fits(contents) || !starts_fit(contents, words) {
+        return Err(Refusal::Contents);
     }
-    if !layout_fits(contents) {
-        return false;
-    }
-    starts_fit(contents, words)
+    Ok(())
 }

@@ -8,33 +8,34 @@ ghost use Rattle.events.specs.Causes.{cause_number, cause_in};
 
 use rules::{Cause, Event};
 
-pub fn is_death(cause: Cause) -> bool
+pub fn is_death(cause: Option<Cause>) -> bool
     ensures { result ≡ dies cause }
 {
-    !matches!(cause, Cause::NoCause)
+    cause.is_some()
 }
 
-pub fn cause_number(cause: Cause) -> u16
+// No From: an event without a cause has a number too, and an Option takes no impl from here.
+pub fn cause_number(cause: Option<Cause>) -> u16
     ensures { (result ≡ cause_number cause) × (result ≤ 4) }
 {
     match cause {
-        Cause::NoCause => 0,
-        Cause::Wall => 1,
-        Cause::SelfBody => 2,
-        Cause::OppBody => 3,
-        Cause::HeadOn => 4,
+        None => 0,
+        Some(Cause::Wall) => 1,
+        Some(Cause::SelfBody) => 2,
+        Some(Cause::OppBody) => 3,
+        Some(Cause::HeadOn) => 4,
     }
 }
 
-pub fn cause_in(number: u16) -> Cause
+pub fn cause_in(number: u16) -> Option<Cause>
     ensures { result ≡ cause_in number }
 {
     match number {
-        1 => Cause::Wall,
-        2 => Cause::SelfBody,
-        3 => Cause::OppBody,
-        4 => Cause::HeadOn,
-        _ => Cause::NoCause,
+        1 => Some(Cause::Wall),
+        2 => Some(Cause::SelfBody),
+        3 => Some(Cause::OppBody),
+        4 => Some(Cause::HeadOn),
+        _ => None,
     }
 }
 
@@ -45,7 +46,7 @@ pub fn no_events() -> [Event; 8]
     [Event {
         ate_food: false,
         died: false,
-        death_cause: Cause::NoCause,
+        death_cause: None,
         killed_opponent: false,
         won: false,
         lost: false,

@@ -5,7 +5,6 @@ ghost use Rattle.rules.specs.Promises.{Faulty};
 ghost use Rattle.faults.specs.Past.{InRange, InPlace, OnGrid};
 
 use lists::smaller;
-use refusals::by_word;
 use rules::Refusal;
 use wellformed::{cells_fit, laid_out};
 use wrong_cells::{first_beyond, first_fall, first_twice, twice_at};
@@ -17,11 +16,10 @@ fn bodies_fault(image: &[u16], food: usize) -> Refusal
     requires food_value { food ≡ food_start image.now }
     ensures { Faulty image.now result }
 {
-    let i = first_twice(image);
-    if i < image[0] as usize {
-        return by_word(55, twice_at(image, i));
+    match first_twice(image) {
+        Some(i) => Refusal::CellTwice(twice_at(image, i)),
+        None => Refusal::FoodOrder(first_fall(image, food)),
     }
-    by_word(56, first_fall(image, food))
 }
 
 fn cells_fault(image: &[u16], food: usize) -> Refusal
@@ -30,7 +28,7 @@ fn cells_fault(image: &[u16], food: usize) -> Refusal
     ensures { Faulty image.now result }
 {
     if !cells_fit(image) {
-        return by_word(54, first_beyond(image));
+        return Refusal::CellBeyond(first_beyond(image));
     }
     bodies_fault(image, food)
 }
@@ -41,11 +39,11 @@ pub(crate) fn layout_fault(image: &[u16]) -> Refusal
 {
     let found = laid_out(image);
     if !found.fits {
-        return by_word(52, first_start(image));
+        return Refusal::Start(first_start(image));
     }
     let total = found.food + image[4] as usize;
     if total != image.len() {
-        return by_word(53, smaller(total, image.len()));
+        return Refusal::Total(smaller(total, image.len()));
     }
     cells_fault(image, found.food)
 }

@@ -8,8 +8,7 @@ ghost use Rattle.rules.specs.Promises.{Examines, Faulty};
 ghost use Rattle.faults.specs.Past.{Counted};
 
 use layout_faults::layout_fault;
-use refusals::by_word;
-use rules::{Refusal, Verdict};
+use rules::Refusal;
 use wellformed::contents_fit;
 use wrong_contents::{contents_out, cut_short, first_record, record_out};
 
@@ -20,11 +19,10 @@ fn records_fault(image: &[u16]) -> Refusal
 {
     let n = image[0] as usize;
     let g = image[1] as usize;
-    let i = first_record(image, g * g, n);
-    if i < n {
-        return by_word(51, record_out(image, g * g, i));
+    match first_record(image, g * g, n) {
+        Some(i) => Refusal::OutOfRange(record_out(image, g * g, i)),
+        None => layout_fault(image),
     }
-    layout_fault(image)
 }
 
 // The fault of an image that is not well-formed.
@@ -32,20 +30,20 @@ pub fn fault_in(image: &[u16]) -> Refusal
     ensures { Faulty image.now result }
 {
     if cut_short(image) {
-        return by_word(50, image.len());
+        return Refusal::CutShort(image.len());
     }
     if !contents_fit(image) {
-        return by_word(51, contents_out(image));
+        return Refusal::OutOfRange(contents_out(image));
     }
     records_fault(image)
 }
 
 // The check of an image: accepted, or what is wrong with it.
-pub fn check_image(image: &[u16]) -> Verdict
+pub fn check_image(image: &[u16]) -> Result<(), Refusal>
     ensures { Examines image.now result }
 {
     if wellformed::well_formed(image) {
-        return Verdict::Accepted;
+        return Ok(());
     }
-    Verdict::Refused(fault_in(image))
+    Err(fault_in(image))
 }

@@ -1,4 +1,5 @@
 -- What a caller's numbers are read as, part by part. Assumes nothing.
+use Rattle.std.specs.Prelude.{Option, Some, None}
 use Prim.Native.Nat.{ℕ, ◌-◌, ◌<◌, ◌≤◌}
 use mathlib.Core.Path.{◌≡◌, ◌∙◌}
 use mathlib.Core.Bool.{not}
@@ -12,16 +13,14 @@ use mir.Facts.{to_z_pos, to_z-of_z}
 use mir.Syntax.{w32}
 use mir.Val.{to_z, of_z, SFits}
 use Rattle.lists.proofs.Signs.{minus_one}
-use Rattle.rules.specs.declared.Limit.{Limit}
-use Rattle.rules.specs.declared.Limit.TheVariants.{Unset, Is}
 use Rattle.flat.specs.Flat.{limit_in, grid_in, setting_in}
 
 -- ---- a limit
 
-pub is_unset : (set n : ℕ) → set ≡ 0 → Unset ≡ limit_in set n
+pub is_unset : (set n : ℕ) → set ≡ 0 → None ≡ limit_in set n
 is_unset set n e = rw (eq-eqb set 0 e)
 
-pub is_set : (set n : ℕ) → (set ≡ 0 → ⊥) → Is n ≡ limit_in set n
+pub is_set : (set n : ℕ) → (set ≡ 0 → ⊥) → Some n ≡ limit_in set n
 is_set set n e = rw (ne_eqb set 0 e)
 
 -- ---- a grid
@@ -52,7 +51,7 @@ module _ (n : ℕ) where
 
 -- ---- a setting, an event
 
-pub setting_read : (s : List ℕ) (g h : ℤ) (lead ticks : Limit) → g ≡ grid_in (get_or s 1 0) → h ≡ g → lead ≡ limit_in (get_or s 4 0) (get_or s 5 0) → ticks ≡ limit_in (get_or s 7 0) (get_or s 8 0)
+pub setting_read : (s : List ℕ) (g h : ℤ) (lead ticks : Option ℕ) → g ≡ grid_in (get_or s 1 0) → h ≡ g → lead ≡ limit_in (get_or s 4 0) (get_or s 5 0) → ticks ≡ limit_in (get_or s 7 0) (get_or s 8 0)
     → record {
       num_snakes = get_or s 0 0;
       grid_size = h;

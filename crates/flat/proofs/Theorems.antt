@@ -1,7 +1,8 @@
 -- The flat forms lose nothing: what is told, read again, is what it was; every setting can be said; a number that is no 32-bit grid is refused
 -- by the grid's own number. Assumes nothing.
+use Rattle.std.specs.Prelude.{Option, Some, None, Err}
 use Prim.Native.Nat.{ℕ, ◌+◌, ◌-◌, ◌*◌, ◌/◌, ◌%◌, ◌<◌, ◌≤◌}
-use mathlib.Core.Path.{◌≡◌, refl, sym, ap, ◌∙◌}
+use mathlib.Core.Path.{◌≡◌, refl, sym, ap, ap₂, ◌∙◌}
 use mathlib.Core.Bool.{Bool, true, false}
 use mathlib.Core.List.{List, [], ◌∷◌}
 use native.Mathlib.Omega.{arith}
@@ -15,15 +16,12 @@ use Rattle.lists.specs.Below.{each_below}
 use Rattle.lists.proofs.Below.{each_ext, each_back}
 use Rattle.rules.specs.Events.{blank}
 use Rattle.rules.specs.Setting.{setting_order}
-use Rattle.rules.specs.Tables.{by, by_word}
-use Rattle.rules.specs.Says.{refuses, by_table}
+use Rattle.rules.specs.Says.{by_table}
 use Rattle.rules.specs.Calls.{space_says}
-use Rattle.rules.specs.declared.Refusal.{Refusal}
-use Rattle.rules.specs.declared.Limit.{Limit}
-use Rattle.rules.specs.declared.Limit.TheVariants.{Unset, Is}
+use Rattle.rules.specs.declared.refusal.Refusal.{Refusal}
 use Rattle.rules.specs.declared.Setting.{Setting}
 use Rattle.rules.specs.declared.Cause.{Cause}
-use Rattle.rules.specs.declared.Cause.TheVariants.{NoCause, Wall, SelfBody, OppBody, HeadOn}
+use Rattle.rules.specs.declared.Cause.TheVariants.{Wall, SelfBody, OppBody, HeadOn}
 use Rattle.rules.specs.declared.Event.{Event}
 use Rattle.events.specs.Causes.{cause_in, cause_number}
 use Rattle.standing.specs.Standing.{fresh}
@@ -31,6 +29,7 @@ use Rattle.standing.specs.declared.Match.{Match}
 use Rattle.flat.specs.Flat.{flag_in, limit_in, grid_in, setting_in, event_in, event_bytes, events_bytes, refusal_number, refusal_in}
 use Rattle.flat.specs.Games.{events_in, match_in, match_numbers}
 use Rattle.flat.proofs.Read.{no_grid}
+use Rattle.rules.specs.Refusals.{word_shown, refusal_by}
 
 -- ---- an event
 
@@ -38,12 +37,12 @@ pub flag_back : (b : Bool) → flag_in (bit b) ≡ b
 flag_back true = refl
 flag_back false = refl
 
-cause_back : (c : Cause) → cause_in (cause_number c) ≡ c
-cause_back NoCause = refl
-cause_back Wall = refl
-cause_back SelfBody = refl
-cause_back OppBody = refl
-cause_back HeadOn = refl
+cause_back : (c : Option Cause) → cause_in (cause_number c) ≡ c
+cause_back None = refl
+cause_back (Some Wall) = refl
+cause_back (Some SelfBody) = refl
+cause_back (Some OppBody) = refl
+cause_back (Some HeadOn) = refl
 
 pub event_back : (e : Event) → event_in (event_bytes e) ≡ e
 event_back e = λ i. record {
@@ -93,18 +92,51 @@ match_back m p q = λ i. record {
 -- ---- a refusal
 
 -- a number below 256 and a word below 65,536 are told by one number
-module _ (k : Refusal) (n : k.number < 256) (s : k.word < 65536) where
-  told_is : refusal_number k ≡ k.number + 256 * k.word
-  told_is = omega arith
+told_back : (n at : ℕ) → n < 256 → at < 65536 → refusal_in (n + 256 * (at % 65536)) ≡ refusal_by n at
+told_back n at h s =
+    let e : n + 256 * (at % 65536) ≡ n + 256 * at = omega arith in
+    let p : (n + 256 * at) % 256 ≡ n = omega arith in
+    let q : (n + 256 * at) / 256 ≡ at = omega arith in
+    ap refusal_in e ∙ ap₂ refusal_by p q
 
-  number_told : refusal_number k % 256 ≡ k.number
-  number_told = omega (arith, told_is)
-
-  word_told : refusal_number k / 256 ≡ k.word
-  word_told = omega (arith, told_is)
-
-  pub refusal_back : refusal_in (refusal_number k) ≡ k
-  refusal_back = λ i. by_word (number_told i) (word_told i)
+pub refusal_back : (k : Refusal) → word_shown k < 65536 → refusal_in (refusal_number k) ≡ k
+refusal_back Refusal.Snakes s = refl
+refusal_back Refusal.LengthZero s = refl
+refusal_back Refusal.LeadZero s = refl
+refusal_back Refusal.LeadNotTwo s = refl
+refusal_back Refusal.Grid s = refl
+refusal_back Refusal.FoodArea s = refl
+refusal_back Refusal.Chain s = refl
+refusal_back Refusal.Product s = refl
+refusal_back Refusal.Untraceable s = refl
+refusal_back Refusal.CellOutside s = refl
+refusal_back Refusal.CellTaken s = refl
+refusal_back Refusal.FoodFree s = refl
+refusal_back Refusal.OtherSetting s = refl
+refusal_back Refusal.FoodDue s = refl
+refusal_back Refusal.NoneDue s = refl
+refusal_back Refusal.ActionCount s = refl
+refusal_back Refusal.Action s = refl
+refusal_back Refusal.Agent s = refl
+refusal_back Refusal.Outcome s = refl
+refusal_back Refusal.Count s = refl
+refusal_back Refusal.Buffer s = refl
+refusal_back Refusal.List s = refl
+refusal_back Refusal.Weight s = refl
+refusal_back Refusal.Line s = refl
+refusal_back Refusal.Over s = refl
+refusal_back Refusal.Contents s = refl
+refusal_back Refusal.Page s = refl
+refusal_back Refusal.Pages s = refl
+refusal_back (Refusal.CutShort at) s = told_back 50 at (omega arith) s
+refusal_back (Refusal.OutOfRange at) s = told_back 51 at (omega arith) s
+refusal_back (Refusal.Start at) s = told_back 52 at (omega arith) s
+refusal_back (Refusal.Total at) s = told_back 53 at (omega arith) s
+refusal_back (Refusal.CellBeyond at) s = told_back 54 at (omega arith) s
+refusal_back (Refusal.CellTwice at) s = told_back 55 at (omega arith) s
+refusal_back (Refusal.FoodOrder at) s = told_back 56 at (omega arith) s
+refusal_back Refusal.UnitCount s = refl
+refusal_back Refusal.UnitNumber s = refl
 
 -- ---- a setting, as a caller says it
 
@@ -120,17 +152,17 @@ grid_back (negsuc n) f =
     let e : 18446744073709551615 - (18446744073709551615 - n) ≡ n = omega arith in
     rw (le-ltb (18446744073709551615 - n) 2147483648 (omega arith), le-ltb (18446744073709551615 - n) 18446744071562067968 (omega arith), e)
 
-abbrev limit_set : Limit → ℕ
-limit_set Unset = 0
-limit_set (Is n) = 1
+abbrev limit_set : Option ℕ → ℕ
+limit_set None = 0
+limit_set (Some n) = 1
 
-abbrev limit_number : Limit → ℕ
-limit_number Unset = 0
-limit_number (Is n) = n
+abbrev limit_number : Option ℕ → ℕ
+limit_number None = 0
+limit_number (Some n) = n
 
-limit_back : (l : Limit) → limit_in (limit_set l) (limit_number l) ≡ l
-limit_back Unset = refl
-limit_back (Is n) = refl
+limit_back : (l : Option ℕ) → limit_in (limit_set l) (limit_number l) ≡ l
+limit_back None = refl
+limit_back (Some n) = refl
 
 abbrev pub setting_numbers : Setting → List ℕ
 setting_numbers s =
@@ -151,9 +183,9 @@ setting_back s f = λ i. record {
 -- ---- a number that no 32 bits hold: the row of 5 holds
 
 module _ (n : ℕ) (low : 2147483648 ≤ n) (high : n < 18446744071562067968) where
-  pub no_grid_setting : (s : List ℕ) → get_or s 1 0 ≡ n → get_or (setting_order (setting_in s)) 4 (by 0, false) ≡ (by 5, true)
+  pub no_grid_setting : (s : List ℕ) → get_or s 1 0 ≡ n → get_or (setting_order (setting_in s)) 4 (Refusal.Buffer, false) ≡ (Refusal.Grid, true)
   no_grid_setting s e = rw (e, ← no_grid n low high)
 
-  pub no_grid_space : space_says (grid_in n) ≡ refuses (by 5)
+  pub no_grid_space : space_says (grid_in n) ≡ Err Refusal.Grid
   unfolding space_says by_table
   no_grid_space = rw (← no_grid n low high)

@@ -1,4 +1,5 @@
 -- What is told, part by part. Assumes nothing.
+use Rattle.std.specs.Prelude.{Option}
 use Prim.Native.Nat.{ℕ}
 use mathlib.Core.Path.{◌≡◌}
 use mathlib.Core.List.{List, [], ◌∷◌}
@@ -26,7 +27,7 @@ pub events_told : (es : List Event) (a b c d e f g h : List ℕ) → a ≡ event
 unfolding events_bytes
 events_told es = eight_told event_bytes blank es
 
-pub hits_told : (hs : List Hit) (a b c d e f g h : List ℕ) → a ≡ hit_words (get_or hs 0 unhit) → b ≡ hit_words (get_or hs 1 unhit) → c ≡ hit_words (get_or hs 2 unhit) → d ≡ hit_words (get_or hs 3 unhit)
+pub hits_told : (hs : List (Option Hit)) (a b c d e f g h : List ℕ) → a ≡ hit_words (get_or hs 0 unhit) → b ≡ hit_words (get_or hs 1 unhit) → c ≡ hit_words (get_or hs 2 unhit) → d ≡ hit_words (get_or hs 3 unhit)
     → e ≡ hit_words (get_or hs 4 unhit) → f ≡ hit_words (get_or hs 5 unhit) → g ≡ hit_words (get_or hs 6 unhit) → h ≡ hit_words (get_or hs 7 unhit) → (a ∷ b ∷ c ∷ d ∷ e ∷ f ∷ g ∷ h ∷ []) ≡ hits_words hs
 unfolding hits_words
 hits_told hs = eight_told hit_words unhit hs

@@ -1,4 +1,5 @@
 -- What is wrong with an image fits a number of 64 bits: a fault's number is 50 to 56, and its word is below 65,536. Assumes nothing.
+use Rattle.std.specs.Prelude.{Some, Ok, Err}
 use Prim.Native.Nat.{ℕ, ◌+◌, ◌*◌, ◌-◌, ◌<◌, ◌≤◌}
 use native.Mathlib.Nat.{min-le_left}
 use native.Mathlib.Omega.{arith}
@@ -8,31 +9,31 @@ use mathlib.Core.List.{List}
 use mathlib.Core.Logic.{⊎_elim}
 use lib.Dec.{leb, ltb, eqb}
 use lib.ListN.{length, get_or, take, drop, length-take}
-use borrow.Author.Tests.{ltb-true, leb-true}
+use borrow.Author.Tests.{ltb-true, leb-true, not-true, not-false}
 use Rattle.lists.specs.Choice.{◌if◌else◌}
 use Rattle.lists.specs.Lists.{member, distinct}
 use Rattle.lists.proofs.Tests.{tell, compared, same, other, ordered, less, more, and_left, and_right, every_at, or_second}
-use Rattle.lists.proofs.Lowest.{lowest_le}
-use Rattle.rules.specs.Tables.{by_word}
+use Rattle.lists.proofs.Lowest.{lowest_le, lowest_holds, none_lower, none_out}
+use Rattle.lists.proofs.Below.{all_true}
 use Rattle.rules.specs.Image.{word, front, snakes_in, side_in, area_in, due_in, birth_in, food_count_in, start_at, start_due, length_at, heading_at, alive_at, body_at, food_start, between, contents_fit, record_fits, starts_fit, cells_fit, well_formed}
 use Rattle.rules.specs.Faults.{first_out, cut_short, contents_out, record_out, start_word, total_word, cell_word, twice_in, food_word}
-use Rattle.rules.specs.Says.{refuses, gives}
 use Rattle.rules.specs.Calls.{image_says}
 use Rattle.rules.specs.Promises.{Faulty}
-use Rattle.rules.specs.declared.Refusal.{Refusal}
+use Rattle.rules.specs.declared.refusal.Refusal.{Refusal}
 use Rattle.rules.proofs.Faults.{image_given}
-use Rattle.wellformed.specs.Checked.{Adds}
+use Rattle.wellformed.specs.Checked.{Adds, FirstOut}
 use Rattle.wellformed.specs.declared.contents.Layout.{Layout}
 use Rattle.faults.specs.Past.{Counted, InRange, InPlace, OnGrid}
 use Rattle.faults.proofs.Rows.{at_50, at_51, counted, at_record, in_range, at_52, at_53, in_place, at_54, on_grid, at_55, at_56}
+use Rattle.rules.specs.Refusals.{code_of, word_shown}
 
 -- a refusal that is the image's, with a small word
 pub record Known (w : List ℕ) : Type 0 where
   pub why : Refusal
   pub faulty : Faulty w why
-  pub low : 50 ≤ why.number
-  pub high : why.number ≤ 56
-  pub small : why.word < 65536
+  pub low : 50 ≤ code_of why
+  pub high : code_of why ≤ 56
+  pub small : word_shown why < 65536
 
 few : (a b c d : Bool) → (0 if a else 1 if b else 2 if c else 3 if d else 4) ≤ 4
 few true b c d = omega arith
@@ -46,13 +47,19 @@ near i true b = omega arith
 near i false true = omega arith
 near i false false = omega arith
 
+-- the lowest that fails is the first: all before it pass
+first_of : (n : ℕ) (fits : ℕ → Bool) → first_out n fits < n → FirstOut n fits (Some (first_out n fits))
+first_of n fits h =
+    let x = first_out n fits in
+    (h, not-true (fits x) (lowest_holds (λ i. not (fits i)) n h), all_true fits x (λ i l. not-false (fits i) (none_lower (λ i. not (fits i)) n i l)))
+
 module _ (w : List ℕ) where
-  known : (n m : ℕ) → 50 ≤ n → n ≤ 56 → m < 65536 → Faulty w (by_word n m) → Known w
-  known n m l h s f = record { why = by_word n m; faulty = f; low = l; high = h; small = s }
+  known : (k : Refusal) (n m : ℕ) → code_of k ≡ n → word_shown k ≡ m → 50 ≤ n → n ≤ 56 → m < 65536 → Faulty w k → Known w
+  known k n m p q l h s f = record { why = k; faulty = f; low = rw p l; high = rw p h; small = rw q s }
 
   cut_known : cut_short w ≡ true → Known w
   unfolding cut_short
-  cut_known t = known 50 (length w) (omega arith) (omega arith) short (at_50 w (cut_short w) refl t (by_word 50 (length w)) refl)
+  cut_known t = known (Refusal.CutShort (length w)) 50 (length w) refl refl (omega arith) (omega arith) short (at_50 w (cut_short w) refl t (Refusal.CutShort (length w)) refl)
     where
       short : length w < 65536
       short = elim (ordered (length w) 5) [
@@ -68,9 +75,9 @@ module _ (w : List ℕ) where
     contents_known : contents_fit w ≡ false → Known w
     unfolding contents_out
     contents_known t =
-        known 51 (contents_out w) (omega arith) (omega arith)
+        known (Refusal.OutOfRange (contents_out w)) 51 (contents_out w) refl refl (omega arith) (omega arith)
         (let f = few (not (between 2 (snakes_in w) 8)) (not (between 1 (side_in w) 32)) (ltb 1024 (due_in w)) (ltb 1 (birth_in w)) in omega arith)
-        (at_51 w (cut_short w) refl c (contents_fit w) refl (ap not t) (contents_out w) refl (by_word 51 (contents_out w)) refl)
+        (at_51 w (cut_short w) refl c (contents_fit w) refl (ap not t) (contents_out w) refl (Refusal.OutOfRange (contents_out w)) refl)
 
     all_counted : contents_fit w ≡ true → Counted w
     all_counted t = counted w (cut_short w) refl c (contents_fit w) refl (ap not t)
@@ -90,10 +97,10 @@ module _ (w : List ℕ) where
   record_known : Counted w → bad_record < snakes_in w → Known w
   unfolding record_out
   record_known k h =
-      known 51 (record_out w bad_record) (omega arith) (omega arith)
+      known (Refusal.OutOfRange (record_out w bad_record)) 51 (record_out w bad_record) refl refl (omega arith) (omega arith)
       (let f = near bad_record (ltb (area_in w) (length_at w bad_record) || (eqb (alive_at w bad_record) 1 && eqb (length_at w bad_record) 0)) (ltb 3 (heading_at w bad_record)) in
       omega (arith, snakes_few k.fits))
-      (at_record w k bad_record refl h (record_out w bad_record) refl (by_word 51 (record_out w bad_record)) refl)
+      (at_record w k bad_record (first_of (snakes_in w) (record_fits w) h) (record_out w bad_record) refl (Refusal.OutOfRange (record_out w bad_record)) refl)
 
   abbrev layout : Layout
   layout = record { fits = starts_fit w; food = food_start w }
@@ -105,9 +112,9 @@ module _ (w : List ℕ) where
     start_known : starts_fit w ≡ false → Known w
     unfolding start_word
     start_known t =
-        known 52 (start_word w) (omega arith) (omega arith)
+        known (Refusal.Start (start_word w)) 52 (start_word w) refl refl (omega arith) (omega arith)
         (omega (arith, lowest_le (λ i. not (eqb (start_at w i) (start_due w i))) 0 (snakes_in w), k.ranged.snakes_max))
-        (at_52 w k layout laid (ap not t) (start_word w) refl (by_word 52 (start_word w)) refl)
+        (at_52 w k layout laid (ap not t) (start_word w) refl (Refusal.Start (start_word w)) refl)
 
     module _ (f : contents_fit w ≡ true) (t : starts_fit w ≡ true) where
       early : food_start w + food_count_in w ≤ 9253
@@ -116,8 +123,8 @@ module _ (w : List ℕ) where
       total_known : (food_start w + food_count_in w ≡ length w → ⊥) → Known w
       unfolding total_word
       total_known n =
-          known 53 (total_word w) (omega arith) (omega arith) (omega (arith, early, min-le_left (food_start w + food_count_in w) (length w)))
-          (at_53 w k layout laid (ap not t) n (total_word w) refl (by_word 53 (total_word w)) refl)
+          known (Refusal.Total (total_word w)) 53 (total_word w) refl refl (omega arith) (omega arith) (omega (arith, early, min-le_left (food_start w + food_count_in w) (length w)))
+          (at_53 w k layout laid (ap not t) n (total_word w) refl (Refusal.Total (total_word w)) refl)
 
       placed : food_start w + food_count_in w ≡ length w → InPlace w
       placed e = in_place w k layout laid (ap not t) e
@@ -127,9 +134,9 @@ module _ (w : List ℕ) where
       cell_known : cells_fit w ≡ false → Known w
       unfolding cell_word
       cell_known t =
-          known 54 (cell_word w) (omega arith) (omega arith)
+          known (Refusal.CellBeyond (cell_word w)) 54 (cell_word w) refl refl (omega arith) (omega arith)
           (omega (arith, lowest_le (λ j. leb (area_in w) (word w j)) (front (snakes_in w)) (length w - front (snakes_in w)), k.laid.ranged.long.records_in))
-          (at_54 w k (cells_fit w) refl (ap not t) (cell_word w) refl (by_word 54 (cell_word w)) refl)
+          (at_54 w k (cells_fit w) refl (ap not t) (cell_word w) refl (Refusal.CellBeyond (cell_word w)) refl)
 
       gridded : cells_fit w ≡ true → OnGrid w
       gridded t = on_grid w k (cells_fit w) refl (ap not t)
@@ -144,7 +151,7 @@ module _ (w : List ℕ) where
       twice_known : twice < snakes_in w → Known w
       unfolding twice_in
       twice_known h =
-          known 55 place (omega arith) (omega arith)
+          known (Refusal.CellTwice place) 55 place refl refl (omega arith) (omega arith)
           (omega (
             arith,
             lowest_le (λ j. member (get_or (body_at w twice) j 0) (take j (body_at w twice))) 0 (length (body_at w twice)),
@@ -153,14 +160,14 @@ module _ (w : List ℕ) where
             k.board.laid.bodies_in twice h,
             k.board.laid.ranged.food_early,
           ))
-          (at_55 w k twice refl h place refl (by_word 55 place) refl)
+          (at_55 w k twice (first_of (snakes_in w) (λ i. distinct (body_at w i)) h) place refl (Refusal.CellTwice place) refl)
 
       food_known : snakes_in w ≤ twice → Known w
       unfolding food_word
       food_known h =
-          known 56 (food_word w) (omega arith) (omega arith)
+          known (Refusal.FoodOrder (food_word w)) 56 (food_word w) refl refl (omega arith) (omega arith)
           (omega (arith, lowest_le (λ j. leb (word w j) (word w (j - 1))) (food_start w + 1) (length w - (food_start w + 1)), k.board.laid.ranged.food_early))
-          (at_56 w k twice refl h (food_word w) refl (by_word 56 (food_word w)) refl)
+          (at_56 w k (none_out (λ i. distinct (body_at w i)) (snakes_in w) h) (food_word w) refl (Refusal.FoodOrder (food_word w)) refl)
 
       last_known : Known w
       last_known = elim (ordered twice (snakes_in w)) [ less h t ↦ twice_known h | more h t ↦ food_known h ]
@@ -171,7 +178,7 @@ module _ (w : List ℕ) where
       (λ f. let k = all_counted c f in elim (ordered bad_record (snakes_in w)) [
         | less h t ↦ record_known k h
         | more h t ↦
-            let r = in_range w k bad_record refl h in
+            let r = in_range w k (none_out (record_fits w) (snakes_in w) h) in
             ⊎_elim
             (λ s. elim (compared (food_start w + food_count_in w) (length w)) [
               | same e u ↦
@@ -187,12 +194,12 @@ module _ (w : List ℕ) where
       (tell (contents_fit w)))
       (tell (cut_short w))
 
-  accepted : well_formed w ≡ true → image_says w ≡ gives tt
+  accepted : well_formed w ≡ true → image_says w ≡ Ok tt
   unfolding image_says
-  accepted f = image_given w (gives tt) f
+  accepted f = image_given w (Ok tt) f
 
   -- what is said of an image that is refused is that
-  pub fault_word : (k : Refusal) → image_says w ≡ refuses k → (50 ≤ k.number) × (k.number ≤ 56) × (k.word < 65536)
+  pub fault_word : (k : Refusal) → image_says w ≡ Err k → (50 ≤ code_of k) × (code_of k ≤ 56) × (word_shown k < 65536)
   fault_word k e =
       let z : fault_known.why ≡ k = go (well_formed w) refl in
       (rw z at fault_known.low, rw z at fault_known.high, rw z at fault_known.small)

@@ -1,18 +1,16 @@
 -- What a caller's flat numbers mean, and what is told in flat numbers. Assumes nothing.
-use Rattle.std.specs.Prelude.{ℕ, ◌+◌, ◌-◌, ◌*◌, ◌/◌, ◌%◌, Bool, not, List, [], ◌∷◌, eqb, ltb, ℤ, pos, negsuc, Float, get_or}
+use Rattle.std.specs.Prelude.{ℕ, ◌+◌, ◌-◌, ◌*◌, ◌/◌, ◌%◌, Bool, not, List, [], ◌∷◌, eqb, ltb, ℤ, pos, negsuc, Float, get_or, Option, Some, None}
 use Rattle.std.specs.Float.{nan}
 use Rattle.lists.specs.Choice.{◌if◌else◌, bit}
 use Rattle.lists.specs.Below.{each_below}
 use Rattle.rules.specs.Events.{blank}
-use Rattle.rules.specs.Tables.{by_word}
 use Rattle.events.specs.Causes.{cause_number, cause_in}
-use Rattle.rules.specs.declared.Limit.{Limit}
-use Rattle.rules.specs.declared.Limit.TheVariants.{Unset, Is}
-use Rattle.rules.specs.declared.Refusal.{Refusal}
+use Rattle.rules.specs.declared.refusal.Refusal.{Refusal}
 use Rattle.rules.specs.declared.Setting.{Setting}
 use Rattle.rules.specs.declared.Weights.{Weights}
 use Rattle.rules.specs.declared.Event.{Event}
 use Rattle.rules.specs.declared.Hit.{Hit}
+use Rattle.rules.specs.Refusals.{code_of, word_shown, refusal_by}
 
 -- ---- what a caller's numbers mean
 
@@ -20,8 +18,8 @@ use Rattle.rules.specs.declared.Hit.{Hit}
 abbrev pub flag_in : ℕ → Bool
 flag_in n = not (eqb n 0)
 
-abbrev pub limit_in : ℕ → ℕ → Limit
-limit_in set n = Unset if eqb set 0 else Is n
+abbrev pub limit_in : ℕ → ℕ → Option ℕ
+limit_in set n = None if eqb set 0 else Some n
 
 -- a 32-bit signed number as 64 bits of two's complement; any other is read as 2^31 - 1, which is above every grid
 unfoldable pub grid_in : ℕ → ℤ
@@ -68,11 +66,11 @@ event_in e = record {
 
 -- a refusal as one number: the paper's, and 256 times the word. No refusal's word is above 65,535 (proofs/Words: `fault_word`)
 abbrev pub refusal_number : Refusal → ℕ
-refusal_number k = k.number + 256 * (k.word % 65536)
+refusal_number k = code_of k + 256 * (word_shown k % 65536)
 
 -- and what such a number says
 abbrev pub refusal_in : ℕ → Refusal
-refusal_in r = by_word (r % 256) (r / 256)
+refusal_in r = refusal_by (r % 256) (r / 256)
 
 abbrev pub event_bytes : Event → List ℕ
 event_bytes e =
@@ -82,14 +80,15 @@ event_bytes e =
 unfoldable pub events_bytes : List Event → List (List ℕ)
 events_bytes es = each_below 8 (λ i. event_bytes (get_or es i blank))
 
--- the snake that was hit, and the position
-abbrev pub hit_words : Hit → List ℕ
-hit_words h = h.snake ∷ h.position ∷ []
+-- the snake that was hit, and the position; 8 and 0 where nobody was
+abbrev pub hit_words : Option Hit → List ℕ
+hit_words None = 8 ∷ 0 ∷ []
+hit_words (Some h) = h.snake ∷ h.position ∷ []
 
 -- what stands past eight hits: nothing asks for it
-abbrev pub unhit : Hit
-unhit = record { snake = 0; position = 0 }
+abbrev pub unhit : Option Hit
+unhit = None
 
 -- the eight hits
-unfoldable pub hits_words : List Hit → List (List ℕ)
+unfoldable pub hits_words : List (Option Hit) → List (List ℕ)
 hits_words hs = each_below 8 (λ i. hit_words (get_or hs i unhit))

@@ -3,16 +3,12 @@ ghost use Rattle.std.specs.Prelude.{◌≡◌};
 ghost use Rattle.flat.specs.Flat.{limit_in, grid_in, setting_in, weights_in, event_in};
 
 use events::cause_in;
-use rules::{Event, Limit, Setting, Weights};
+use rules::{Event, Setting, Weights};
 
-fn limit_in(set: u64, number: u64) -> Limit
+fn limit_in(set: u64, number: u64) -> Option<u64>
     ensures { result ≡ limit_in set number }
 {
-    if set == 0 {
-        Limit::Unset
-    } else {
-        Limit::Is(number)
-    }
+    if set == 0 { None } else { Some(number) }
 }
 
 // What no 32 bits hold is above every grid.

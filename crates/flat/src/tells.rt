@@ -10,7 +10,7 @@ use rules::{Event, Hit, Refusal};
 pub fn refusal_number(r: Refusal) -> u64
     ensures { result ≡ refusal_number r }
 {
-    r.number as u64 + 256 * (r.word % 65536) as u64
+    u64::from(r.number()) + 256 * (r.word() % 65536) as u64
 }
 
 pub fn bit(flag: bool) -> u64
@@ -56,13 +56,16 @@ pub fn events_bytes(e: [Event; 8]) -> [[u8; 8]; 8]
 }
 
 // The snake that was hit, and the position.
-fn hit_words(h: Hit) -> [u16; 2]
+fn hit_words(h: Option<Hit>) -> [u16; 2]
     ensures { result ≡ hit_words h }
 {
-    [h.snake as u16, h.position]
+    match h {
+        None => [8, 0],
+        Some(hit) => [u16::from(hit.snake), hit.position],
+    }
 }
 
-pub fn hits_words(h: [Hit; 8]) -> [[u16; 2]; 8]
+pub fn hits_words(h: [Option<Hit>; 8]) -> [[u16; 2]; 8]
     ensures { result ≡ hits_words h }
 {
     [

@@ -1,11 +1,11 @@
 // Headings, actions by number, and places: a row and a column, perhaps off the grid. Of the rules' code, rows and columns are signed here and where snakes are placed alone.
 #![tactic(auto)]
 
-ghost use Rattle.std.specs.Prelude.{◌≡◌, ◌≤◌, pos, nat_abs};
+ghost use Rattle.std.specs.Prelude.{◌≡◌, ◌≤◌, pos};
 ghost use Rattle.rules.specs.Headings.{clockwise, counterclockwise, action_of};
-ghost use Rattle.rules.specs.Grid.{ahead, inside, same_z, same, cell_of, place_of};
+ghost use Rattle.rules.specs.Grid.{ahead, inside, same, cell_of, place_of};
 ghost use Rattle.rules.specs.Promises.{Turns};
-ghost use Rattle.grid.specs.Near.{Near, Plain};
+ghost use Rattle.grid.specs.Near.{Near};
 
 use rules::{Heading, Place, RelativeAction};
 
@@ -87,38 +87,17 @@ fn is_inside(g: i32, p: Place) -> bool
     0 <= p.row && p.row < g && 0 <= p.col && p.col < g
 }
 
-pub fn equal(a: i32, b: i32) -> bool
-    ensures { result ≡ same_z a b }
-{
-    a == b
-}
-
 pub fn same(p: Place, q: Place) -> bool
     ensures { result ≡ same p q }
 {
-    equal(p.row, q.row) && equal(p.col, q.col)
-}
-
-// A number that is not negative, without its sign.
-pub fn plain(x: i32) -> u16
-    requires { Plain x }
-    ensures { result ≡ nat_abs x }
-{
-    x as u16
-}
-
-// A number as a coordinate.
-pub fn signed(x: u16) -> i32
-    ensures { result ≡ pos x }
-{
-    i32::from(x)
+    p == q
 }
 
 // Whether a place is inside a grid whose side has 16 bits.
 pub fn on_grid(g: u16, p: Place) -> bool
     ensures { result ≡ inside (pos g) p }
 {
-    is_inside(signed(g), p)
+    is_inside(i32::from(g), p)
 }
 
 // Row-major; 0 off the grid, where no rule asks for it.
@@ -129,7 +108,7 @@ pub fn cell_of(g: u16, p: Place) -> u16
     if !on_grid(g, p) {
         return 0;
     }
-    plain(p.row) * g + plain(p.col)
+    p.row as u16 * g + p.col as u16
 }
 
 pub fn place_of(g: u16, cell: u16) -> Place
@@ -137,7 +116,7 @@ pub fn place_of(g: u16, cell: u16) -> Place
     ensures { result ≡ place_of g cell }
 {
     Place {
-        row: signed(cell / g),
-        col: signed(cell % g),
+        row: i32::from(cell / g),
+        col: i32::from(cell % g),
     }
 }

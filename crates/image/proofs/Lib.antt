@@ -1,3 +1,4 @@
 pub mod Headed
 pub mod Asked
 pub mod Read
+pub mod Examined

@@ -1,4 +1,5 @@
 -- What is read at the places of a snake's words, and parts as slices hold them. Assumes nothing.
+use Rattle.std.specs.Prelude.{Option}
 use Prim.Native.Nat.{ℕ, ◌+◌, ◌-◌, ◌*◌, ◌<◌, ◌≤◌}
 use native.Mathlib.Omega.{arith}
 use mathlib.Core.Path.{◌≡◌, sym, ap, ap₂, ◌∙◌}
@@ -12,7 +13,6 @@ use denote.Ref.{Bor}
 use Rattle.lists.specs.Choice.{bit}
 use Rattle.lists.specs.Lists.{write_at}
 use Rattle.lists.specs.Search.{found_in}
-use Rattle.lists.specs.declared.Found.{Found}
 use Rattle.lists.proofs.Lists.{part_is, rest_is}
 use Rattle.rules.specs.Facts.{Sound}
 use Rattle.rules.specs.Headings.{number_of, heading_of}
@@ -57,7 +57,7 @@ food_read w k e = rest_is w k ∙ ap (λ (j : ℕ). drop j w) e
 -- ---- the search in a part
 
 module _ (w : List ℕ) (a n cell : ℕ) where
-  pub found_part : (r : Found) → r ≡ found_in (take (a + n - a) (drop a w)) cell → r ≡ found_in (take n (drop a w)) cell
+  pub found_part : (r : Option ℕ) → r ≡ found_in (take (a + n - a) (drop a w)) cell → r ≡ found_in (take n (drop a w)) cell
   found_part r e = e ∙ ap (λ (l : List ℕ). found_in l cell) (part_is w a n)
 
 -- ---- the record, read and written

@@ -7,7 +7,6 @@ mod words;
 
 pub use cells::{count_left, put_all, write_body, write_left};
 pub use faults::{check_image, fault_in};
-pub use lists::Found;
 pub use parts::{body, find_in, food_of};
 use rules::Heading;
 pub use table::record_at;

@@ -7,7 +7,6 @@ ghost use Rattle.rules.specs.Promises.{Parts};
 ghost use Rattle.image.specs.Memory.{word_place, start_asked};
 
 use layout::{length_at, start_at};
-use lists::Found;
 use wellformed::well_formed;
 
 // Snake i's body.
@@ -28,10 +27,7 @@ pub fn body(image: &[u16], snake: usize) -> &[u16]
     ensures words { Parts image.now snake result.now }
     ensures place { result.ref_ptr ≡ word_place image.entry (start_asked image.now snake) }
 {
-    if !well_formed(image) {
-        return &image[0..0];
-    }
-    if image[0] as usize <= snake {
+    if !well_formed(image) || image[0] as usize <= snake {
         return &image[0..0];
     }
     body_of(image, snake)
@@ -55,7 +51,7 @@ pub fn food_of(image: &[u16]) -> &[u16]
 }
 
 // The first place of a cell in the part of `len` words from `start` on.
-pub fn find_in(image: &[u16], start: usize, len: usize, cell: u16) -> Found
+pub fn find_in(image: &[u16], start: usize, len: usize, cell: u16) -> Option<usize>
     requires { start + len ≤ length image.now }
     ensures { result ≡ found_in (take len (drop start image.now)) cell }
 {

@@ -6,7 +6,7 @@ use mathlib.Core.Bool.{Bool, true, false, ◌||◌}
 use mathlib.Core.List.{List}
 use lib.ListN.{replicate, set}
 use Rattle.lists.specs.Below.{some_below, filled}
-use Rattle.lists.proofs.Below.{some_none, some_next, some_found, filled_none, filled_more}
+use Rattle.lists.proofs.Below.{some_none, some_next, filled_none, filled_more}
 use Rattle.judge.specs.Loops.{Filling, Seeking}
 
 module _ {A : Type 0} (f : ℕ → A) (blank : A) (n : ℕ) where
@@ -34,11 +34,3 @@ module _ (p : ℕ → Bool) (n : ℕ) where
 
     pub seek_all : n ≤ i → found ≡ some_below n p
     seek_all l = let e : i ≡ n = omega (arith, q.along) in q.so_far ∙ ap (λ (k : ℕ). some_below k p) e
-
-  -- a loop that ends where one passes
-  module _ (i : ℕ) (l : i < n) (x : Bool) (e : x ≡ p i) where
-    pub seek_found : x ≡ true → true ≡ some_below n p
-    seek_found t = sym (some_found p n i l (sym e ∙ t))
-
-    pub seek_on : Seeking p n i false → x ≡ false → Seeking p n (i + 1) false
-    seek_on q t = record { along = omega arith; so_far = sym (some_next p i ∙ ap₂ ◌||◌ (sym q.so_far) (sym e ∙ t)) }

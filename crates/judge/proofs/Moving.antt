@@ -1,21 +1,18 @@
 -- The move by the image's words is the definition's, and stays within the image. Assumes nothing.
 use Prim.Native.Nat.{ℕ, ◌+◌, ◌-◌, ◌*◌, ◌<◌, ◌≤◌}
 use native.Mathlib.Omega.{arith}
-use native.Mathlib.Nat.{div-le_self, mod-le}
 use mathlib.Core.Path.{◌≡◌, refl, sym, ap, ◌∙◌}
-use mathlib.Core.Bool.{Bool, true, false, not, ◌&&◌, false≢true}
+use mathlib.Core.Bool.{Bool, true, false, false≢true}
 use mathlib.Core.List.{List}
 use lib.Dec.{eqb}
 use lib.IntN.{pos}
 use lib.ListN.{length, get_or, take, drop, set, replicate}
 use lib.Seq.{take-take, get_or-take, get_or-drop}
-use borrow.Author.Tests.{eqb-true, not-true, not-false}
+use borrow.Author.Tests.{eqb-true}
 use Rattle.lists.specs.Choice.{◌if◌else◌}
-use Rattle.lists.specs.Below.{filled}
-use Rattle.lists.specs.Lists.{member}
 use Rattle.lists.proofs.Lists.{part_long}
 use Rattle.rules.specs.Headings.{heading_of, turned, action_of}
-use Rattle.rules.specs.Grid.{ahead, inside, cell_of, place_of}
+use Rattle.rules.specs.Grid.{inside, cell_of}
 use Rattle.rules.specs.State.{Snake}
 use Rattle.rules.specs.Image.{word, snakes_in, side_in, start_at, length_at, heading_at, alive_at, body_at, food_at, snake_at, state_of}
 use Rattle.rules.specs.Facts.{Sound}
@@ -25,14 +22,13 @@ use Rattle.rules.specs.Step.{on_food, goes, stays, head_to, move, moved_of}
 use Rattle.rules.specs.declared.Heading.{Heading}
 use Rattle.rules.specs.declared.Place.{Place}
 use Rattle.rules.specs.declared.RelativeAction.{RelativeAction}
-use Rattle.grid.specs.Near.{Near}
 use Rattle.image.specs.declared.SnakeRecord.{SnakeRecord}
 use Rattle.image.specs.Records.{record_at}
 use Rattle.judge.specs.declared.Move.{Move}
 use Rattle.judge.specs.World.{still, shown}
 use Rattle.judge.specs.Loops.{Filling}
-use Rattle.judge.specs.Moving.{LivingAt, OnFood, Kept, goes_to, going, staying, move_by, move_at}
-use Rattle.judge.proofs.Loops.{fill_none, fill_next, fill_all}
+use Rattle.judge.specs.Moving.{goes_to, going, staying, move_by, move_at}
+use Rattle.judge.proofs.Loops.{fill_none, fill_next}
 
 -- ---- one snake
 
@@ -109,41 +105,6 @@ module _ (w : List ℕ) (s : Sound w) (i : ℕ) (l : i < snakes_in w) where
   pub move_inner : (a : ℕ) → (move_by w i a).moves ≡ true → (move_by w i a).inside ≡ inside (pos (side_in w)) (move_by w i a).head
   move_inner = each_way (λ m. m.moves ≡ true → m.inside ≡ inside (pos (side_in w)) m.head) (λ h p e t. refl) (λ h t. absurd (false≢true t))
 
--- ---- food, and what is kept
-
-module _ (w : List ℕ) (b : Bool) (cell : ℕ) where
-  pub food_off : not b ≡ true → OnFood w b cell false
-  food_off h = record { is = rw (not-true b h) }
-
-  pub food_on : not b ≡ false → (food : List ℕ) → food ≡ food_at w → (r : Bool) → r ≡ member cell food → OnFood w b cell r
-  food_on h food e r q = record { is = rw (not-false b h) (q ∙ ap (member cell) e) }
-
-module _ (len : ℕ) (e : Bool) where
-  pub kept_all : e ≡ true → Kept len e len
-  kept_all t = record { is = rw t }
-
-  pub kept_less : e ≡ false → Kept len e (len - 1)
-  kept_less t = record { is = rw t }
-
--- ---- a snake goes on: here is its head's place, p the next one, b whether that is inside, x its cell, e whether it eats, k what is kept
-
-near_cell : (g c : ℕ) → c < 65536 → Near (place_of g c)
-near_cell g c h = record { row = omega (arith, div-le_self c g); col = omega (arith, mod-le c g) }
-
-module _ (w : List ℕ) (start : ℕ) (here : Place) (ph : here ≡ place_of (side_in w) (word w start)) where
-  pub here_near : (len : ℕ) → LivingAt w start len → Near here
-  here_near len a = rw ph (near_cell (side_in w) (word w start) (omega (arith, a.sound.cells start a.after a.words, a.sound.area_max)))
-
-  pub goes_so : (h : Heading) (p : Place) → p ≡ ahead h here → (b : Bool) → b ≡ inside (pos (side_in w)) p → (x : ℕ) → x ≡ cell_of (side_in w) p → (e : Bool) → OnFood w b x e
-      → (len k : ℕ) → Kept len e k → record { moves = true; heading = h; eats = e; inside = b; head = p; cell = x; keep = k } ≡ going w start len h
-  goes_so h p pp b pb x px e pe len k pk =
-      let pt : p ≡ head_to (side_in w) h (word w start) = pp ∙ ap (ahead h) ph in
-      let pi : b ≡ inside (pos (side_in w)) (head_to (side_in w) h (word w start)) = pb ∙ ap (inside (pos (side_in w))) pt in
-      let pc : x ≡ cell_of (side_in w) (head_to (side_in w) h (word w start)) = px ∙ ap (cell_of (side_in w)) pt in
-      let po : e ≡ on_food (side_in w) (food_at w) (head_to (side_in w) h (word w start)) = pe.is ∙ (λ t. pi t && member (pc t) (food_at w)) in
-      let pl = pk.is ∙ ap (λ (b : Bool). len if b else len - 1) po in
-      λ t. record { moves = true; heading = h; eats = po t; inside = pi t; head = pt t; cell = pc t; keep = pl t }
-
 -- ---- z is snake i's record
 
 module _ (w : List ℕ) (i : ℕ) (z : SnakeRecord) (q : z ≡ record_at w i) where
@@ -153,13 +114,6 @@ module _ (w : List ℕ) (i : ℕ) (z : SnakeRecord) (q : z ≡ record_at w i) wh
   move_by_lem a t =
       let e = sym t ∙ ap (λ (z : SnakeRecord). z.alive) q in
       λ k. going w (q k).start (q k).len (turned (q k).heading (action_of a)) if e k else staying (q k).len (q k).heading
-
-  pub living_at : Sound w → i < snakes_in w → z.alive ≡ true → LivingAt w z.start z.len
-  living_at s l t =
-      let a = s.living i l (eqb-true (alive_at w i) 1 (sym (ap (λ (z : SnakeRecord). z.alive) q) ∙ t)) in
-      let x : z.start ≡ start_at w i = ap (λ (z : SnakeRecord). z.start) q in
-      let n : z.len ≡ length_at w i = ap (λ (z : SnakeRecord). z.len) q in
-      record { sound = s; after = omega (arith, s.starts i l); words = omega (arith, s.bodies_in i l, s.total); some = omega arith }
 
   -- it acts: by the number a, which is the action r, it turns to t
   pub living_moves : (a : ℕ) (r : RelativeAction) → r ≡ action_of a → (t : Heading) → Turns z.heading r t → z.alive ≡ true → (m : Move) → m ≡ going w z.start z.len t → m ≡ move_by w i a
@@ -177,6 +131,3 @@ module _ (w acts : List ℕ) (s : Sound w) (n : length acts ≡ snakes_in w) whe
   module _ (i : ℕ) (all : List Move) (q : Filling (move_at w acts) still (length acts) i all) where
     pub moves_next : i < length acts → (m : Move) → m ≡ move_by w i (get_or acts i 0) → Filling (move_at w acts) still (length acts) (i + 1) (set all i m)
     moves_next l m e = fill_next (move_at w acts) still (length acts) i all q l m e
-
-    pub moves_all : length acts ≤ i → all ≡ filled (move_at w acts) (snakes_in w) 8 still
-    moves_all l = fill_all (move_at w acts) still (length acts) i all q l ∙ ap (λ (k : ℕ). filled (move_at w acts) k 8 still) n

@@ -1,22 +1,17 @@
 -- What the loops over the other snakes ask, of an array of moves. Assumes nothing.
-use Rattle.std.specs.Prelude.{ℕ, suc, ◌+◌, ◌*◌, ◌<◌, ◌≤◌, ◌≡◌, Bool, true, false, not, ◌&&◌, List, eqb, ltb, pos, length, get_or, drop}
+use Rattle.std.specs.Prelude.{ℕ, suc, ◌+◌, ◌*◌, ◌<◌, ◌≤◌, ◌≡◌, Bool, true, false, not, ◌&&◌, List, eqb, ltb, pos, length, get_or, drop, Option, Some, None}
 use Rattle.lists.specs.Choice.{◌if◌else◌}
 use Rattle.lists.specs.Below.{some_below, lowest_from}
 use Rattle.lists.specs.Lists.{member, place}
 use Rattle.lists.specs.Search.{found_in}
-use Rattle.lists.specs.declared.Found.{Found}
-use Rattle.lists.specs.declared.Found.TheVariants.{Nothing}
 use Rattle.rules.specs.declared.Cause.{Cause}
-use Rattle.rules.specs.declared.Cause.TheVariants.{NoCause, SelfBody, OppBody}
+use Rattle.rules.specs.declared.Cause.TheVariants.{SelfBody, OppBody}
 use Rattle.rules.specs.declared.Hit.{Hit}
 use Rattle.rules.specs.declared.Place.{Place}
 use Rattle.rules.specs.Grid.{inside, same, cell_of}
 use Rattle.rules.specs.Image.{front, snakes_in, side_in, start_at}
 use Rattle.rules.specs.Facts.{Sound}
-use Rattle.rules.specs.Step.{cause_of}
-use Rattle.rules.specs.Struck.{no_hit}
 use Rattle.judge.specs.declared.Move.{Move}
-use Rattle.judge.specs.declared.Fate.{Fate}
 use Rattle.judge.specs.World.{still, shown, world}
 
 -- each rest is a part of the image, and of its words after the records; the cell is that of the head, and a moved head is inside the grid where it says so
@@ -61,33 +56,29 @@ abbrev pub stops_at : List ℕ → List Move → ℕ → ℕ → ℕ → Bool
 stops_at w all i cell j = stops_by w i j (get_or all j still) cell
 
 -- where it has the cell
-abbrev pub stop_found : List ℕ → ℕ → ℕ → Move → ℕ → Found
-stop_found w i j m cell = found_in (shown w j m).rest cell if not (eqb i j) && m.moves else Nothing
+abbrev pub stop_found : List ℕ → ℕ → ℕ → Move → ℕ → Option ℕ
+stop_found w i j m cell = found_in (shown w j m).rest cell if not (eqb i j) && m.moves else None
 
 -- the lowest-numbered of them is hit
-abbrev pub other_hit : List ℕ → List Move → ℕ → ℕ → ℕ → Hit
+abbrev pub other_hit : List ℕ → List Move → ℕ → ℕ → ℕ → Option Hit
 other_hit w all n i cell =
     let j = lowest_from (stops_at w all i cell) 0 n in
-    hit_in j (place cell (world w all j).rest) if ltb j n else no_hit
+    Some (hit_in j (place cell (world w all j).rest)) if ltb j n else None
 
 -- the cause of a head on the grid, at this cell, that meets no head
-abbrev pub body_cause : List ℕ → List Move → ℕ → ℕ → ℕ → Cause
-body_cause w all n i cell = SelfBody if member cell (world w all i).rest else OppBody if some_below n (stops_at w all i cell) else NoCause
+abbrev pub body_cause : List ℕ → List Move → ℕ → ℕ → ℕ → Option Cause
+body_cause w all n i cell = (Some SelfBody) if member cell (world w all i).rest else (Some OppBody) if some_below n (stops_at w all i cell) else None
 
 -- ---- what each function finds
 
-pub record RestFound (w : List ℕ) (j : ℕ) (m : Move) (cell : ℕ) (r : Found) : Type 0 where
+pub record RestFound (w : List ℕ) (j : ℕ) (m : Move) (cell : ℕ) (r : Option ℕ) : Type 0 where
   pub is : r ≡ found_in (shown w j m).rest cell
 
-pub record Stops (w : List ℕ) (i j : ℕ) (m : Move) (cell : ℕ) (r : Found) : Type 0 where
+pub record Stops (w : List ℕ) (i j : ℕ) (m : Move) (cell : ℕ) (r : Option ℕ) : Type 0 where
   pub is : r ≡ stop_found w i j m cell
 
-pub record Stopped (w : List ℕ) (all : List Move) (n i cell : ℕ) (r : Hit) : Type 0 where
+pub record Stopped (w : List ℕ) (all : List Move) (n i cell : ℕ) (r : Option Hit) : Type 0 where
   pub is : r ≡ other_hit w all n i cell
 
-pub record OnBody (w : List ℕ) (all : List Move) (n i cell : ℕ) (r : Cause) : Type 0 where
+pub record OnBody (w : List ℕ) (all : List Move) (n i cell : ℕ) (r : Option Cause) : Type 0 where
   pub is : r ≡ body_cause w all n i cell
-
--- what snake i's move led to, judged among n snakes on the world of all moves
-abbrev pub fate_at : List ℕ → List Move → ℕ → ℕ → Fate
-fate_at w all n i = record { cause = cause_of (side_in w) n (world w all) i }

@@ -6,14 +6,13 @@ ghost use Rattle.rules.specs.Step.{cause_of};
 ghost use Rattle.judge.specs.World.{world, Judges};
 ghost use Rattle.judge.specs.Judging.{RestIn, RestFound, Judging, Stops, Stopped, OnBody};
 
-use crate::hits::{hit_at, no_hit};
+use crate::hits::hit_at;
 use crate::moves::move_all;
-use crate::{Fate, Judged, Move};
-use lists::{Found, is_found};
+use crate::{Judged, Move};
 use rules::{Cause, Hit};
 
 // The first place of a cell in the rest of snake j's body.
-pub fn find_rest(image: &[u16], j: usize, you: Move, cell: u16) -> Found
+pub fn find_rest(image: &[u16], j: usize, you: Move, cell: u16) -> Option<usize>
     requires { RestIn image.now j you }
     ensures { RestFound image.now j you cell result }
 {
@@ -22,51 +21,51 @@ pub fn find_rest(image: &[u16], j: usize, you: Move, cell: u16) -> Found
 }
 
 // The same of a snake that is another than i and moved; a corpse is not searched.
-fn find_on(image: &[u16], i: usize, j: usize, you: Move, cell: u16) -> Found
+fn find_on(image: &[u16], i: usize, j: usize, you: Move, cell: u16) -> Option<usize>
     requires { RestIn image.now j you }
     ensures { Stops image.now i j you cell result }
 {
     if i == j || !you.moves {
-        return Found::Nothing;
+        return None;
     }
     find_rest(image, j, you, cell)
 }
 
 // The lowest-numbered snake that has the cell so, and its position there. Heads are not asked: a head there was head-on.
-pub fn find_other(image: &[u16], all: [Move; 8], n: usize, i: usize, cell: u16) -> Hit
+pub fn find_other(image: &[u16], all: [Move; 8], n: usize, i: usize, cell: u16) -> Option<Hit>
     requires { Judging image.now all n i }
     ensures { Stopped image.now all n i cell result }
 {
     for j in 0..n {
-        if let Found::At(k) = find_on(image, i, j, all[j], cell) {
-            return hit_at(j, k);
+        if let Some(k) = find_on(image, i, j, all[j], cell) {
+            return Some(hit_at(j, k));
         }
     }
-    no_hit()
+    None
 }
 
 // The cause of a head on the grid that meets no other: the own rest, then the others'.
-fn body_cause(image: &[u16], all: [Move; 8], n: usize, i: usize, cell: u16) -> Cause
+fn body_cause(image: &[u16], all: [Move; 8], n: usize, i: usize, cell: u16) -> Option<Cause>
     requires { Judging image.now all n i }
     ensures { OnBody image.now all n i cell result }
 {
-    if is_found(find_rest(image, i, all[i], cell)) {
-        return Cause::SelfBody;
+    if find_rest(image, i, all[i], cell).is_some() {
+        return Some(Cause::SelfBody);
     }
-    if find_other(image, all, n, i, cell).snake < 8 {
-        return Cause::OppBody;
+    if find_other(image, all, n, i, cell).is_some() {
+        return Some(Cause::OppBody);
     }
-    Cause::NoCause
+    None
 }
 
 // Why snake i dies, if it does. The heads are compared here: a function of their own would be handed the eight moves once more.
-fn cause_of(image: &[u16], all: [Move; 8], n: usize, i: usize) -> Cause
+fn cause_of(image: &[u16], all: [Move; 8], n: usize, i: usize) -> Option<Cause>
     requires { Judging image.now all n i }
     ensures { result ≡ cause_of (side_in image.now) n (world image.now all) i }
 {
     let me = all[i];
     if !me.moves {
-        return Cause::NoCause;
+        return None;
     }
     let mut met = false;
     for j in 0..n {
@@ -74,14 +73,14 @@ fn cause_of(image: &[u16], all: [Move; 8], n: usize, i: usize) -> Cause
         met |= (i != j) & you.moves & grid::same(me.head, you.head);
     }
     if met {
-        return Cause::HeadOn;
+        return Some(Cause::HeadOn);
     }
     if !me.inside {
-        return Cause::Wall;
+        return Some(Cause::Wall);
     }
     // Most heads are on no body and no food: one search over the words of both tells that, before any body is searched by itself.
     if !lists::holds(&image[layout::front(n)..], me.cell) {
-        return Cause::NoCause;
+        return None;
     }
     body_cause(image, all, n, i, me.cell)
 }
@@ -94,13 +93,9 @@ pub fn judge(image: &[u16], actions: &[u64]) -> Judged
 {
     let moves = move_all(image, actions);
     let n = actions.len();
-    let mut fates = [Fate {
-        cause: Cause::NoCause,
-    }; 8];
+    let mut causes = [None; 8];
     for i in 0..n {
-        fates[i] = Fate {
-            cause: cause_of(image, moves, n, i),
-        };
+        causes[i] = cause_of(image, moves, n, i);
     }
-    Judged { moves, fates }
+    Judged { moves, causes }
 }

@@ -1,6 +1,5 @@
 // A hit: a snake's number and a position of its moved body.
 ghost use Rattle.std.specs.Prelude.{◌≡◌};
-ghost use Rattle.rules.specs.Struck.{no_hit};
 ghost use Rattle.judge.specs.Judging.{hit_in, HitFits};
 
 use rules::Hit;
@@ -13,15 +12,5 @@ pub fn hit_at(j: usize, k: usize) -> Hit
     Hit {
         snake: j as u8,
         position: (k + 1) as u16,
-    }
-}
-
-// Nobody.
-pub fn no_hit() -> Hit
-    ensures { result ≡ no_hit }
-{
-    Hit {
-        snake: 8,
-        position: 0,
     }
 }

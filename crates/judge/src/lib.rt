@@ -6,7 +6,7 @@ mod hits;
 mod moves;
 
 pub use causes::{find_other, find_rest, judge};
-pub use hits::{hit_at, no_hit};
+pub use hits::hit_at;
 use rules::{Cause, Heading, Place};
 
 // A snake after the move: its head, whether that is inside the grid, and its cell there; the rest is the first `keep` words of its body in the image.
@@ -22,15 +22,9 @@ pub struct Move {
     pub keep: u16,
 }
 
-// What a move led to.
-#[derive(Clone, Copy)]
-pub struct Fate {
-    pub cause: Cause,
-}
-
-// All moves, and what each led to.
+// All moves, and the death that each led to.
 #[derive(Clone, Copy)]
 pub struct Judged {
     pub moves: [Move; 8],
-    pub fates: [Fate; 8],
+    pub causes: [Option<Cause>; 8],
 }

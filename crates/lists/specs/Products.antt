@@ -1,5 +1,5 @@
 -- Products that count orders. Assumes nothing.
-use Rattle.std.specs.Prelude.{ℕ, zero, suc, ◌*◌, ◌-◌, ◌^◌, ltb}
+use Rattle.std.specs.Prelude.{ℕ, zero, suc, ◌*◌, ◌-◌, ◌^◌, ltb, Option, Some, None}
 use Rattle.lists.specs.Choice.{◌if◌else◌}
 
 -- n (n - 1) .. with k factors, 1 where k is 0
@@ -12,6 +12,6 @@ unfoldable pub factorial : ℕ → ℕ
 factorial zero = 1
 factorial (suc k) = suc k * factorial k
 
--- a number that fits 64 bits, and 0 for one that does not
-unfoldable pub fitted : ℕ → ℕ
-fitted p = 0 if ltb (2 ^ 64 - 1) p else p
+-- a number that fits 64 bits, and none for one that does not
+unfoldable pub fitted : ℕ → Option ℕ
+fitted p = None if ltb (2 ^ 64 - 1) p else Some p

@@ -5,16 +5,9 @@ mod numbers;
 
 ghost use Rattle.std.specs.Prelude.{◌≡◌, ◌==◌, ◌+◌, ◌≤◌, length, get_or, position};
 ghost use Rattle.lists.specs.Lists.{write_at, member};
-ghost use Rattle.lists.specs.Search.{found_in, is_found};
+ghost use Rattle.lists.specs.Search.{found_in};
 
 pub use numbers::{more_if, product, smaller};
-
-// The first place of a number in a list, if it stands there.
-#[derive(Clone, Copy)]
-pub enum Found {
-    At(usize),
-    Nothing,
-}
 
 // The word at an index; 0 past the end, so that nothing is asked of the list.
 pub fn word_at(list: &[u16], k: usize) -> u64
@@ -53,20 +46,11 @@ fn place_of(list: &[u16], x: u16) -> Option<usize>
 }
 
 // The first place of the word in a list, or none. Most lists that are asked do not hold it, and `holds` tells that sooner.
-pub fn find(list: &[u16], x: u16) -> Found
+pub fn find(list: &[u16], x: u16) -> Option<usize>
     ensures { result ≡ found_in list.now x }
 {
     if !holds(list, x) {
-        return Found::Nothing;
+        return None;
     }
-    match place_of(list, x) {
-        Some(place) => Found::At(place),
-        None => Found::Nothing,
-    }
-}
-
-pub fn is_found(f: Found) -> bool
-    ensures { result ≡ is_found f }
-{
-    matches!(f, Found::At(_))
+    place_of(list, x)
 }

@@ -17,17 +17,14 @@ pub fn smaller(a: usize, b: usize) -> usize
     a.min(b)
 }
 
-// The product of k factors from n downward. It is never 0: 0 stands for one above 2^64 - 1.
-pub fn product(n: usize, k: usize) -> u64
+// The product of k factors from n downward, or none where it is above 2^64 - 1.
+pub fn product(n: usize, k: usize) -> Option<u64>
     requires { k ≤ n }
     ensures { result ≡ fitted (falling n k) }
 {
     let mut p: u64 = 1;
     for j in 0..k {
-        match p.checked_mul((n - j) as u64) {
-            Some(next) => p = next,
-            None => return 0,
-        }
+        p = p.checked_mul((n - j) as u64)?;
     }
-    p
+    Some(p)
 }

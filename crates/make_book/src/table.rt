@@ -2,7 +2,7 @@
 ghost use Rattle.std.specs.Prelude.{◌+◌, ◌*◌, ◌≤◌, length};
 
 use crate::words::put_words;
-use rules::{Setting, Verdict};
+use rules::Setting;
 
 // A start is counted from the book's first word: past the contents, and the pages before it.
 fn write_starts(lengths: &[u16], contents: &mut [u16])
@@ -20,12 +20,14 @@ fn write_starts(lengths: &[u16], contents: &mut [u16])
 pub(crate) fn put_contents(setting: Setting, lengths: &[u16], bytes: &mut [u8]) -> bool
     requires { length lengths.now ≤ 65535 }
 {
-    let Verdict::Accepted = setting::validate(setting) else {
-        return false;
-    };
-    let p = lengths.len();
-    let mut contents = [0u16; 131087];
-    contents::write_front(setting, p, &mut contents);
-    write_starts(lengths, &mut contents);
-    put_words(&contents[..17 + 2 * p], bytes)
+    match setting::validate(setting) {
+        Ok(()) => {
+            let p = lengths.len();
+            let mut contents = [0u16; 131087];
+            contents::write_front(setting, p, &mut contents);
+            write_starts(lengths, &mut contents);
+            put_words(&contents[..17 + 2 * p], bytes)
+        }
+        Err(_) => false,
+    }
 }

@@ -25,15 +25,9 @@ pub struct Frame {
 fn idle() -> Progress
     ensures { (result.fill ≡ 0) × (result.desk.words ≡ 0) }
 {
-    let r = stream::start();
-    let desk = r.desk;
     Progress {
-        desk,
-        fill: 0,
-        at: 0,
-        text: 0,
         on: false,
-        heard: true,
+        ..stream::start()
     }
 }
 
@@ -52,11 +46,10 @@ fn take_front(f: Frame, byte: u8, line: &[u8], image: &mut [u16]) -> Progress
     requires { Ready f.progress line.now image.old }
     ensures { Ready result line.now image.new }
 {
-    let r = f.progress;
     if f.column == 0 && byte == b'=' {
-        return begin(r, line, image);
+        return begin(f.progress, line, image);
     }
-    r
+    f.progress
 }
 
 // Text of a line: a name is printed, all else goes to the match.
@@ -64,12 +57,11 @@ fn take_text(f: Frame, text: &[u8], line: &mut [u8], image: &mut [u16]) -> Progr
     requires { Ready f.progress line.old image.old }
     ensures { Ready result line.new image.new }
 {
-    let r = f.progress;
     if f.mark == b'=' {
         io::write_all(STDOUT, text);
-        return r;
+        return f.progress;
     }
-    stream::take_all(r, text, line, image)
+    stream::take_all(f.progress, text, line, image)
 }
 
 // Where the text of a line ends that has its newline at `end`: the match gets the newline too, but for a last line without one.
@@ -77,10 +69,7 @@ fn text_end(mark: u8, end: usize, len: usize) -> usize
     requires { end < len }
     ensures { (end ≤ result) × (result ≤ len) }
 {
-    if mark == b'~' {
-        return end;
-    }
-    end + 1
+    if mark == b'~' { end } else { end + 1 }
 }
 
 fn mark_of(f: Frame, byte: u8) -> u8 {
@@ -93,42 +82,30 @@ fn take_some(f: Frame, part: &[u8], line: &mut [u8], image: &mut [u16]) -> Frame
     requires at_in_bounds { f.at < length part.now }
     ensures { (Ready result.progress line.new image.new) × (f.at < result.at) }
 {
-    let at = f.at;
-    let column = f.column;
-    if column < 2 {
-        let after = at + 1;
-        let byte = part[at];
-        let mark = mark_of(f, byte);
-        let progress = take_front(f, byte, line, image);
+    if f.column < 2 {
+        let byte = part[f.at];
         return Frame {
-            progress,
-            column: column + 1,
-            mark,
-            at: after,
-            more: f.more,
+            progress: take_front(f, byte, line, image),
+            column: f.column + 1,
+            mark: mark_of(f, byte),
+            at: f.at + 1,
+            ..f
         };
     }
-    let mark = f.mark;
-    let end = parsing::line_end(part, at);
-    let after = end + 1;
+    let end = parsing::line_end(part, f.at);
     if end == part.len() {
-        let progress = take_text(f, &part[at..end], line, image);
         return Frame {
-            progress,
-            column,
-            mark,
-            at: after,
-            more: f.more,
+            progress: take_text(f, &part[f.at..], line, image),
+            at: end + 1,
+            ..f
         };
     }
-    let last = text_end(mark, end, part.len());
-    let progress = take_text(f, &part[at..last], line, image);
+    let last = text_end(f.mark, end, part.len());
     Frame {
-        progress,
+        progress: take_text(f, &part[f.at..last], line, image),
         column: 0,
-        mark,
-        at: after,
-        more: f.more,
+        at: end + 1,
+        ..f
     }
 }
 
@@ -138,6 +115,7 @@ fn take_part(first: Frame, part: &[u8], line: &mut [u8], image: &mut [u16]) -> F
     ensures { Ready result.progress line.new image.new }
 {
     let mut f = first;
+    // No count of an index: a turn takes the next byte of a line's front, or all of the line that came.
     while f.at < part.len() {
         f = take_some(f, part, line, image);
     }
@@ -148,10 +126,7 @@ fn take_part(first: Frame, part: &[u8], line: &mut [u8], image: &mut [u16]) -> F
 fn read(mut stdin: Stdin, part: &mut [u8]) -> usize
     ensures { result ≤ length part.new }
 {
-    match stdin.read(part) {
-        Ok(n) => n,
-        Err(_) => 0,
-    }
+    stdin.read(part).unwrap_or(0)
 }
 
 // What one read brought.
@@ -161,37 +136,33 @@ fn read_some(stdin: Stdin, f: Frame, line: &mut [u8], image: &mut [u16]) -> Fram
 {
     let mut part = io::large_buffer();
     let n = read(stdin, &mut part);
-    let progress = f.progress;
     let start = Frame {
-        progress,
-        column: f.column,
-        mark: f.mark,
         at: 0,
         more: 0 < n,
+        ..f
     };
     take_part(start, &part[..n], line, image)
 }
 
-// As in `replay`, the loop counts its turns down, from a number that no run uses up.
+// As in `replay`, the loop has a number of turns that no run uses up.
 fn replay_all(stdin: Stdin, first: Frame, line: &mut [u8], image: &mut [u16])
     requires { Ready first.progress line.old image.old }
 {
     let mut f = first;
-    let mut turns = u64::MAX;
-    while turns > 0 && f.more {
+    for _ in 0..u64::MAX {
+        if !f.more {
+            break;
+        }
         f = read_some(stdin, f, line, image);
-        turns -= 1;
     }
-    let progress = f.progress;
-    stream::finish(progress, line, image);
+    stream::finish(f.progress, line, image);
 }
 
 fn main(rt: HostRuntime) {
     let mut line = [0u8; 256];
     let mut image = [0u16; 9253];
-    let progress = idle();
     let first = Frame {
-        progress,
+        progress: idle(),
         column: 0,
         mark: 0,
         at: 0,

@@ -1,4 +1,5 @@
 pub mod Picks
 pub mod Radix
 pub mod Marking
+pub mod Checked
 pub mod Rows

@@ -1,8 +1,9 @@
 -- The marks show the free cells of an image's state, and the numbers that a draw starts from. Assumes nothing.
+use Rattle.std.specs.Prelude.{Option, Some, None}
 use mathlib.Core.Path.{◌≡◌, sym, ap, ap₂, ◌∙◌}
 use mathlib.Core.Bool.{true, false}
 use mathlib.Core.List.{List}
-use Prim.Native.Nat.{ℕ, ◌+◌, ◌-◌, ◌*◌, ◌<◌, ◌^◌, min}
+use Prim.Native.Nat.{ℕ, ◌+◌, ◌-◌, ◌*◌, ◌^◌, min}
 use native.Mathlib.Omega.{arith}
 use lib.Dec.{eqb, ltb}
 use lib.ListN.{length, take, drop}
@@ -12,9 +13,7 @@ use Rattle.lists.specs.Products.{falling, fitted}
 use Rattle.boards.proofs.Boards.{rest_under}
 use Rattle.lists.proofs.Lists.{rest_is}
 use Rattle.rules.proofs.Parts.{area_min}
-use Rattle.lists.proofs.Products.{falling_pos}
 use Rattle.lists.proofs.Fitted.{fitted_over, fitted_in, fitted_is}
-use Rattle.rules.specs.State.{State}
 use Rattle.rules.specs.Image.{front, snakes_in, due_in, birth_in, area_in, state_of}
 use Rattle.rules.specs.Facts.{Sound}
 use Rattle.rules.specs.Chance.{free, draw_size, outcomes}
@@ -23,10 +22,6 @@ use Rattle.strips.specs.Marks.{unmarked, Blank, Adds, Inside}
 use Rattle.strips.proofs.Strips.{shows_cells, inside}
 use Rattle.outcomes.specs.Odds.{Stands}
 use Rattle.outcomes.specs.declared.odds.Odds.{Odds}
-
-outcomes_some : (t : State) → 0 < outcomes t
-unfolding outcomes
-outcomes_some t = falling_pos (length (free t)) (draw_size t) (omega arith)
 
 -- ---- the words from k on, past the records
 
@@ -47,7 +42,7 @@ module _ (w : List ℕ) (s : Sound w) (k : ℕ) (e : k ≡ 5 + 4 * snakes_in w) 
     shown : unmarked strips (area_in w) ≡ free (state_of w)
     shown = rw past at (shows_cells (take (length w - k) (drop k w)) old strips b a (area_in w)) ∙ free_words w s
 
-    module _ (left size count : ℕ)
+    module _ (left size : ℕ) (count : Option ℕ)
         (f : left ≡ length (unmarked strips (area_in w)))
         (d : size ≡ min (1 if eqb (birth_in w) 1 else due_in w) left)
         (p : count ≡ fitted (falling left size)) where
@@ -65,15 +60,15 @@ module _ (w : List ℕ) (s : Sound w) (k : ℕ) (e : k ≡ 5 + 4 * snakes_in w) 
       pub stands : Stands w strips (record { free = left; size = size; count = count })
       stands = record { size = a.size; shows = shown; free_is = free_all; size_is = taken; count_is = counted }
 
--- ---- a count that fits
+-- ---- a count that fits, and one that does not
 
 module _ (w strips : List ℕ) (r : Odds) (o : Stands w strips r) where
-  pub count_over : r.count ≡ 0 → ltb (2 ^ 64 - 1) (outcomes (state_of w)) ≡ true
-  count_over e = fitted_over (outcomes (state_of w)) (outcomes_some (state_of w)) (sym o.count_is ∙ e)
+  pub count_over : r.count ≡ None → ltb (2 ^ 64 - 1) (outcomes (state_of w)) ≡ true
+  count_over e = fitted_over (outcomes (state_of w)) (sym o.count_is ∙ e)
 
-  module _ (n : r.count ≡ 0 → ⊥) where
+  module _ (n : ℕ) (e : r.count ≡ Some n) where
     pub count_in : ltb (2 ^ 64 - 1) (outcomes (state_of w)) ≡ false
-    count_in = fitted_in (outcomes (state_of w)) (λ e. n (o.count_is ∙ e))
+    count_in = fitted_in (outcomes (state_of w)) n (sym o.count_is ∙ e)
 
-    pub count_eq : r.count ≡ outcomes (state_of w)
-    count_eq = o.count_is ∙ fitted_is (outcomes (state_of w)) count_in
+    pub count_eq : n ≡ outcomes (state_of w)
+    count_eq = fitted_is (outcomes (state_of w)) n (sym o.count_is ∙ e)

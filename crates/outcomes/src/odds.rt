@@ -8,15 +8,15 @@ ghost use Rattle.outcomes.specs.Odds.{Stands};
 
 use layout::front;
 use lists::product;
-use rules::Number;
+use rules::Refusal;
 use strips::{count_open, mark_all};
 
-// The free cells, how many of them a draw takes, and the count of outcomes; 0 for one above 2^64 - 1.
+// The free cells, how many of them a draw takes, and the count of outcomes; none for one above 2^64 - 1.
 #[derive(Clone, Copy)]
 pub struct Odds {
     pub free: usize,
     pub size: usize,
-    pub count: u64,
+    pub count: Option<u64>,
 }
 
 // One cell at birth, else as many as are due; no more than are free.
@@ -49,17 +49,13 @@ pub fn odds_of(image: &[u16], strips: &mut [u64; 16]) -> Odds
 }
 
 // Refusals 23, 28.
-pub fn count_due(image: &[u16]) -> Number
+pub fn count_due(image: &[u16]) -> Result<u64, Refusal>
     requires { Sound image.now }
     ensures { Counts image.now result }
 {
     if image[2] == 0 {
-        return Number::Refused(refusals::by(23));
+        return Err(Refusal::NoneDue);
     }
     let mut strips = [0u64; 16];
-    let found = odds_of(image, &mut strips);
-    if found.count == 0 {
-        return Number::Refused(refusals::by(28));
-    }
-    Number::Value(found.count)
+    odds_of(image, &mut strips).count.ok_or(Refusal::Count)
 }

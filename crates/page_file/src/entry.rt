@@ -7,7 +7,6 @@ use arrayvec::ArrayVec;
 use layout::heading_at;
 use lists::word_at;
 use printing::{put, put_item};
-use rules::Number;
 
 // ---- a draw
 
@@ -28,11 +27,13 @@ fn put_draw(line: &mut [u8], past: &[u16], image: &[u16]) -> usize
     ensures { result ≤ 32 }
 {
     let list = new_food(food_in(past), food_in(image));
-    let Number::Value(index) = arena::rank(past, &list) else {
-        return 0;
-    };
-    let at = put(line, 0, b'd');
-    put_item(line, at, b' ', index)
+    match arena::rank(past, &list) {
+        Ok(index) => {
+            let at = put(line, 0, b'd');
+            put_item(line, at, b' ', index)
+        }
+        Err(_) => 0,
+    }
 }
 
 // ---- a move

@@ -2,8 +2,7 @@
 ghost use Rattle.std.specs.Prelude.{◌≤◌, length, IfOk};
 
 use crate::file::read_words;
-use contents::PageFound;
-use rules::{Refusal, Verdict};
+use rules::Refusal;
 use std::io::{Read, Seek};
 
 // Why a page is not loaded: the file cannot be read there, or the page is refused.
@@ -14,9 +13,9 @@ pub enum NotLoaded {
 }
 
 // 50 to 56, 21, or accepted. Contents in which a page was found have a setting.
-fn check(contents: &[u16], image: &[u16]) -> Verdict {
+fn check(contents: &[u16], image: &[u16]) -> Result<(), Refusal> {
     if contents.len() < 17 {
-        return Verdict::Refused(refusals::by(40));
+        return Err(Refusal::Contents);
     }
     book::check_page(contents::setting_in(contents), image)
 }
@@ -33,18 +32,13 @@ pub fn load<F: Read + Seek>(
 ) -> Result<usize, NotLoaded>
     ensures { IfOk result (λ n. n ≤ length image.new) }
 {
-    let (start, len) = match contents::find(contents, words, page) {
-        PageFound::Part { start, len } => (start, len),
-        PageFound::Refused(why) => return Err(NotLoaded::Refused(why)),
-    };
-    let held = len.min(image.len());
-    if read_words(file, start, &mut image[..held], bytes).is_err() {
+    let found = contents::find(contents, words, page).map_err(NotLoaded::Refused)?;
+    let held = found.len.min(image.len());
+    if read_words(file, found.start, &mut image[..held], bytes).is_err() {
         return Err(NotLoaded::NotRead);
     }
-    match check(contents, &image[..held]) {
-        Verdict::Refused(why) => Err(NotLoaded::Refused(why)),
-        Verdict::Accepted => Ok(held),
-    }
+    check(contents, &image[..held]).map_err(NotLoaded::Refused)?;
+    Ok(held)
 }
 
 // The food of an image; empty where it is none.

@@ -1,4 +1,5 @@
 -- What the loop that reads digits needs, its three ways out, and what a number that was read tells of its field. Assumes nothing.
+use Rattle.std.specs.Prelude.{Some, None}
 use Prim.Native.Nat.{ℕ, ◌+◌, ◌*◌, ◌-◌, ◌<◌, ◌≤◌}
 use native.Mathlib.Numerals.{add-one}
 use native.Mathlib.Nat.{le_refl}
@@ -12,7 +13,6 @@ use lib.Seq.{drop-cons}
 use borrow.Author.Tests.{le-ltb, lt-ltb, leb-true}
 use Rattle.lists.proofs.Tests.{and_left, and_right}
 use Rattle.parsing.specs.Numbers.{is_digit, all_digits, read_on, digits_fit, number_by, decimal_of, is_decimal}
-use Rattle.parsing.specs.declared.Num.TheVariants.{NoNumber, Reads}
 
 pub at_least : (b : ℕ) → is_digit b ≡ true → 48 ≤ b
 at_least b e = leb-true 48 b (and_left _ _ e)
@@ -46,11 +46,11 @@ module _ (s : List ℕ) (i : ℕ) where
   unfolding read_on
   read_next v h = rw (drop-cons s i 0 h, add-one)
 
-  pub not_digit : i < length s → all_digits (drop i s) ≡ all_digits s → is_digit (get_or s i 0) ≡ false → NoNumber ≡ number_by (digits_fit s) (read_on 0 s)
+  pub not_digit : i < length s → all_digits (drop i s) ≡ all_digits s → is_digit (get_or s i 0) ≡ false → None ≡ number_by (digits_fit s) (read_on 0 s)
   unfolding digits_fit
   not_digit h p e = rw (sym p ∙ digits_out h e)
 
-  pub too_large : (v : ℕ) → i < length s → read_on v (drop i s) ≡ read_on 0 s → 18446744073709551616 ≤ v * 10 + (get_or s i 0 - 48) → NoNumber ≡ number_by (digits_fit s) (read_on 0 s)
+  pub too_large : (v : ℕ) → i < length s → read_on v (drop i s) ≡ read_on 0 s → 18446744073709551616 ≤ v * 10 + (get_or s i 0 - 48) → None ≡ number_by (digits_fit s) (read_on 0 s)
   unfolding digits_fit
   too_large v h p l =
       let g = grows (v * 10 + (get_or s i 0 - 48)) (drop (i + 1) s) in
@@ -58,26 +58,26 @@ module _ (s : List ℕ) (i : ℕ) where
       let big : 18446744073709551616 ≤ read_on 0 s = omega arith in
       rw (le-ltb _ _ big, and-false)
 
-  pub all_read : (v : ℕ) → length s ≤ i → all_digits (drop i s) ≡ all_digits s → read_on v (drop i s) ≡ read_on 0 s → v < 18446744073709551616 → Reads v ≡ number_by (digits_fit s) (read_on 0 s)
+  pub all_read : (v : ℕ) → length s ≤ i → all_digits (drop i s) ≡ all_digits s → read_on v (drop i s) ≡ read_on 0 s → v < 18446744073709551616 → Some v ≡ number_by (digits_fit s) (read_on 0 s)
   unfolding digits_fit
   all_read v h p q l = rw (sym p ∙ digits_end h, sym q ∙ read_end v h, lt-ltb _ _ l)
 
-by_reads : (t : Bool) (n v : ℕ) → number_by t n ≡ Reads v → (t ≡ true) × (v ≡ n)
+by_reads : (t : Bool) (n v : ℕ) → number_by t n ≡ Some v → (t ≡ true) × (v ≡ n)
 by_reads true n v e = let p : v ≡ n = cc in (refl, p)
 by_reads false n v e = let z : ◌≡◌ {A = ℕ} 0 1 = cc in absurd (omega arith)
 
-by_none : (t : Bool) (n : ℕ) → number_by t n ≡ NoNumber → t ≡ false
+by_none : (t : Bool) (n : ℕ) → number_by t n ≡ None → t ≡ false
 by_none true n e = let z : ◌≡◌ {A = ℕ} 0 1 = cc in absurd (omega arith)
 by_none false n e = refl
 
-pub was_number : (f : List ℕ) (v : ℕ) → decimal_of f ≡ Reads v → (is_decimal f ≡ true) × (v ≡ read_on 0 f)
+pub was_number : (f : List ℕ) (v : ℕ) → decimal_of f ≡ Some v → (is_decimal f ≡ true) × (v ≡ read_on 0 f)
 unfolding decimal_of
 was_number f v e = by_reads (is_decimal f) (read_on 0 f) v e
 
-pub no_number : (f : List ℕ) → decimal_of f ≡ NoNumber → is_decimal f ≡ false
+pub no_number : (f : List ℕ) → decimal_of f ≡ None → is_decimal f ≡ false
 unfolding decimal_of
 no_number f e = by_none (is_decimal f) (read_on 0 f) e
 
-pub decimal_none : decimal_of [] ≡ NoNumber
+pub decimal_none : decimal_of [] ≡ None
 unfolding decimal_of
 decimal_none = refl

@@ -1,15 +1,6 @@
 -- Numbers of the replay's lines, read from bytes (01, 'Replay'). Assumes nothing.
-use Rattle.std.specs.Prelude.{ℕ, ◌+◌, ◌*◌, ◌-◌, Bool, true, false, not, ◌&&◌, ◌||◌, List, [], ◌∷◌, ltb, leb, eqb, length, get_or, drop, pos, negsuc}
+use Rattle.std.specs.Prelude.{ℕ, ℤ, ◌+◌, ◌*◌, ◌-◌, Bool, true, false, not, ◌&&◌, ◌||◌, List, [], ◌∷◌, ltb, leb, eqb, length, get_or, drop, pos, negsuc, Some, None, Option}
 use Rattle.lists.specs.Choice.{◌if◌else◌}
-use Rattle.rules.specs.declared.Limit.TheVariants.{Unset, Is}
-use Rattle.parsing.specs.declared.Num.{Num}
-use Rattle.parsing.specs.declared.Num.TheVariants.{NoNumber, Reads}
-use Rattle.parsing.specs.declared.Grid.{Grid}
-use Rattle.parsing.specs.declared.Grid.TheVariants.{NoGrid, GridIs}
-use Rattle.parsing.specs.declared.Bound.{Bound}
-use Rattle.parsing.specs.declared.Bound.TheVariants.{NoBound, Bounds}
-use Rattle.parsing.specs.declared.Flag.{Flag}
-use Rattle.parsing.specs.declared.Flag.TheVariants.{NoFlag, Flagged}
 
 -- `0` (48) to `9` (57)
 abbrev pub is_digit : ℕ → Bool
@@ -36,44 +27,44 @@ digits_fit s = all_digits s && ltb (read_on 0 s) 18446744073709551616
 abbrev pub is_decimal : List ℕ → Bool
 is_decimal s = unpadded s && digits_fit s
 
-abbrev pub number_by : Bool → ℕ → Num
-number_by ok n = Reads n if ok else NoNumber
+abbrev pub number_by : Bool → ℕ → Option ℕ
+number_by ok n = Some n if ok else None
 
-unfoldable pub decimal_of : List ℕ → Num
+unfoldable pub decimal_of : List ℕ → Option ℕ
 decimal_of s = number_by (is_decimal s) (read_on 0 s)
 
 -- 'grid is from -2^31 to 2^31-1, its minus sign only before a nonzero number'
-abbrev pub grid_above : Num → Grid
-grid_above NoNumber = NoGrid
-grid_above (Reads n) = GridIs (pos n) if ltb n 2147483648 else NoGrid
+abbrev pub grid_above : Option ℕ → Option ℤ
+grid_above None = None
+grid_above (Some n) = Some (pos n) if ltb n 2147483648 else None
 
-abbrev pub grid_below : Num → Grid
-grid_below NoNumber = NoGrid
-grid_below (Reads n) = GridIs (negsuc (n - 1)) if not (eqb n 0) && leb n 2147483648 else NoGrid
+abbrev pub grid_below : Option ℕ → Option ℤ
+grid_below None = None
+grid_below (Some n) = Some (negsuc (n - 1)) if not (eqb n 0) && leb n 2147483648 else None
 
 -- a minus sign is 45
-unfoldable pub grid_of : List ℕ → Grid
+unfoldable pub grid_of : List ℕ → Option ℤ
 grid_of s = grid_below (decimal_of (drop 1 s)) if eqb (get_or s 0 0) 45 else grid_above (decimal_of s)
 
 -- one byte, b
 abbrev pub is_byte : ℕ → List ℕ → Bool
 is_byte b s = eqb (length s) 1 && eqb (get_or s 0 0) b
 
-abbrev pub bound_by : Num → Bound
-bound_by NoNumber = NoBound
-bound_by (Reads n) = Bounds (Is n)
+abbrev pub bound_by : Option ℕ → Option (Option ℕ)
+bound_by None = None
+bound_by (Some n) = Some (Some n)
 
 -- '`-` means none': 45
-unfoldable pub bound_of : List ℕ → Bound
-bound_of s = Bounds Unset if is_byte 45 s else bound_by (decimal_of s)
+unfoldable pub bound_of : List ℕ → Option (Option ℕ)
+bound_of s = Some None if is_byte 45 s else bound_by (decimal_of s)
 
 -- 'play_to_last is 0 or 1'
-abbrev pub flag_by : Num → Flag
-flag_by NoNumber = NoFlag
-flag_by (Reads n) =
-    Flagged false if eqb n 0 else
-    Flagged true if eqb n 1 else
-    NoFlag
+abbrev pub flag_by : Option ℕ → Option Bool
+flag_by None = None
+flag_by (Some n) =
+    Some false if eqb n 0 else
+    Some true if eqb n 1 else
+    None
 
-unfoldable pub flag_of : List ℕ → Flag
+unfoldable pub flag_of : List ℕ → Option Bool
 flag_of s = flag_by (decimal_of s)

@@ -3,8 +3,8 @@ ghost use Rattle.std.specs.Prelude.{◌≡◌, ◌==◌, ◌+◌, ◌≤◌, len
 ghost use Rattle.parsing.specs.Numbers.{decimal_of, grid_of, bound_of, flag_of, is_byte};
 ghost use Rattle.parsing.specs.Fields.{up_to, pieces_from, fields_of, field_at, Spans};
 
+use crate::Span;
 use crate::numbers::{bound_in, decimal, flag_by, grid_in, is_byte};
-use crate::{Bound, Flag, Grid, Num, Span};
 
 // One more than the line has spaces.
 pub fn field_count(s: &[u8]) -> usize
@@ -72,28 +72,28 @@ fn field(s: &[u8], k: usize) -> Span
     }
 }
 
-pub fn number_at(s: &[u8], k: usize) -> Num
+pub fn number_at(s: &[u8], k: usize) -> Option<u64>
     ensures { result ≡ decimal_of (field_at (fields_of s.now) k) }
 {
     let f = field(s, k);
     decimal(&s[f.from..f.to])
 }
 
-pub fn grid_at(s: &[u8], k: usize) -> Grid
+pub fn grid_at(s: &[u8], k: usize) -> Option<i32>
     ensures { result ≡ grid_of (field_at (fields_of s.now) k) }
 {
     let f = field(s, k);
     grid_in(&s[f.from..f.to])
 }
 
-pub fn bound_at(s: &[u8], k: usize) -> Bound
+pub fn bound_at(s: &[u8], k: usize) -> Option<Option<u64>>
     ensures { result ≡ bound_of (field_at (fields_of s.now) k) }
 {
     let f = field(s, k);
     bound_in(&s[f.from..f.to])
 }
 
-pub fn flag_at(s: &[u8], k: usize) -> Flag
+pub fn flag_at(s: &[u8], k: usize) -> Option<bool>
     ensures { result ≡ flag_of (field_at (fields_of s.now) k) }
 {
     flag_by(number_at(s, k))

@@ -3,4 +3,4 @@
 
 mod place;
 
-pub use place::{place_check, place_number};
+pub use place::{check_places, place_check};

@@ -1,16 +1,16 @@
 // Refusals 9 to 12: the bodies are placed, and only then is any cell judged.
-ghost use Rattle.std.specs.Prelude.{◌≡◌, ltb, pos, length, ◌-◌, ◌≤◌};
+ghost use Rattle.std.specs.Prelude.{◌≡◌, ltb, pos, length, ◌-◌, ◌≤◌, Ok, Err};
 ghost use Rattle.lists.specs.Choice.{◌if◌else◌};
 ghost use Rattle.lists.specs.Below.{concat_below};
 ghost use Rattle.boards.specs.Boards.{Under};
 ghost use Rattle.lists.specs.Lists.{distinct};
-ghost use Rattle.rules.specs.SettingParts.{place_check, cells_of, start_cells, Limited};
+ghost use Rattle.rules.specs.SettingParts.{place_says, cells_of, start_cells, Limited};
 ghost use Rattle.placement.specs.Traces.{Traceable};
 ghost use Rattle.placed.specs.Tested.{Tested};
 
 use bounds::side_of;
 use placement::{place_snakes, span};
-use rules::Setting;
+use rules::{Refusal, Setting};
 
 // No cell twice, by a board of all squares.
 #[tactic(auto, using(boards::proofs::Boards::board_blank))]
@@ -23,69 +23,71 @@ fn all_new(cells: &[u16]) -> bool
 }
 
 // Refusal 12: what the bodies leave of the area is less than the food.
-fn full(area: u64, total: u64, food: u64) -> u8
+fn check_food(area: u64, total: u64, food: u64) -> Result<(), Refusal>
     requires { (total ≤ 1024) × (food ≤ 1024) }
-    ensures { result ≡ (12 if ltb (area - total) food else 0) }
+    ensures { result ≡ (Err Refusal.FoodFree if ltb (area - total) food else Ok tt) }
 {
     if 0 < food && area < food + total {
-        12
+        Err(Refusal::FoodFree)
     } else {
-        0
+        Ok(())
     }
 }
 
 // On a grid of 3 and more every start is inside, so that no cell is outside: 9, 11 or 12.
-fn judge(cells: &mut [u16], g: u16, n: u16, size: usize, food: usize) -> u8
+fn judge(cells: &mut [u16], g: u16, n: u16, size: usize, food: usize) -> Result<(), Refusal>
     requires traceable { Traceable g n size cells.old }
     requires food_bound { food ≤ 1024 }
-    ensures { Tested (place_check (pos g) n size food) (concat_below n (cells_of g n size)) cells.old cells.new result }
+    ensures { Tested (place_says (pos g) n size food) (concat_below n (cells_of g n size)) cells.old cells.new result }
 {
-    if !place_snakes(cells, g, n, size) {
-        return 9;
-    }
+    place_snakes(cells, g, n, size)?;
     let total = n as usize * size;
     if !all_new(&cells[..total]) {
-        return 11;
+        return Err(Refusal::CellTaken);
     }
-    full(g as u64 * g as u64, total as u64, food as u64)
+    check_food(g as u64 * g as u64, total as u64, food as u64)
 }
 
 // Some body cannot be traced beyond `reach`; up to that length its first bad cell is outside.
-fn beyond(reach: u64, size: u64) -> u8
-    ensures { result ≡ (9 if ltb reach size else 10) }
+fn beyond(reach: u64, size: u64) -> Refusal
+    ensures { result ≡ (Refusal.Untraceable if ltb reach size else Refusal.CellOutside) }
 {
-    if reach < size { 9 } else { 10 }
+    if reach < size {
+        Refusal::Untraceable
+    } else {
+        Refusal::CellOutside
+    }
 }
 
 // On grids below 3 column g - g/3 is off the grid, so that none is accepted: a trace reaches 3 places on grid 2, else 1.
-pub fn place_check(setting: Setting, cells: &mut [u16]) -> u8
+pub fn place_check(setting: Setting, cells: &mut [u16]) -> Result<(), Refusal>
     requires limited { Limited setting }
     requires cells_len { length cells.old ≡ 1024 }
-    ensures { Tested (place_check setting.grid_size setting.num_snakes setting.initial_length setting.initial_food_count) (start_cells setting) cells.old cells.new result }
+    ensures { Tested (place_says setting.grid_size setting.num_snakes setting.initial_length setting.initial_food_count) (start_cells setting) cells.old cells.new result }
 {
     let grid = setting.grid_size;
     let size = setting.initial_length;
     if grid < 2 {
-        return beyond(1, size);
+        return Err(beyond(1, size));
     }
     if grid < 3 {
-        return beyond(3, size);
+        return Err(beyond(3, size));
     }
     let n = setting.num_snakes as u16;
     let food = setting.initial_food_count as usize;
-    judge(cells, grid::plain(grid), n, size as usize, food)
+    judge(cells, grid as u16, n, size as usize, food)
 }
 
 // The same where no cell is asked for: bodies below the span need no trace.
-pub fn place_number(setting: Setting) -> u8
+pub fn check_places(setting: Setting) -> Result<(), Refusal>
     requires { Limited setting }
-    ensures { result ≡ place_check setting.grid_size setting.num_snakes setting.initial_length setting.initial_food_count }
+    ensures { result ≡ place_says setting.grid_size setting.num_snakes setting.initial_length setting.initial_food_count }
 {
     let n = setting.num_snakes;
     let g = side_of(setting.grid_size);
     let size = setting.initial_length;
     if size < span(g, n) {
-        return full(g * g, n * size, setting.initial_food_count);
+        return check_food(g * g, n * size, setting.initial_food_count);
     }
     let mut cells = [0u16; 1024];
     place_check(setting, &mut cells)

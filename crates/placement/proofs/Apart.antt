@@ -20,7 +20,9 @@ use Rattle.lists.proofs.Tests.{and_left, and_right, or_second, ordered, less, mo
 use Rattle.rules.specs.Grid.{cell_of}
 use Rattle.rules.specs.Placement.{start_place, tracing, even, unblocked, trail, traced, placed}
 use Rattle.rules.specs.Setting.{side_of, some_short}
-use Rattle.rules.specs.SettingParts.{Limited, place_check, cells_of}
+use Rattle.rules.specs.SettingParts.{Limited, place_says, cells_of}
+use Rattle.rules.specs.declared.refusal.Refusal.TheVariants as Refusal
+use Rattle.std.specs.Prelude.{Ok, Err}
 use Rattle.rules.specs.declared.Place.{Place}
 use Rattle.rules.specs.declared.Setting.{Setting}
 use Rattle.rules.proofs.Placement.{trail_take}
@@ -83,7 +85,7 @@ module _ (g n k : ℕ) (low : 3 ≤ g) (high : g ≤ 32) (two : 2 ≤ n) (eight 
       or_second (ltb (span_of g n) 2) (lies g n (span_of g n - 1)) (le-ltb (span_of g n) 2 (omega arith))
       (ap (λ (n : ℕ). longest g n) (sym b) ∙ ap (λ (g : ℕ). longest g (n - 2 + 2)) (sym a) ∙ t)
 
-  short_check : (f : ℕ) → place_check (pos g) n k f ≡ (12 if ltb (g * g - n * k) f else 0)
+  short_check : (f : ℕ) → place_says (pos g) n k f ≡ (Err Refusal.FoodFree if ltb (g * g - n * k) f else Ok tt)
   short_check f =
       let m = span_of g n - 1 in
       let o = none_short g n k m some (omega arith) longest_lies in
@@ -113,9 +115,9 @@ module _ (s : Setting) (l : Limited s) (g : ℕ) (e : g ≡ side_of s.grid_size)
         let k : s.initial_length ≤ 128 = omega (arith, apart_side, q, div-le_self (2 * g) (s.num_snakes + 1)) in
         mul-le-mul l.snakes_max k
 
-    pub apart_check : s.initial_length < r → (12 if ltb (g * g - s.num_snakes * s.initial_length) s.initial_food_count else 0) ≡ place_check s.grid_size s.num_snakes s.initial_length s.initial_food_count
+    pub apart_check : s.initial_length < r → (Err Refusal.FoodFree if ltb (g * g - s.num_snakes * s.initial_length) s.initial_food_count else Ok tt) ≡ place_says s.grid_size s.num_snakes s.initial_length s.initial_food_count
     apart_check t =
         let below : s.initial_length < span_of g s.num_snakes = rw q at t in
         let low = span_side g s.num_snakes s.initial_length l.snakes_min l.size_min below in
         sym (short_check g s.num_snakes s.initial_length low apart_side l.snakes_min l.snakes_max l.size_min below s.initial_food_count)
-        ∙ ap (λ (z : ℤ). place_check z s.num_snakes s.initial_length s.initial_food_count) (ap pos e ∙ sym (grid_is s.grid_size (rw e at low)))
+        ∙ ap (λ (z : ℤ). place_says z s.num_snakes s.initial_length s.initial_food_count) (ap pos e ∙ sym (grid_is s.grid_size (rw e at low)))

@@ -2,7 +2,7 @@
 use Prim.Native.Nat.{ℕ, ◌+◌, ◌<◌, ◌≤◌}
 use native.Mathlib.Omega.{arith}
 use mathlib.Core.Path.{◌≡◌, refl, sym, ap, ap₂, ◌∙◌}
-use mathlib.Core.Bool.{Bool, true, false, not, false≢true, ◌||◌}
+use mathlib.Core.Bool.{Bool, false, ◌||◌}
 use mathlib.Core.List.{List, map}
 use lib.Dec.{ltb}
 use lib.IntN.{pos}
@@ -18,6 +18,13 @@ use Rattle.rules.specs.SettingParts.{cells_of}
 use Rattle.rules.specs.declared.Place.{Place}
 use Rattle.rules.proofs.PlaceCheck.{body_reach}
 use Rattle.placement.specs.Traces.{Laid, Placed, Traceable}
+use Rattle.std.specs.Prelude.{Ok, Err}
+use Rattle.rules.specs.Says.{Says}
+use Rattle.rules.specs.declared.refusal.Refusal.{Refusal}
+use Rattle.rules.specs.declared.refusal.Refusal.TheVariants as Refusal
+
+err_ok : {k : Refusal} → ◌≡◌ {A = Says (Unit {0})} (Err k) (Ok tt) → ⊥
+err_ok e = let z : ◌≡◌ {A = ℕ} 0 1 = cc in omega arith
 
 -- a body that is traced from where snake i starts is its body
 pub body_is : (g n size i : ℕ) (start : Place) → start ≡ start_place (pos g) n i
@@ -73,11 +80,11 @@ module _ (g n size : ℕ) (old : List ℕ) (ready : Traceable g n size old) wher
       pub laying_count : at + r ≤ length cells
       laying_count = omega (arith, laying_room h, count_is, cells_most i h, length-map (placed (pos g) n size i) (cell_of g))
 
-      pub laying_short : r < size → Placed g n size old new false
+      pub laying_short : r < size → Placed g n size old new (Err Refusal.Untraceable)
       laying_short l =
           record {
-            says = ap not (sym (some_found (λ i. ltb (length (placed (pos g) n size i)) size) n i h (lt-ltb (length (placed (pos g) n size i)) size (omega (arith, count_is)))));
-            words = λ f. absurd (false≢true f);
+            says = rw (some_found (λ i. ltb (length (placed (pos g) n size i)) size) n i h (lt-ltb (length (placed (pos g) n size i)) size (omega (arith, count_is))));
+            words = λ e. absurd (err_ok e);
           }
 
       pub laying_on : size ≤ r → Laying g n size old new (at + r) (i + 1)
@@ -93,10 +100,10 @@ module _ (g n size : ℕ) (old : List ℕ) (ready : Traceable g n size old) wher
                 ∙ ap₂ ◌||◌ s.none (le-ltb (length (placed (pos g) n size i)) size (omega (arith, count_is)));
           }
 
-    pub laying_end : n ≤ i → Placed g n size old cells true
+    pub laying_end : n ≤ i → Placed g n size old cells (Ok tt)
     laying_end l =
         let e : i ≡ n = omega (arith, s.most) in
         record {
-          says = ap not (sym (ap (λ (k : ℕ). some_below k (λ i. ltb (length (placed (pos g) n size i)) size)) (sym e) ∙ s.none));
+          says = rw (ap (λ (k : ℕ). some_below k (λ i. ltb (length (placed (pos g) n size i)) size)) (sym e) ∙ s.none);
           words = λ _. s.words ∙ ap (λ (k : ℕ). write_at old 0 (concat_below k (cells_of g n size))) e;
         }

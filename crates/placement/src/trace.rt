@@ -1,12 +1,11 @@
 // Placement: initial_snakes_checked and trace_body of the Rust, on grids of 3 and more, where every start is inside.
-ghost use Rattle.std.specs.Prelude.{◌≡◌, true, map, ◌+◌, ◌<◌, ◌≤◌, pos, length, get_or, MatchOption};
+ghost use Rattle.std.specs.Prelude.{◌≡◌, true, map, ◌+◌, ◌<◌, ◌≤◌, pos, length, MatchOption};
 ghost use Rattle.rules.specs.Grid.{inside, cell_of};
 ghost use Rattle.rules.specs.Placement.{start_place, tracing, row_of, col_of, traced};
-ghost use Rattle.rules.specs.declared.Heading.TheVariants.{Up};
 ghost use Rattle.grid.specs.Near.{Near};
 ghost use Rattle.placement.specs.Traces.{Walked, Laid, Start, Traceable, Placed};
 
-use rules::{Heading, Place};
+use rules::{Heading, Place, Refusal};
 
 // A trace on its way: its last place, and which of its four directions it follows.
 #[derive(Clone, Copy)]
@@ -34,29 +33,19 @@ fn start_place(g: u16, n: u16, i: u16) -> Place
     ensures { result ≡ start_place (pos g) n i }
 {
     Place {
-        row: grid::signed(start_row(g, n, i)),
-        col: grid::signed(start_col(g, i)),
+        row: i32::from(start_row(g, n, i)),
+        col: i32::from(start_col(g, i)),
     }
 }
 
-fn direction(even: bool, turn: usize) -> Heading
-    requires { turn < 4 }
-    ensures { result ≡ get_or (tracing even) turn Up }
+// The directions of a trace, in the order in which it takes them.
+fn directions(even: bool) -> [Heading; 4]
+    ensures { result ≡ tracing even }
 {
     if even {
-        match turn {
-            0 => Heading::Left,
-            1 => Heading::Down,
-            2 => Heading::Right,
-            _ => Heading::Up,
-        }
+        [Heading::Left, Heading::Down, Heading::Right, Heading::Up]
     } else {
-        match turn {
-            0 => Heading::Right,
-            1 => Heading::Up,
-            2 => Heading::Left,
-            _ => Heading::Down,
-        }
+        [Heading::Right, Heading::Up, Heading::Left, Heading::Down]
     }
 }
 
@@ -68,8 +57,9 @@ fn walk_on(g: u16, even: bool, from: Walk) -> Option<Walk>
         (Walked (pos g) (tracing even) from.place from.turn from.place 4)
         (λ w. (w.turn < 4) × Walked (pos g) (tracing even) from.place from.turn w.place w.turn) }
 {
+    let directions = directions(even);
     for turn in from.turn..4 {
-        let next = grid::ahead(direction(even, turn), from.place);
+        let next = grid::ahead(directions[turn], from.place);
         if grid::on_grid(g, next) {
             return Some(Walk { place: next, turn });
         }
@@ -98,8 +88,8 @@ fn trace_body(cells: &mut [u16], at: usize, g: u16, start: Place, even: bool, si
     size
 }
 
-// Every body, one after the other; false where some body cannot be traced to its length.
-pub fn place_snakes(cells: &mut [u16], g: u16, n: u16, size: usize) -> bool
+// Every body, one after the other; refused where some body cannot be traced to its length.
+pub fn place_snakes(cells: &mut [u16], g: u16, n: u16, size: usize) -> Result<(), Refusal>
     requires { Traceable g n size cells.old }
     ensures { Placed g n size cells.old cells.new result }
 {
@@ -108,9 +98,9 @@ pub fn place_snakes(cells: &mut [u16], g: u16, n: u16, size: usize) -> bool
         let start = start_place(g, n, i);
         let k = trace_body(cells, at, g, start, i % 2 == 0, size);
         if k < size {
-            return false;
+            return Err(Refusal::Untraceable);
         }
         at += k;
     }
-    true
+    Ok(())
 }

@@ -1,12 +1,12 @@
 -- The replay's output, as bytes (01, 'Replay': 'Each line prints'). Assumes nothing.
-use Rattle.std.specs.Prelude.{ℕ, zero, suc, ◌+◌, ◌/◌, ◌%◌, ◌≤◌, ◌≡◌, Bool, cond, List, [], ◌∷◌, ◌++◌, ltb, eqb, length, get_or}
+use Rattle.std.specs.Prelude.{ℕ, zero, suc, ◌+◌, ◌/◌, ◌%◌, ◌≤◌, ◌≡◌, Bool, cond, List, [], ◌∷◌, ◌++◌, ltb, eqb, length, get_or, Option, Some, None}
 use Rattle.lists.specs.Choice.{◌if◌else◌, bit}
 use Rattle.lists.specs.Below.{concat_below}
 use Rattle.lists.specs.Lists.{write_at}
 use Rattle.rules.specs.State.{Snake, State, count, snake_of}
 use Rattle.rules.specs.Events.{dies, blank}
 use Rattle.rules.specs.declared.Cause.{Cause}
-use Rattle.rules.specs.declared.Cause.TheVariants.{NoCause, Wall, SelfBody, OppBody, HeadOn}
+use Rattle.rules.specs.declared.Cause.TheVariants.{Wall, SelfBody, OppBody, HeadOn}
 use Rattle.rules.specs.declared.Event.{Event}
 
 -- n in decimal, of at most k digits
@@ -26,12 +26,12 @@ abbrev pub one : Bool → ℕ → List ℕ
 one b l = l ∷ [] if b else []
 
 -- W, S, O, H
-abbrev pub letter_of : Cause → ℕ
-letter_of NoCause = 0
-letter_of Wall = 87
-letter_of SelfBody = 83
-letter_of OppBody = 79
-letter_of HeadOn = 72
+abbrev pub letter_of : Option Cause → ℕ
+letter_of None = 0
+letter_of (Some Wall) = 87
+letter_of (Some SelfBody) = 83
+letter_of (Some OppBody) = 79
+letter_of (Some HeadOn) = 72
 
 -- 'letters in the order a (ate), W/S/O/H, k,
 unfoldable pub deeds_text : Event → List ℕ

@@ -7,15 +7,15 @@ use crate::bytes::{digit_of, put, put_if, put_item, put_two};
 use events::is_death;
 use rules::{Cause, Event};
 
-fn letter_of(c: Cause) -> u8
+fn letter_of(c: Option<Cause>) -> u8
     ensures { result ≡ letter_of c }
 {
     match c {
-        Cause::NoCause => 0,
-        Cause::Wall => b'W',
-        Cause::SelfBody => b'S',
-        Cause::OppBody => b'O',
-        Cause::HeadOn => b'H',
+        None => 0,
+        Some(Cause::Wall) => b'W',
+        Some(Cause::SelfBody) => b'S',
+        Some(Cause::OppBody) => b'O',
+        Some(Cause::HeadOn) => b'H',
     }
 }
 

@@ -3,54 +3,44 @@
 ghost use Rattle.std.specs.Prelude.{◌≤◌};
 
 use crate::books::write_line;
-use parsing::{First, read_first, start_of};
+use parsing::{read_first, start_of};
 use replies::{
-    NO_CALL, NOTHING, NOWHERE, PATTERN, Reply, bit, end, kept, last_words, numbers_in, put,
-    put_events, put_hits, put_number, put_words, put_written, refuse, refused,
+    Fields, Numbers, PATTERN, end, kept, nothing, put, put_events, put_hits, put_number, put_words,
+    put_written, refuse,
 };
-use rules::{Answer, Stepped, Verdict};
+use rules::{Refusal, Stepped};
 
 // `v S`
-pub fn validate(s: &[u8]) -> Reply {
-    let First::Opens(setting) = read_first(s) else {
-        return NO_CALL;
-    };
-    match arena::validate(setting) {
-        Verdict::Accepted => NOTHING,
-        Verdict::Refused(r) => refused(r),
-    }
+pub fn validate(s: &[u8]) -> Option<Result<Numbers, Refusal>> {
+    let setting = read_first(s)?;
+    Some(arena::validate(setting).map(nothing))
 }
 
 // `i S cap`; s starts at cap.
-fn initial_line(setting: &[u8], s: &[u8], text: &mut [u8], at: usize) -> usize {
+fn initial_line(setting: &[u8], s: &[u8], text: &mut [u8], at: usize) -> Option<usize> {
     let mut values = [0u64; 1];
-    let next = numbers_in(s, 0, &mut values);
-    if next != s.len() + 1 {
-        return NOWHERE;
-    }
-    let cap = values[0];
+    Fields::of(s).last_numbers(&mut values)?;
+    let [cap] = values;
     if 16384 < cap {
-        return NOWHERE;
+        return None;
     }
-    let First::Opens(setting) = read_first(setting) else {
-        return NOWHERE;
-    };
+    let setting = read_first(setting)?;
     let mut room = [PATTERN; 16384];
     let out = &mut room[..cap as usize];
     let answer = arena::initial_state(setting, out);
-    put_written(text, at, answer, out)
+    Some(put_written(text, at, answer, out))
 }
 
-fn put_step(text: &mut [u8], at: usize, stepped: Stepped, out: &[u16]) -> usize {
-    match stepped.answer {
-        Answer::Done(n) => {
+fn put_step(text: &mut [u8], at: usize, stepped: Result<Stepped, Refusal>, out: &[u16]) -> usize {
+    match stepped {
+        Ok(stepped) => {
             let a = put(text, at, b'a');
-            let b = put_number(text, a, bit(stepped.terminal));
+            let b = put_number(text, a, u64::from(stepped.terminal));
             let c = put_events(text, b, stepped.events);
-            let d = put_words(text, c, out, n);
-            end(text, d, kept(out, n))
+            let d = put_words(text, c, out, stepped.words);
+            end(text, d, kept(out, stepped.words))
         }
-        Answer::Refused(r) => refuse(text, at, r, kept(out, 0)),
+        Err(r) => refuse(text, at, r, kept(out, 0)),
     }
 }
 
@@ -63,19 +53,17 @@ fn step(
     cap: u64,
     text: &mut [u8],
     at: usize,
-) -> usize
+) -> Option<usize>
     requires { k ≤ 64 }
 {
     if 16384 < cap {
-        return NOWHERE;
+        return None;
     }
-    let First::Opens(setting) = read_first(setting) else {
-        return NOWHERE;
-    };
+    let setting = read_first(setting)?;
     let mut room = [PATTERN; 16384];
     let out = &mut room[..cap as usize];
     let stepped = arena::step(setting, words, &actions[..k], out);
-    put_step(text, at, stepped, out)
+    Some(put_step(text, at, stepped, out))
 }
 
 // Who was hit where, with the first k actions.
@@ -86,20 +74,17 @@ fn struck(
     k: usize,
     text: &mut [u8],
     at: usize,
-) -> usize
+) -> Option<usize>
     requires { k ≤ 64 }
 {
-    let First::Opens(setting) = read_first(setting) else {
-        return NOWHERE;
-    };
-    let struck = arena::struck(setting, words, &actions[..k]);
-    match struck.verdict {
-        Verdict::Accepted => {
+    let setting = read_first(setting)?;
+    match arena::struck(setting, words, &actions[..k]) {
+        Ok(hits) => {
             let a = put(text, at, b'a');
-            let b = put_hits(text, a, struck.hits);
-            end(text, b, true)
+            let b = put_hits(text, a, hits);
+            Some(end(text, b, true))
         }
-        Verdict::Refused(r) => refuse(text, at, r, true),
+        Err(r) => Some(refuse(text, at, r, true)),
     }
 }
 
@@ -118,39 +103,35 @@ fn acting_line(
     words: &mut [u16],
     text: &mut [u8],
     at: usize,
-) -> usize {
+) -> Option<usize> {
+    let mut fields = Fields::of(s);
     let mut values = [0u64; 2];
-    let first = missing(letter);
-    let from = numbers_in(s, 0, &mut values[first..2]);
-    let k = values[1];
+    fields.numbers(&mut values[missing(letter)..])?;
+    let [cap, k] = values;
     if 64 < k {
-        return NOWHERE;
+        return None;
     }
     let mut actions = [0u64; 64];
-    let next = numbers_in(s, from, &mut actions[..k as usize]);
-    let n = last_words(s, next, 16384, words);
-    if words.len() < n {
-        return NOWHERE;
-    }
+    fields.numbers(&mut actions[..k as usize])?;
+    let image = fields.last_words(16384, words)?;
     if letter == b'H' {
-        return struck(setting, &words[..n], actions, k as usize, text, at);
+        struck(setting, image, actions, k as usize, text, at)
+    } else {
+        step(setting, image, actions, k as usize, cap, text, at)
     }
-    step(
-        setting,
-        &words[..n],
-        actions,
-        k as usize,
-        values[0],
-        text,
-        at,
-    )
 }
 
 // `i`, `s`, `H` or `B`: S stands before the eighth field.
-pub fn setting_line(letter: u8, s: &[u8], words: &mut [u16], text: &mut [u8], at: usize) -> usize {
+pub fn setting_line(
+    letter: u8,
+    s: &[u8],
+    words: &mut [u16],
+    text: &mut [u8],
+    at: usize,
+) -> Option<usize> {
     let eighth = start_of(s, 7);
     if eighth < 1 || s.len() < eighth {
-        return NOWHERE;
+        return None;
     }
     let setting = &s[..eighth - 1];
     let rest = &s[eighth..];

@@ -1,6 +1,6 @@
 -- From what a call of the arena promises to what a line of the match does. Assumes nothing.
-use Prim.Native.Nat.{ℕ, ◌-◌, ◌≤◌}
-use native.Mathlib.Nat.{sub-zero}
+use Rattle.std.specs.Prelude.{Ok, Err}
+use Prim.Native.Nat.{ℕ, ◌≤◌}
 use native.Mathlib.Omega.{arith}
 use mathlib.Core.Path.{◌≡◌, refl, sym, ap, ◌∙◌}
 use mathlib.Core.Bool.{Bool, true, false, true≢false, false≢true}
@@ -14,12 +14,11 @@ use Rattle.lists.proofs.Insert.{over_take}
 use Rattle.lists.proofs.Writes.{write_front}
 use Rattle.rules.specs.State.{State, count}
 use Rattle.rules.specs.Image.{image_of, snakes_in}
-use Rattle.rules.specs.Tables.{by}
-use Rattle.rules.specs.Says.{Says, refuses, gives, seen, lent}
+use Rattle.rules.specs.Says.{Says, seen, lent}
 use Rattle.rules.specs.Step.{Transition}
 use Rattle.rules.specs.Events.{blank, eight}
 use Rattle.rules.specs.declared.Event.{Event}
-use Rattle.rules.specs.declared.Refusal.{Refusal}
+use Rattle.rules.specs.declared.refusal.Refusal.{Refusal}
 use Rattle.rules.proofs.Image.{snakes_is}
 use Rattle.parsing.specs.Lines.{read_later}
 use Rattle.printing.specs.Text.{line_text, refusal_text}
@@ -30,6 +29,8 @@ use Rattle.standing.specs.declared.Match.{Match}
 use Rattle.referee.specs.declared.Desk.{Desk}
 use Rattle.referee.specs.declared.Turned.{Turned}
 use Rattle.referee.proofs.Showing.{line_shown_lem, marks_shown}
+use Rattle.rules.specs.declared.refusal.Refusal.TheVariants as Refusal
+use Rattle.rules.specs.Refusals.{code_of}
 
 over_long : (s d : List ℕ) → length s ≤ length (over_front s d)
 unfolding over_front
@@ -39,31 +40,32 @@ over_same : (s d : List ℕ) → length s ≤ length d → length (over_front s 
 unfolding over_front
 over_same s d h = omega (arith, length-append s (drop (length s) d), length-drop (length s) d)
 
--- a call that answered n words: what it gave, and where that stands
-module _ {A : Type 0} (g : A → State) (old new : List ℕ) (n : ℕ) where
-  pub data Done (x : Says A) : Type 0 where
-    done : (a : A) → x ≡ gives a → n ≡ length (image_of (g a)) → new ≡ over_front (image_of (g a)) old → take (n - 0) new ≡ image_of (g a) → n ≤ length new → Done x
+-- a call that answered b, with n words: what it gave, and where that stands
+module _ {A B : Type 0} (g : A → State) (h : A → B) (old new : List ℕ) (b : B) where
+  pub data Done (n : ℕ) (x : Says A) : Type 0 where
+    done : (a : A) → x ≡ Ok a → b ≡ h a → n ≡ length (image_of (g a)) → new ≡ over_front (image_of (g a)) old → take n new ≡ image_of (g a) → n ≤ length new → Done n x
 
-  pub done_by : (x : Says A) → gives n ≡ seen (λ a. length (image_of (g a))) x → new ≡ lent (λ a. image_of (g a)) old x → Done x
-  done_by (refuses k) e w = let z : ◌≡◌ {A = ℕ} 0 1 = cc in absurd (omega arith)
-  done_by (gives a) e w =
-      let p : n ≡ length (image_of (g a)) = cc in
-      let f : take (n - 0) new ≡ image_of (g a) = rw (sub-zero, p, w) (over_take (image_of (g a)) old) in
-      let l : n ≤ length new = rw (p, w) (over_long (image_of (g a)) old) in
-      done a refl p w f l
+  pub done_by : (words : B → ℕ) → ((a : A) → words (h a) ≡ length (image_of (g a))) → (x : Says A) → Ok b ≡ seen h x → new ≡ lent (λ a. image_of (g a)) old x → Done (words b) x
+  done_by words counts (Err k) e w = let z : ◌≡◌ {A = ℕ} 0 1 = cc in absurd (omega arith)
+  done_by words counts (Ok a) e w =
+      let v : b ≡ h a = cc in
+      let p : words b ≡ length (image_of (g a)) = ap words v ∙ counts a in
+      let f : take (words b) new ≡ image_of (g a) = rw (p, w) (over_take (image_of (g a)) old) in
+      let l : words b ≤ length new = rw (p, w) (over_long (image_of (g a)) old) in
+      done a refl v p w f l
 
 -- a refusal of the call is a refusal of the line
 pub stopped : {A : Type 0} (f : A → Turn) (x : Says A) (m : Match) (old new out exit : List ℕ) (r : Turned) (k : Refusal)
-    → x ≡ refuses k → new ≡ lent (λ a. image_of (f a).next) old x → Stops m k.number out exit r → Plays (seen f x) m old new out exit r
-stopped f (refuses j) m old new out exit r k e w s =
+    → x ≡ Err k → new ≡ lent (λ a. image_of (f a).next) old x → Stops m (code_of k) out exit r → Plays (seen f x) m old new out exit r
+stopped f (Err j) m old new out exit r k e w s =
     let p : j ≡ k = cc in
     record { more = s.more; game = s.game; words = s.words; image = w; long = ap length w; text = rw p s.text }
-stopped f (gives a) m old new out exit r k e w s = let z : ◌≡◌ {A = ℕ} 0 1 = cc in absurd (omega arith)
+stopped f (Ok a) m old new out exit r k e w s = let z : ◌≡◌ {A = ℕ} 0 1 = cc in absurd (omega arith)
 
 -- the line of the next image is the line of the turn
 pub shown : (t : Turn) (m : Match) (old new out exit : List ℕ) (r : Turned) (letter : ℕ) (over : Bool) (w : List ℕ) (es : List Event)
     → w ≡ image_of t.next → line_text letter over t.next es ≡ t.text → new ≡ over_front (image_of t.next) old → length (image_of t.next) ≤ length old
-    → Shows t.game letter over w es out exit r → Plays (gives t) m old new out exit r
+    → Shows t.game letter over w es out exit r → Plays (Ok t) m old new out exit r
 shown t m old new out exit r letter over w es i e n b s =
     let l : line_shown letter over w es (snakes_in w) ≡ t.text =
     ap (λ (u : List ℕ). line_shown letter over u es (snakes_in u)) i
@@ -87,7 +89,7 @@ events_shown_lem m over t es h =
 pub shown_move : (m : Match) (o : Transition) (old new out exit : List ℕ) (r : Turned) (w : List ℕ) → w ≡ image_of o.next → new ≡ over_front (image_of o.next) old
     → count o.next ≤ 8 → length (image_of o.next) ≤ length old
     → (over : Bool) (es : List Event) → over ≡ o.terminal → es ≡ eight o.events
-    → Shows (moved m over es) 109 over w (events_shown m over w es) out exit r → Plays (gives (moved_turn m o)) m old new out exit r
+    → Shows (moved m over es) 109 over w (events_shown m over w es) out exit r → Plays (Ok (moved_turn m o)) m old new out exit r
 unfolding moved_turn
 shown_move m o old new out exit r w i n c b over es p q s =
     let t : Bool = o.terminal in
@@ -97,32 +99,32 @@ shown_move m o old new out exit r w i n c b over es p q s =
     shown (moved_turn m o) m old new out exit r 109 t w (events_shown m t w v) i (ap (line_text 109 t o.next) g) n b a
 
 -- a line that is refused before any call
-pub refused_line : (m : Match) (k : Refusal) (old out exit : List ℕ) (r : Turned) → Stops m k.number out exit r → Plays (refuses k) m old old out exit r
+pub refused_line : (m : Match) (k : Refusal) (old out exit : List ℕ) (r : Turned) → Stops m (code_of k) out exit r → Plays (Err k) m old old out exit r
 refused_line m k old out exit r s = record { more = s.more; game = s.game; words = s.words; image = refl; long = refl; text = s.text }
 
 -- '33 comes before 32'
 module _ (m : Match) (w line : List ℕ) (room cells : ℕ) where
-  pub turn_over : m.over ≡ true → turn_says m w line room cells ≡ refuses (by 33)
+  pub turn_over : m.over ≡ true → turn_says m w line room cells ≡ Err Refusal.Over
   unfolding turn_says
-  turn_over e = ap (λ (b : Bool). refuses (by 33) if b else asked m w room cells (read_later (snakes_of m) line)) e
+  turn_over e = ap (λ (b : Bool). Err Refusal.Over if b else asked m w room cells (read_later (snakes_of m) line)) e
 
   pub turn_on : m.over ≡ false → turn_says m w line room cells ≡ asked m w room cells (read_later (snakes_of m) line)
   unfolding turn_says
-  turn_on e = ap (λ (b : Bool). refuses (by 33) if b else asked m w room cells (read_later (snakes_of m) line)) e
+  turn_on e = ap (λ (b : Bool). Err Refusal.Over if b else asked m w room cells (read_later (snakes_of m) line)) e
 
 -- ---- the image of a desk takes the place of the one before it
 
 -- a line that stops leaves the image; one that goes on has given a turn
 pub stays : (x : Says Turn) (m : Match) (b old new out exit : List ℕ) (r : Turned) → Plays x m old new out exit r → r.more ≡ false → Plays x m b b out exit r
-stays (refuses k) m b old new out exit r p e = record { more = p.more; game = p.game; words = p.words; image = refl; long = refl; text = p.text }
-stays (gives t) m b old new out exit r p e = absurd (true≢false (sym p.more ∙ e))
+stays (Err k) m b old new out exit r p e = record { more = p.more; game = p.game; words = p.words; image = refl; long = refl; text = p.text }
+stays (Ok t) m b old new out exit r p e = absurd (true≢false (sym p.more ∙ e))
 
 pub moves_on : (x : Says Turn) (m : Match) (b old new out exit : List ℕ) (r : Turned) → Plays x m old new out exit r → r.more ≡ true → length old ≤ length b
-    → Plays x m b (write_at b 0 (take (r.words - 0) new)) out exit r
-moves_on (refuses k) m b old new out exit r p e h = absurd (false≢true (sym p.more ∙ e))
-moves_on (gives t) m b old new out exit r p e h =
-    let f : take (r.words - 0) new ≡ image_of t.next = rw (sub-zero, p.words, p.image) (over_take (image_of t.next) old) in
-    let w : write_at b 0 (take (r.words - 0) new) ≡ over_front (image_of t.next) b = ap (write_at b 0) f ∙ write_front b (image_of t.next) in
+    → Plays x m b (write_at b 0 (take r.words new)) out exit r
+moves_on (Err k) m b old new out exit r p e h = absurd (false≢true (sym p.more ∙ e))
+moves_on (Ok t) m b old new out exit r p e h =
+    let f : take r.words new ≡ image_of t.next = rw (p.words, p.image) (over_take (image_of t.next) old) in
+    let w : write_at b 0 (take r.words new) ≡ over_front (image_of t.next) b = ap (write_at b 0) f ∙ write_front b (image_of t.next) in
     let l : length (image_of t.next) ≤ length b = omega (arith, p.long, ap length p.image, over_long (image_of t.next) old) in
     record { more = p.more; game = p.game; words = p.words; image = w; long = ap length w ∙ over_same (image_of t.next) b l; text = p.text }
 
@@ -148,5 +150,5 @@ module _ (d : Desk) where
 
 -- the words of the answer stand in the buffer
 pub words_fit : (x : Says Turn) (m : Match) (old new out exit : List ℕ) (r : Turned) → Plays x m old new out exit r → r.words ≤ length new
-words_fit (refuses k) m old new out exit r p = rw p.words (omega arith)
-words_fit (gives t) m old new out exit r p = rw (p.words, p.image) (over_long (image_of t.next) old)
+words_fit (Err k) m old new out exit r p = rw p.words (omega arith)
+words_fit (Ok t) m old new out exit r p = rw (p.words, p.image) (over_long (image_of t.next) old)

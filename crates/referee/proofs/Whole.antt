@@ -1,4 +1,5 @@
 -- What a program prints that takes its lines by `take_line` and ends by `close` is the replay of its input. Assumes nothing.
+use Rattle.std.specs.Prelude.{Ok, Err}
 use Prim.Native.Nat.{ℕ}
 use native.Mathlib.Nat.{zero-add}
 use mathlib.Core.Path.{◌≡◌, refl, sym, ap, ◌∙◌}
@@ -9,7 +10,7 @@ use lib.ListN.{length, take}
 use Rattle.lists.proofs.Insert.{over_take}
 use Rattle.lists.proofs.Writes.{write_front}
 use Rattle.rules.specs.Image.{image_of}
-use Rattle.rules.specs.Says.{Says, refuses, gives}
+use Rattle.rules.specs.Says.{Says}
 use Rattle.parsing.specs.Fields.{up_to}
 use Rattle.parsing.specs.Lines.{read_first, read_later}
 use Rattle.parsing.specs.Split.{lines_of}
@@ -34,10 +35,10 @@ from d w (line ∷ lines) = onward (line_says d w line 9253 1024) (λ t. from (d
 -- at a desk that has begun, it is what the definitions print
 from_begun : (lines : List (List ℕ)) (s : Says Turn) → onward s (λ t. from (desk_on t) (image_of t.next) lines) ≡ play_on lines s
 unfolding from play_on
-from_begun [] (refuses k) = refl
-from_begun [] (gives t) = ap (λ (l : List ℕ). t.text ++ l) (close_begun (desk_on t) refl)
-from_begun (line ∷ lines) (refuses k) = refl
-from_begun (line ∷ lines) (gives t) =
+from_begun [] (Err k) = refl
+from_begun [] (Ok t) = ap (λ (l : List ℕ). t.text ++ l) (close_begun (desk_on t) refl)
+from_begun (line ∷ lines) (Err k) = refl
+from_begun (line ∷ lines) (Ok t) =
     let w = image_of t.next in
     let e = line_begun (desk_on t) w line 9253 1024 refl in
     ap (λ (l : List ℕ). t.text ++ l)
@@ -79,17 +80,17 @@ module _ (d : Desk) (image s new told : List ℕ) (r : Turned) (k : Took d image
 
   -- it stops
   line_stops : (x : Says Turn) (after : Turn → List ℕ) → Plays x d.game image new k.out k.exit r → r.more ≡ false → told ≡ onward x after
-  line_stops (refuses n) after p e = told_is (refuses n) p
-  line_stops (gives t) after p e = absurd (true≢false (sym p.more ∙ e))
+  line_stops (Err n) after p e = told_is (Err n) p
+  line_stops (Ok t) after p e = absurd (true≢false (sym p.more ∙ e))
 
   -- it goes on, at the next desk with the next image
   line_goes : (x : Says Turn) (lines : List (List ℕ)) → Plays x d.game image new k.out k.exit r → r.more ≡ true
       → told ++ from (desk_after r) (take r.words new) lines ≡ onward x (λ t. from (desk_on t) (image_of t.next) lines)
-  line_goes (refuses n) lines p e = absurd (false≢true (sym p.more ∙ e))
-  line_goes (gives t) lines p e =
+  line_goes (Err n) lines p e = absurd (false≢true (sym p.more ∙ e))
+  line_goes (Ok t) lines p e =
       let f : take r.words new ≡ image_of t.next = rw (p.words, p.image) (over_take (image_of t.next) image) in
       let g : desk_after r ≡ desk_on t = rw (p.words, p.game) in
-      rw (told_is (gives t) p, f, g)
+      rw (told_is (Ok t) p, f, g)
 
 -- ---- the whole input
 

@@ -1,5 +1,5 @@
 -- The match as a value, what each line does to it, and the whole replay (01, 'Replay'). Assumes nothing.
-use Rattle.std.specs.Prelude.{ℕ, ◌≡◌, Bool, true, false, List, [], ◌∷◌, ◌++◌, length, get_or, take}
+use Rattle.std.specs.Prelude.{ℕ, ◌≡◌, Bool, true, false, List, [], ◌∷◌, ◌++◌, length, get_or, take, Ok, Err, Option, Some, None}
 use Rattle.lists.specs.Choice.{◌if◌else◌}
 use Rattle.lists.specs.Below.{filled}
 use Rattle.rules.specs.State.{State, count, snake_of}
@@ -7,8 +7,7 @@ use Rattle.rules.specs.Image.{image_of, snakes_in}
 use Rattle.rules.specs.Step.{Transition}
 use Rattle.rules.specs.Events.{blank, eight}
 use Rattle.rules.specs.Turns.{truncated}
-use Rattle.rules.specs.Tables.{by}
-use Rattle.rules.specs.Says.{Says, refuses, gives, seen, beside, lent}
+use Rattle.rules.specs.Says.{Says, seen, beside, lent}
 use Rattle.rules.specs.Calls.{initial_says, step_says, Draw, draw_says}
 use Rattle.rules.specs.declared.Setting.{Setting}
 use Rattle.rules.specs.declared.Event.{Event}
@@ -17,14 +16,13 @@ use Rattle.parsing.specs.Split.{lines_of}
 use Rattle.standing.specs.Shown.{line_shown}
 use Rattle.standing.specs.Standing.{fresh, snakes_of, ends_by, moved, end_text}
 use Rattle.printing.specs.Text.{line_text, refusal_text, Wrote}
-use Rattle.parsing.specs.declared.First.{First}
-use Rattle.parsing.specs.declared.First.TheVariants.{NoFirst, Opens}
 use Rattle.parsing.specs.declared.Line.{Line}
-use Rattle.parsing.specs.declared.Line.TheVariants.{NoLine, DrawLine, MoveLine}
-use Rattle.parsing.specs.declared.Entry.{Entry}
+use Rattle.parsing.specs.declared.Line.TheVariants as Line
 use Rattle.standing.specs.declared.Match.{Match}
 use Rattle.referee.specs.declared.Desk.{Desk}
 use Rattle.referee.specs.declared.Turned.{Turned}
+use Rattle.rules.specs.declared.refusal.Refusal.TheVariants as Refusal
+use Rattle.rules.specs.Refusals.{code_of}
 
 -- what a line that is not refused does: the next state, the match, and the line that it prints
 pub record Turn : Type 0 where
@@ -42,9 +40,9 @@ opened s t = record {
 }
 
 -- '32 before the call's own'; room is the length of the lent buffer
-abbrev pub opened_by : First → ℕ → Says Turn
-opened_by NoFirst room = refuses (by 32)
-opened_by (Opens s) room = seen (opened s) (initial_says s room)
+abbrev pub opened_by : Option Setting → ℕ → Says Turn
+opened_by None room = Err Refusal.Line
+opened_by (Some s) room = seen (opened s) (initial_says s room)
 
 unfoldable pub begin_says : List ℕ → ℕ → Says Turn
 begin_says line room = opened_by (read_first line) room
@@ -75,22 +73,19 @@ moved_turn m o =
 
 -- ---- a line after the first: '33 comes before 32, 32 before the call's own'
 
-abbrev pub asked_by : Match → List ℕ → ℕ → ℕ → Line → List ℕ → Says Turn
-asked_by m w room cells NoLine acts = refuses (by 32)
-asked_by m w room cells (DrawLine i) acts = seen (drawn_turn m) (draw_says w i room cells)
-asked_by m w room cells MoveLine acts = seen (moved_turn m) (step_says m.setting w (take (snakes_of m) acts) room)
-
-abbrev pub asked : Match → List ℕ → ℕ → ℕ → Entry → Says Turn
-asked m w room cells e = asked_by m w room cells e.line e.acts
+abbrev pub asked : Match → List ℕ → ℕ → ℕ → Option Line → Says Turn
+asked m w room cells None = Err Refusal.Line
+asked m w room cells (Some (Line.Draw i)) = seen (drawn_turn m) (draw_says w i room cells)
+asked m w room cells (Some (Line.Move acts)) = seen (moved_turn m) (step_says m.setting w (take (snakes_of m) acts) room)
 
 -- w is the image; room and cells are the lengths of the lent buffers of the next image and of the cells drawn
 unfoldable pub turn_says : Match → List ℕ → List ℕ → ℕ → ℕ → Says Turn
-turn_says m w line room cells = refuses (by 33) if m.over else asked m w room cells (read_later (snakes_of m) line)
+turn_says m w line room cells = Err Refusal.Over if m.over else asked m w room cells (read_later (snakes_of m) line)
 
 -- what a line prints: a refusal its number
 abbrev pub said : Says Turn → List ℕ
-said (refuses k) = refusal_text k.number
-said (gives t) = t.text
+said (Err k) = refusal_text (code_of k)
+said (Ok t) = t.text
 
 -- the promise of a call that takes a line of match m: its answer, the next image in the lent words, the text in the lent bytes
 pub record Plays (turn : Says Turn) (m : Match) (old new out exit : List ℕ) (r : Turned) : Type 0 where
@@ -100,11 +95,6 @@ pub record Plays (turn : Says Turn) (m : Match) (old new out exit : List ℕ) (r
   pub image : new ≡ lent (λ t. image_of t.next) old turn
   pub long : length new ≡ length old
   pub text : Wrote out exit 0 r.text (said turn) 462
-
--- its number, where it is a refusal
-abbrev pub refusal_in : {A : Type 0} → Says A → ℕ
-refusal_in (refuses k) = k.number
-refusal_in (gives a) = 0
 
 -- the two ways in which a call ends: a refusal printed, or the line of an image w
 pub record Stops (m : Match) (k : ℕ) (out exit : List ℕ) (r : Turned) : Type 0 where
@@ -133,8 +123,8 @@ close_text d = end_text d.game if d.begun else refusal_text 32
 
 -- what a line prints, and what is printed after it: 'A refusal prints `r` and its number and stops'
 abbrev pub onward : Says Turn → (Turn → List ℕ) → List ℕ
-onward (refuses k) after = refusal_text k.number
-onward (gives t) after = t.text ++ after t
+onward (Err k) after = refusal_text (code_of k)
+onward (Ok t) after = t.text ++ after t
 
 -- 'At the end of input, `p`'
 unfoldable pub play_on : List (List ℕ) → Says Turn → List ℕ

@@ -6,7 +6,7 @@ ghost use Rattle.referee.specs.Match.{line_says, close_text, Plays};
 use crate::turns::{begin, turn};
 use crate::{Desk, Turned};
 use printing::put_refusal;
-use rules::{Limit, Setting};
+use rules::{Refusal, Setting};
 use standing::{new_match, put_end};
 
 // Before the first line.
@@ -18,9 +18,9 @@ pub fn new_desk() -> Desk
         grid_size: 0,
         initial_length: 0,
         play_to_last: false,
-        win_food_lead: Limit::Unset,
+        win_food_lead: None,
         initial_food_count: 0,
-        max_ticks: Limit::Unset,
+        max_ticks: None,
     };
     Desk {
         begun: false,
@@ -58,11 +58,11 @@ pub fn take_line(
     requires { (d.words ≤ length image.old) × (length next.old ≤ length image.old) × (462 ≤ length out.old) }
     ensures { Plays (line_says d (take d.words image.old) line.now (length next.old) (length list.old)) d.game image.old image.new out.old out.new result }
 {
-    let t = ask(d, &image[0..d.words], next, list, line, out);
+    let t = ask(d, &image[..d.words], next, list, line, out);
     if !t.more {
         return t;
     }
-    lists::write_at(image, 0, &next[0..t.words]);
+    lists::write_at(image, 0, &next[..t.words]);
     t
 }
 
@@ -74,5 +74,5 @@ pub fn close(d: Desk, out: &mut [u8]) -> usize
     if d.begun {
         return put_end(out, d.game);
     }
-    put_refusal(out, 32)
+    put_refusal(out, u64::from(Refusal::Line.number()))
 }

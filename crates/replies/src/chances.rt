@@ -1,51 +1,48 @@
-// The chance calls: the count, the draw and the rank.
+// The chance calls: the draw and the rank.
 use crate::buffers::{PATTERN, kept};
-use crate::fields::{NOWHERE, last_words, words_in};
-use crate::reply::{NO_CALL, Reply, number, refused};
+use crate::fields::Fields;
+use crate::reply::{Numbers, number};
 use crate::writing::{end, put, put_words, refuse};
-use rules::{Answer, Drawn, Number};
-
-pub fn outcome(answer: Number) -> Reply {
-    match answer {
-        Number::Value(v) => number(v),
-        Number::Refused(r) => refused(r),
-    }
-}
+use rules::{Drawn, Refusal};
 
 // `k K c1..cK W`
-pub fn rank(s: &[u8], words: &mut [u16]) -> Reply {
+pub fn rank(s: &[u8], words: &mut [u16]) -> Option<Result<Numbers, Refusal>> {
     let mut list = [PATTERN; 2048];
-    let got = words_in(s, 0, &mut list);
-    let n = last_words(s, got.next, 16384, words);
-    if words.len() < n || list.len() < got.count {
-        return NO_CALL;
-    }
-    outcome(arena::rank(&words[..n], &list[..got.count]))
+    let mut fields = Fields::of(s);
+    let count = fields.words(&mut list)?;
+    let cells = list.get(..count)?;
+    let image = fields.last_words(16384, words)?;
+    Some(arena::rank(image, cells).map(number))
 }
 
-fn put_draw(text: &mut [u8], at: usize, drawn: Drawn, out: &[u16], list: &[u16]) -> usize {
-    match drawn.answer {
-        Answer::Done(n) => {
+fn put_draw(
+    text: &mut [u8],
+    at: usize,
+    drawn: Result<Drawn, Refusal>,
+    out: &[u16],
+    list: &[u16],
+) -> usize {
+    match drawn {
+        Ok(drawn) => {
             let a = put(text, at, b'a');
-            let b = put_words(text, a, out, n);
+            let b = put_words(text, a, out, drawn.words);
             let c = put_words(text, b, list, drawn.cells);
-            end(text, c, kept(out, n) && kept(list, drawn.cells))
+            end(text, c, kept(out, drawn.words) && kept(list, drawn.cells))
         }
-        Answer::Refused(r) => refuse(text, at, r, kept(out, 0) && kept(list, 0)),
+        Err(r) => refuse(text, at, r, kept(out, 0) && kept(list, 0)),
     }
 }
 
 // `d cap capList INDEX W`
-pub fn draw_line(values: [u64; 9], words: &[u16], text: &mut [u8], at: usize) -> usize {
-    let cap = values[0];
-    let cap_list = values[1];
+pub fn draw_line(values: [u64; 9], words: &[u16], text: &mut [u8], at: usize) -> Option<usize> {
+    let [cap, cap_list, index, ..] = values;
     if 16384 < cap || 16384 < cap_list {
-        return NOWHERE;
+        return None;
     }
     let mut out_room = [PATTERN; 16384];
     let mut list_room = [PATTERN; 16384];
     let out = &mut out_room[..cap as usize];
     let list = &mut list_room[..cap_list as usize];
-    let drawn = arena::draw(words, values[2], out, list);
-    put_draw(text, at, drawn, out, list)
+    let drawn = arena::draw(words, index, out, list);
+    Some(put_draw(text, at, drawn, out, list))
 }

@@ -2,80 +2,76 @@
 ghost use Rattle.std.specs.Prelude.{◌≤◌, length};
 
 use events::cause_in;
-use parsing::{Num, next_number};
+use parsing::next_number;
 use rules::Event;
 
-// Where no field starts: what follows one that is none. Above every length.
-pub const NOWHERE: usize = 18446744073709551615;
-
-// How many words, and where the field after them starts.
+// The fields of a call: the next one starts at that byte, a byte past the line where the last was read.
 #[derive(Clone, Copy)]
-pub struct Words {
-    pub count: usize,
-    pub next: usize,
+pub struct Fields<'a> {
+    pub line: &'a [u8],
+    pub at: usize,
 }
 
-// The fields from that byte on, a number for each value: where the next field starts, a byte past the line where it ended with the last.
-// Nowhere where one is none.
-pub fn numbers_in(s: &[u8], from: usize, values: &mut [u64]) -> usize {
-    let mut at = from;
-    for value in values {
-        if s.len() < at {
-            return NOWHERE;
+impl<'a> Fields<'a> {
+    pub fn of(line: &'a [u8]) -> Fields<'a> {
+        Fields { line, at: 0 }
+    }
+
+    // Whether the last field was read.
+    pub fn ended(&self) -> bool {
+        self.at == self.line.len() + 1
+    }
+
+    // The next field; none where it is no number, or there is none left.
+    fn number(&mut self) -> Option<u64> {
+        if self.line.len() < self.at {
+            return None;
         }
-        let got = next_number(s, at);
-        let Num::Reads(v) = got.num else {
-            return NOWHERE;
-        };
-        *value = v;
-        at = got.next;
+        let got = next_number(self.line, self.at);
+        self.at = got.next;
+        got.num
     }
-    at
-}
 
-// The same for words, straight into the room, since a book's may be many.
-fn each_word(s: &[u8], from: usize, words: &mut [u16]) -> usize {
-    let mut at = from;
-    for word in words {
-        if s.len() < at {
-            return NOWHERE;
+    // A number for each value.
+    pub fn numbers(&mut self, values: &mut [u64]) -> Option<()> {
+        for value in values {
+            *value = self.number()?;
         }
-        let got = next_number(s, at);
-        let Num::Reads(v) = got.num else {
-            return NOWHERE;
-        };
-        if 65535 < v {
-            return NOWHERE;
+        Some(())
+    }
+
+    // The same as the line's last fields.
+    pub fn last_numbers(&mut self, values: &mut [u64]) -> Option<()> {
+        self.numbers(values)?;
+        self.ended().then_some(())
+    }
+
+    // The same for words, straight into the room, since a book's may be many.
+    fn each_word(&mut self, words: &mut [u16]) -> Option<()> {
+        for word in words {
+            *word = u16::try_from(self.number()?).ok()?;
         }
-        *word = v as u16;
-        at = got.next;
+        Some(())
     }
-    at
-}
 
-// W: a count, and so many words; nowhere where there are no such words, or more than the room.
-pub fn words_in(s: &[u8], from: usize, words: &mut [u16]) -> Words {
-    let mut head = [0u64; 1];
-    let start = numbers_in(s, from, &mut head);
-    let n = head[0];
-    if (words.len() as u64) < n {
-        return Words {
-            count: 0,
-            next: NOWHERE,
-        };
+    // W: a count, and so many words; none where there are no such words, or more than the room. How many.
+    pub fn words(&mut self, words: &mut [u16]) -> Option<usize> {
+        let count = self.number()?;
+        if (words.len() as u64) < count {
+            return None;
+        }
+        self.each_word(&mut words[..count as usize])?;
+        Some(count as usize)
     }
-    let count = n as usize;
-    let next = each_word(s, start, &mut words[..count]);
-    Words { count, next }
-}
 
-// W as the line's last part, of at most so many words: its count. Nowhere where there are no such words, or something follows them.
-pub fn last_words(s: &[u8], from: usize, most: usize, words: &mut [u16]) -> usize {
-    let got = words_in(s, from, words);
-    if got.next != s.len() + 1 || most < got.count {
-        return NOWHERE;
+    // W as the line's last part, of at most so many words. None where there are no such words, or something follows them.
+    pub fn last_words<'w>(&mut self, most: usize, words: &'w mut [u16]) -> Option<&'w [u16]> {
+        let count = self.words(words)?;
+        if !self.ended() || most < count {
+            return None;
+        }
+        words.get(..count)
     }
-    got.count
 }
 
 // E: eight numbers, the third a cause and the rest flags.

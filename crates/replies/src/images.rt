@@ -1,17 +1,7 @@
-// The calls on an image alone: what is wrong with it, and a snake's body.
-use crate::reply::{NOTHING, Reply, refused};
+// A snake's body.
 use crate::writing::{put, put_number, put_words};
 use layout::start_at;
 use lists::word_at;
-use rules::Verdict;
-
-// `x W`
-pub fn check_image(words: &[u16]) -> Reply {
-    match arena::check_image(words) {
-        Verdict::Accepted => NOTHING,
-        Verdict::Refused(r) => refused(r),
-    }
-}
 
 // The start word of a snake's record; 0 for a malformed image or no such snake.
 fn start_of(words: &[u16], snake: u64) -> u64 {

@@ -16,9 +16,9 @@ mod writing;
 
 pub use buffers::{PATTERN, book_room, kept};
 pub use chances::rank;
-pub use fields::{NOWHERE, last_words, numbers_in};
-pub use marks::{bit, put_events, put_hits};
-pub use reply::{NO_CALL, NOTHING, Reply, put_reply, refused};
+pub use fields::Fields;
+pub use marks::{put_events, put_hits};
+pub use reply::{Numbers, nothing, put_reply};
 pub use rewards::reward;
 pub use spaces::{action_space, observation_space, turn};
 pub use units::outcome_of;

@@ -3,21 +3,17 @@ use crate::reply::put_numbers;
 use events::cause_number;
 use rules::{Event, Hit};
 
-pub fn bit(flag: bool) -> u64 {
-    flag as u64
-}
-
 // E, an event's eight numbers.
 pub fn event_numbers(e: Event) -> [u64; 8] {
     [
-        bit(e.ate_food),
-        bit(e.died),
-        cause_number(e.death_cause) as u64,
-        bit(e.killed_opponent),
-        bit(e.won),
-        bit(e.lost),
-        bit(e.drew),
-        bit(e.survived_to_max_ticks),
+        u64::from(e.ate_food),
+        u64::from(e.died),
+        u64::from(cause_number(e.death_cause)),
+        u64::from(e.killed_opponent),
+        u64::from(e.won),
+        u64::from(e.lost),
+        u64::from(e.drew),
+        u64::from(e.survived_to_max_ticks),
     ]
 }
 
@@ -29,10 +25,18 @@ pub fn put_events(text: &mut [u8], from: usize, events: [Event; 8]) -> usize {
     at
 }
 
-pub fn put_hits(text: &mut [u8], from: usize, hits: [Hit; 8]) -> usize {
+// Who was hit and where; 8 and 0 for nobody.
+fn hit_numbers(hit: Option<Hit>) -> [u64; 2] {
+    match hit {
+        Some(hit) => [u64::from(hit.snake), u64::from(hit.position)],
+        None => [8, 0],
+    }
+}
+
+pub fn put_hits(text: &mut [u8], from: usize, hits: [Option<Hit>; 8]) -> usize {
     let mut at = from;
     for hit in hits {
-        at = put_numbers(text, at, &[hit.snake as u64, hit.position as u64]);
+        at = put_numbers(text, at, &hit_numbers(hit));
     }
     at
 }

@@ -1,47 +1,27 @@
-// What most calls say: a letter and at most eight numbers. It is put into the text in one place.
-use crate::writing::{has_word, put, put_number};
+// What most calls say: at most eight numbers, or why they are refused. It is put into the text in one place.
+use crate::writing::{put, put_number, refuse};
 use rules::Refusal;
 
+// The first `count` of these.
 #[derive(Clone, Copy)]
-pub struct Reply {
-    pub letter: u8,
+pub struct Numbers {
     pub count: usize,
-    pub numbers: [u64; 8],
+    pub all: [u64; 8],
 }
-
-// The line is no call.
-pub const NO_CALL: Reply = Reply {
-    letter: b'e',
-    count: 0,
-    numbers: [0u64; 8],
-};
 
 // An answer that says nothing more.
-pub const NOTHING: Reply = Reply {
-    letter: b'a',
-    count: 0,
-    numbers: [0u64; 8],
-};
+pub fn nothing(_: ()) -> Numbers {
+    Numbers {
+        count: 0,
+        all: [0u64; 8],
+    }
+}
 
-pub fn number(v: u64) -> Reply {
-    Reply {
-        letter: b'a',
+pub fn number(v: u64) -> Numbers {
+    Numbers {
         count: 1,
-        numbers: [v, 0, 0, 0, 0, 0, 0, 0],
+        all: [v, 0, 0, 0, 0, 0, 0, 0],
     }
-}
-
-fn refusal(r: Refusal, count: usize) -> Reply {
-    Reply {
-        letter: b'r',
-        count,
-        numbers: [r.number as u64, r.word as u64, 0, 0, 0, 0, 0, 0],
-    }
-}
-
-// Its number, and for 50 to 56 the word.
-pub fn refused(r: Refusal) -> Reply {
-    refusal(r, if has_word(r) { 2 } else { 1 })
 }
 
 // Each number, after a space.
@@ -53,8 +33,14 @@ pub fn put_numbers(text: &mut [u8], from: usize, numbers: &[u64]) -> usize {
     at
 }
 
-pub fn put_reply(text: &mut [u8], at: usize, reply: Reply) -> usize {
-    let i = put(text, at, reply.letter);
-    let j = put_numbers(text, i, &reply.numbers[..reply.count.min(8)]);
-    put(text, j, b'\n')
+// The line of a reply; no buffer was lent.
+pub fn put_reply(text: &mut [u8], at: usize, reply: Result<Numbers, Refusal>) -> usize {
+    match reply {
+        Ok(numbers) => {
+            let i = put(text, at, b'a');
+            let j = put_numbers(text, i, &numbers.all[..numbers.count.min(8)]);
+            put(text, j, b'\n')
+        }
+        Err(r) => refuse(text, at, r, true),
+    }
 }

@@ -1,7 +1,7 @@
 // The reward, whose floats stand in a line as bits.
-use crate::fields::{event_of, is_event, numbers_in};
-use crate::reply::{NO_CALL, Reply, number, refused};
-use rules::{Reward, Weights};
+use crate::fields::{Fields, event_of, is_event};
+use crate::reply::{Numbers, number};
+use rules::{Refusal, Weights};
 
 // The float of that pattern. A NaN's pattern has none: it is read as an infinity, which the reward refuses by 31 too, and the outcome of a unit
 // number by 81.
@@ -31,15 +31,15 @@ fn weights_in(w: &[u64; 15]) -> Weights {
 }
 
 // `w B1..B7 E`
-pub fn reward(s: &[u8]) -> Reply {
+pub fn reward(s: &[u8]) -> Option<Result<Numbers, Refusal>> {
     let mut values = [0u64; 15];
-    let next = numbers_in(s, 0, &mut values);
-    if next != s.len() + 1 || !is_event(&values[7..15]) {
-        return NO_CALL;
+    Fields::of(s).last_numbers(&mut values)?;
+    if !is_event(&values[7..15]) {
+        return None;
     }
     let event = event_of(&values[7..15]);
     match arena::reward(weights_in(&values), event) {
-        Reward::Sum(x) => number(bits_of(x)),
-        Reward::Refused(r) => refused(r),
+        Ok(x) => Some(Ok(number(bits_of(x)))),
+        Err(r) => Some(Err(r)),
     }
 }

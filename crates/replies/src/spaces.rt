@@ -1,12 +1,12 @@
 // The spaces and the turn, which ask no state.
-use crate::fields::numbers_in;
-use crate::reply::{NO_CALL, Reply, number, refused};
+use crate::fields::Fields;
+use crate::reply::{Numbers, number};
 use grid::action_of;
 use image::{heading_of, number_of};
-use parsing::{Grid, grid_in};
-use rules::Space;
+use parsing::grid_in;
+use rules::{Refusal, Space};
 
-fn shape(space: Space) -> Reply {
+fn shape(space: Space) -> Numbers {
     match space {
         Space::Box {
             planes,
@@ -14,44 +14,37 @@ fn shape(space: Space) -> Reply {
             cols,
             low: _,
             high: _,
-        } => Reply {
-            letter: b'a',
+        } => Numbers {
             count: 3,
-            numbers: [planes as u64, rows as u64, cols as u64, 0, 0, 0, 0, 0],
+            all: [planes as u64, rows as u64, cols as u64, 0, 0, 0, 0, 0],
         },
         Space::Discrete(n) => number(n as u64),
-        Space::Refused(r) => refused(r),
     }
 }
 
 // `p GRID`
-pub fn observation_space(s: &[u8]) -> Reply {
-    match grid_in(s) {
-        Grid::NoGrid => NO_CALL,
-        Grid::GridIs(grid) => shape(arena::observation_space(grid)),
-    }
+pub fn observation_space(s: &[u8]) -> Option<Result<Numbers, Refusal>> {
+    let grid = grid_in(s)?;
+    Some(arena::observation_space(grid).map(shape))
 }
 
 // `q`, and no other letter.
-pub fn action_space(letter: u8) -> Reply {
+pub fn action_space(letter: u8) -> Option<Result<Numbers, Refusal>> {
     if letter == b'q' {
-        shape(arena::action_space())
+        Some(Ok(shape(arena::action_space())))
     } else {
-        NO_CALL
+        None
     }
 }
 
 // `h HEADING ACTION`
-pub fn turn(s: &[u8]) -> Reply {
+pub fn turn(s: &[u8]) -> Option<Result<Numbers, Refusal>> {
     let mut values = [0u64; 2];
-    let next = numbers_in(s, 0, &mut values);
-    if next != s.len() + 1 {
-        return NO_CALL;
-    }
+    Fields::of(s).last_numbers(&mut values)?;
     let [heading, action] = values;
     if 3 < heading || 2 < action {
-        return NO_CALL;
+        return None;
     }
     let turned = arena::relative_to_absolute(heading_of(heading as u16), action_of(action));
-    number(number_of(turned) as u64)
+    Some(Ok(number(u64::from(number_of(turned)))))
 }

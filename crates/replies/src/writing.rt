@@ -2,7 +2,7 @@
 // What was put is written out from 32,768 bytes on, before each answer and among many words, so that the room of 65,536 never ends.
 use crate::buffers::kept;
 use printing::put_item;
-use rules::{Answer, Refusal};
+use rules::Refusal;
 
 // Standard output, as `io` numbers it.
 const STDOUT: i32 = 1;
@@ -66,13 +66,13 @@ pub fn end(text: &mut [u8], at: usize, kept: bool) -> usize {
 
 // Whether a refusal has a word: what is wrong with an image.
 pub fn has_word(r: Refusal) -> bool {
-    matches!(r.number, 50..=56)
+    matches!(r.number(), 50..=56)
 }
 
 fn put_refusal(text: &mut [u8], at: usize, r: Refusal) -> usize {
-    let i = put_number(text, at, r.number as u64);
+    let i = put_number(text, at, u64::from(r.number()));
     if has_word(r) {
-        put_number(text, i, r.word as u64)
+        put_number(text, i, r.word() as u64)
     } else {
         i
     }
@@ -86,13 +86,18 @@ pub fn refuse(text: &mut [u8], at: usize, r: Refusal, kept: bool) -> usize {
 }
 
 // The line of an answer that is the words of a lent buffer.
-pub fn put_written(text: &mut [u8], at: usize, answer: Answer, out: &[u16]) -> usize {
+pub fn put_written(
+    text: &mut [u8],
+    at: usize,
+    answer: Result<usize, Refusal>,
+    out: &[u16],
+) -> usize {
     match answer {
-        Answer::Done(n) => {
+        Ok(n) => {
             let i = put(text, at, b'a');
             let j = put_words(text, i, out, n);
             end(text, j, kept(out, n))
         }
-        Answer::Refused(r) => refuse(text, at, r, kept(out, 0)),
+        Err(r) => refuse(text, at, r, kept(out, 0)),
     }
 }

@@ -1,4 +1,5 @@
 -- Demand 3 of the calls' answers and buffers: whatever meets the promises of count, draw and rank answers P, draws fairly and ranks back. Assumes nothing.
+use Rattle.std.specs.Prelude.{Ok}
 use Prim.Native.Nat.{ℕ, zero, suc, ◌+◌, ◌-◌, ◌^◌, ◌<◌, ◌≤◌, min}
 use native.Mathlib.Nat.{pos_of_ne-zero, le_refl, le_trans, not-suc-le-zero, le_of_suc-le-suc}
 use native.Mathlib.Omega.{arith}
@@ -12,7 +13,7 @@ use Rattle.lists.specs.Below.{count_below}
 use Rattle.lists.specs.Lists.{all, over_front, member, distinct}
 use Rattle.lists.specs.Equal.{same_list}
 use Rattle.lists.specs.Products.{falling, factorial}
-use Rattle.rules.specs.Tables.{Table, by, none_hold}
+use Rattle.rules.specs.Tables.{Table, none_hold}
 use Rattle.lists.proofs.Below.{count_ext}
 use Rattle.lists.proofs.Insert.{over_take}
 use Rattle.rules.proofs.Tables.{row_out}
@@ -22,16 +23,12 @@ use Rattle.rules.specs.Image.{due_in, image_of, state_of, well_formed}
 use Rattle.rules.specs.Chance.{free, draw_size, outcomes, drawn, with_food, after_draw, rank_of, can_rank}
 use Rattle.rules.specs.Fair.{Fair, Countable, Drawable, DrawWrote, RanksAsOne, Changed, Drawing}
 use Rattle.rules.specs.Births.{after_draws, Ends, InRange}
-use Rattle.rules.specs.Says.{gives, seen, beside, lent, says}
+use Rattle.rules.specs.Says.{Says, seen, beside, lent}
 use Rattle.rules.specs.Faults.{image_rows}
 use Rattle.rules.specs.Orders.{due_rows, count_order, draw_rows, draw_order, rank_rows, rank_order}
-use Rattle.rules.specs.Calls.{Draw, count_says, draw_says, rank_says}
+use Rattle.rules.specs.Calls.{Draw, drawn_of, count_says, draw_says, rank_says}
 use Rattle.rules.specs.Promises.{Counts, Draws, Ranks}
-use Rattle.rules.specs.declared.Number.{Number}
-use Rattle.rules.specs.declared.Number.TheVariants.{Value}
 use Rattle.rules.specs.declared.Drawn.{Drawn}
-use Rattle.rules.specs.declared.Answer.TheVariants.{Done}
-use Rattle.rules.proofs.Answers.{answer_one, number_one}
 use Rattle.rules.proofs.Facts.{sound}
 use Rattle.rules.proofs.Tables.{table_gives, table_given, table_seen}
 use Rattle.rules.proofs.Image.{state_back}
@@ -41,6 +38,7 @@ use Rattle.rules.proofs.DrawFacts.{after_due, next_long}
 use Rattle.rules.proofs.Fairness.{fair, settled, birth_count, birth_few, born, born_full}
 use Rattle.rules.proofs.Again.{draw_again}
 use Rattle.rules.proofs.Births.{chain_ends}
+use Rattle.rules.specs.declared.refusal.Refusal.TheVariants as Refusal
 
 pub fair_image : (w : List ℕ) → well_formed w ≡ true → Fair (state_of w)
 fair_image w ok = fair (state_of w) (state_food w (sound w ok))
@@ -59,7 +57,7 @@ module _ (w : List ℕ) where
   past_image : (rows : Table) → none_hold (count_order w ++ rows) ≡ true → none_hold (image_rows w ++ (due_rows w ++ rows)) ≡ true
   past_image rows none = ap none_hold (sym (append_assoc (image_rows w) (due_rows w) rows)) ∙ none
 
-  later_row : (rows : Table) → none_hold (count_order w ++ rows) ≡ true → (k : ℕ) → (get_or (due_rows w ++ rows) k (by 0, false)).1 ≡ false
+  later_row : (rows : Table) → none_hold (count_order w ++ rows) ≡ true → (k : ℕ) → (get_or (due_rows w ++ rows) k (Refusal.Buffer, false)).1 ≡ false
   later_row rows none k = row_out (due_rows w ++ rows) k (rows_after w (due_rows w ++ rows) (past_image rows none))
 
   countable : (rows : Table) → none_hold (count_order w ++ rows) ≡ true → Countable w
@@ -72,11 +70,11 @@ module _ (w : List ℕ) where
       }
 
   -- the count answers P, the product of k factors from n downward
-  pub count_answers : Countable w → (r : Number) → Counts w r → r ≡ Value (falling (length (free (state_of w))) (draw_size (state_of w)))
+  pub count_answers : Countable w → (r : Says ℕ) → Counts w r → r ≡ Ok (falling (length (free (state_of w))) (draw_size (state_of w)))
   unfolding count_says all
   count_answers q r c =
       let p = outcomes (state_of w) in
-      number_one r (Value p) (c.answer ∙ table_gives (count_order w) (gives p) (ap none_hold (sym (append-nil (count_order w))) ∙ none_holds [] q refl)) ∙ ap Value (fair_image w q.formed).count
+      (c.answer ∙ table_gives (count_order w) (Ok p) (ap none_hold (sym (append-nil (count_order w))) ∙ none_holds [] q refl)) ∙ ap Ok (fair_image w q.formed).count
 
 -- ---- the draw that is answered
 
@@ -88,7 +86,7 @@ pub record Answered (w : List ℕ) (i : ℕ) (old new list cells : List ℕ) (n 
   pub long : n ≡ length (image_of (after_draw (state_of w) i))
   pub many : k ≡ length (drawn (state_of w) i)
 
-module _ (w : List ℕ) (i : ℕ) (old new list cells : List ℕ) (r : Drawn) (p : Draws w i old new list cells r) where
+module _ (w : List ℕ) (i : ℕ) (old new list cells : List ℕ) (r : Says Drawn) (p : Draws w i old new list cells r) where
   abbrev drawing : Draw
   drawing = record { next = after_draw (state_of w) i; cells = drawn (state_of w) i }
 
@@ -100,7 +98,7 @@ module _ (w : List ℕ) (i : ℕ) (old new list cells : List ℕ) (r : Drawn) (p
   last_rows = draw_rows w i (length old) (length list)
 
   -- with an index below P and room for the image's words and k more, and for k cells, it answers, and says how much it wrote
-  pub draw_comes : Drawable w i old list → (r.answer ≡ Done (length w + draw_size (state_of w))) × (r.cells ≡ draw_size (state_of w))
+  pub draw_comes : Drawable w i old list → r ≡ Ok (record { words = length w + draw_size (state_of w); cells = draw_size (state_of w) })
   unfolding draw_says all
   draw_comes q =
       let t = state_of w in
@@ -108,10 +106,8 @@ module _ (w : List ℕ) (i : ℕ) (old new list cells : List ℕ) (r : Drawn) (p
       let many = (fair_image w q.countable.formed).long i q.below in
       let last : none_hold last_rows ≡ true =
       rw (lt-ltb i (outcomes t) q.below, le-ltb (length old) (length (image_of (after_draw t i))) (omega (arith, q.room)), le-ltb (length list) (length (drawn t i)) (omega (arith, q.list_room))) in
-      let e = table_gives rows (gives drawing) (none_holds w last_rows q.countable last) in (
-        answer_one r.answer (Done (length w + draw_size t)) (p.answer ∙ ap (seen (λ (d : Draw). length (image_of d.next))) e ∙ ap gives long),
-        p.cells ∙ ap (beside (λ (d : Draw). length d.cells) 0) e ∙ many,
-      )
+      let e = table_gives rows (Ok drawing) (none_holds w last_rows q.countable last) in
+      p.answer ∙ ap (seen drawn_of) e ∙ (λ x. Ok (record { words = long x; cells = many x }))
 
   -- so what it wrote are the fronts of its two buffers
   pub draw_wrote : Drawable w i old list → DrawWrote w i (take (length w + draw_size (state_of w)) new) (take (draw_size (state_of w)) cells)
@@ -122,37 +118,37 @@ module _ (w : List ℕ) (i : ℕ) (old new list cells : List ℕ) (r : Drawn) (p
     cells = cells;
     answer = r;
     count = length w + draw_size (state_of w);
+    many = draw_size (state_of w);
     meets = p;
-    done = (draw_comes q).0;
+    done = draw_comes q;
     image_is = refl;
-    list_is = ap (λ (k : ℕ). take k cells) (sym (draw_comes q).1);
+    list_is = refl;
   }
 
   -- where it is answered, it was lawful, and the buffers hold the next image and the ordered list
-  pub draw_answers : (n : ℕ) → r.answer ≡ Done n → Answered w i old new list cells n r.cells
+  pub draw_answers : (n k : ℕ) → r ≡ Ok (record { words = n; cells = k }) → Answered w i old new list cells n k
   unfolding draw_says
-  draw_answers n done =
-      let f : Draw → ℕ = λ d. length (image_of d.next) in
+  draw_answers n k done =
       let t = state_of w in
-      let e : seen f (draw_says w i (length old) (length list)) ≡ gives n = sym p.answer ∙ ap says done in
-      let given = table_given rows (f drawing) n (sym (table_seen f rows drawing) ∙ e) in
+      let e : seen drawn_of (draw_says w i (length old) (length list)) ≡ Ok (record { words = n; cells = k }) = sym p.answer ∙ done in
+      let given = table_given rows (drawn_of drawing) (record { words = n; cells = k }) (sym (table_seen drawn_of rows drawing) ∙ e) in
       let none = given.0 in
-      let q : draw_says w i (length old) (length list) ≡ gives drawing = table_gives rows (gives drawing) none in
+      let q : draw_says w i (length old) (length list) ≡ Ok drawing = table_gives rows (Ok drawing) none in
       record {
         counted = countable w last_rows none;
         below = ltb-true i (outcomes t) (not-false (ltb i (outcomes t)) (later_row w last_rows none 2));
         words = p.words ∙ ap (lent (λ (d : Draw). image_of d.next) old) q;
         drawn_list = p.list ∙ ap (lent (λ (d : Draw). d.cells) list) q;
-        long = sym given.1;
-        many = p.cells ∙ ap (beside (λ (d : Draw). length d.cells) 0) q;
+        long = ap (λ (d : Drawn). d.words) (sym given.1);
+        many = ap (λ (d : Drawn). d.cells) (sym given.1);
       }
 
 front_is : (s old new : List ℕ) (n : ℕ) → new ≡ over_front s old → n ≡ length s → take n new ≡ s
 front_is s old new n e q = rw (q, e) (over_take s old)
 
 module _ (w : List ℕ) (i : ℕ) (image list : List ℕ) (d : DrawWrote w i image list) where
-  answered : Answered w i d.old d.new d.lent_list d.cells d.count d.answer.cells
-  answered = draw_answers w i d.old d.new d.lent_list d.cells d.answer d.meets d.count d.done
+  answered : Answered w i d.old d.new d.lent_list d.cells d.count d.many
+  answered = draw_answers w i d.old d.new d.lent_list d.cells d.answer d.meets d.count d.many d.done
 
   written_fair : Fair (state_of w)
   written_fair = fair_image w answered.counted.formed
@@ -162,7 +158,7 @@ module _ (w : List ℕ) (i : ℕ) (image list : List ℕ) (d : DrawWrote w i ima
   written_image = d.image_is ∙ front_is (image_of (after_draw (state_of w) i)) d.old d.new d.count answered.words answered.long
 
   pub written_list : list ≡ drawn (state_of w) i
-  written_list = d.list_is ∙ front_is (drawn (state_of w) i) d.lent_list d.cells d.answer.cells answered.drawn_list answered.many
+  written_list = d.list_is ∙ front_is (drawn (state_of w) i) d.lent_list d.cells d.many answered.drawn_list answered.many
 
   pub written_state : state_of image ≡ after_draw (state_of w) i
   written_state = ap state_of written_image ∙ state_back (after_draw (state_of w) i)
@@ -181,25 +177,25 @@ module _ (w : List ℕ) (i : ℕ) (image list : List ℕ) (d : DrawWrote w i ima
 -- ---- draw and rank undo each other, of the words that the calls wrote
 
 module _ (w l : List ℕ) where
-  ranks_as : Countable w → can_rank (state_of w) l ≡ true → (r : Number) → Ranks w l r → r ≡ Value (rank_of (state_of w) l)
+  ranks_as : Countable w → can_rank (state_of w) l ≡ true → (r : Says ℕ) → Ranks w l r → r ≡ Ok (rank_of (state_of w) l)
   unfolding rank_says all
   ranks_as q h r c =
       let k = rank_of (state_of w) l in
-      number_one r (Value k) (c.answer ∙ table_gives (rank_order w l) (gives k) (none_holds w (rank_rows w l) q (rw h)))
+      (c.answer ∙ table_gives (rank_order w l) (Ok k) (none_holds w (rank_rows w l) q (rw h)))
 
 module _ (w : List ℕ) (i : ℕ) (image list : List ℕ) (d : DrawWrote w i image list) where
   list_rank : rank_of (state_of w) list ≡ i
   list_rank = ap (rank_of (state_of w)) (written_list w i image list d) ∙ (written_fair w i image list d).back i (written_below w i image list d)
 
   -- ranking the list that a draw wrote answers the index drawn
-  pub rank_back : (r : Number) → Ranks w list r → r ≡ Value i
-  rank_back r c = ranks_as w list (answered w i image list d).counted (list_fair w i image list d).3 r c ∙ ap Value list_rank
+  pub rank_back : (r : Says ℕ) → Ranks w list r → r ≡ Ok i
+  rank_back r c = ranks_as w list (answered w i image list d).counted (list_fair w i image list d).3 r c ∙ ap Ok list_rank
 
 -- two indices that list the same cells in the same order are one
 pub list_one : (w : List ℕ) (i j : ℕ) (image other list : List ℕ) → DrawWrote w i image list → DrawWrote w j other list → i ≡ j
 list_one w i j image other list d e = sym (list_rank w i image list d) ∙ list_rank w j other list e
 
-module _ (w l : List ℕ) (i : ℕ) (c : Ranks w l (Value i)) where
+module _ (w l : List ℕ) (i : ℕ) (c : Ranks w l (Ok i)) where
   none_held : (none_hold (rank_order w l) ≡ true) × (rank_of (state_of w) l ≡ i)
   unfolding rank_says
   none_held = table_given (rank_order w l) (rank_of (state_of w) l) i (sym c.answer)
@@ -215,17 +211,17 @@ module _ (w l : List ℕ) (i : ℕ) (c : Ranks w l (Value i)) where
   list_forth image list d = written_list w i image list d ∙ ap (drawn (state_of w)) (sym none_held.1) ∙ (fair_image w ranked.formed).forth l can_rank_lem
 
   -- and with room such a draw is answered, and writes that list
-  pub rank_forth : (old new list cells : List ℕ) (r : Drawn) → Draws w i old new list cells r → length w + length l ≤ length old → length l ≤ length list
-      → (r.answer ≡ Done (length w + length l)) × (r.cells ≡ length l) × (take (length l) cells ≡ l)
+  pub rank_forth : (old new list cells : List ℕ) (r : Says Drawn) → Draws w i old new list cells r → length w + length l ≤ length old → length l ≤ length list
+      → (r ≡ Ok (record { words = length w + length l; cells = length l })) × (take (length l) cells ≡ l)
   rank_forth old new list cells r p room list_room =
       let f = fair_image w ranked.formed in
       let k : length l ≡ draw_size (state_of w) = sym (ap length (f.forth l can_rank_lem)) ∙ f.long (rank_of (state_of w) l) (f.ranks l can_rank_lem) in
       let q : Drawable w i old list = record { countable = ranked; below = rw none_held.1 at (f.ranks l can_rank_lem); room = omega arith; list_room = omega arith } in
       let d = draw_comes w i old new list cells r p q in
-      rw k (d.0, d.1, list_forth _ _ (draw_wrote w i old new list cells r p q))
+      rw k (d, list_forth _ _ (draw_wrote w i old new list cells r p q))
 
 -- each list of k different free cells ranks as one index below P: what a draw of it lists is that list, and no other index's draw lists it
-pub rank_answers : (w l : List ℕ) → Countable w → can_rank (state_of w) l ≡ true → (r : Number) → Ranks w l r → RanksAsOne w l r
+pub rank_answers : (w l : List ℕ) → Countable w → can_rank (state_of w) l ≡ true → (r : Says ℕ) → Ranks w l r → RanksAsOne w l r
 rank_answers w l q h r c =
     let e = ranks_as w l q h r c in
     record {
@@ -290,7 +286,7 @@ birth_countable w ok due b =
     record { formed = ok; due = due; fits = le_trans (birth_few t b) (omega (arith, free_short t, s.area_max)) }
 
 -- as it is with room, and one of the chain where the next image is what it wrote
-pub chain_draw : (image : ℕ → List ℕ) (index : ℕ → ℕ) (j : ℕ) (old new list cells : List ℕ) (r : Drawn) → Draws (image j) (index j) old new list cells r
+pub chain_draw : (image : ℕ → List ℕ) (index : ℕ → ℕ) (j : ℕ) (old new list cells : List ℕ) (r : Says Drawn) → Draws (image j) (index j) old new list cells r
     → Drawable (image j) (index j) old list → image (suc j) ≡ take (length (image j) + draw_size (state_of (image j))) new → Drawing image index j
 chain_draw image index j old new list cells r p q e =
     let k = draw_size (state_of (image j)) in

@@ -1,4 +1,5 @@
 -- What is wrong with an image: no row holds exactly where it is well-formed, and what its rows say before any other. Assumes nothing.
+use Rattle.std.specs.Prelude.{Err}
 use Prim.Native.Nat.{ℕ}
 use mathlib.Core.Path.{◌≡◌, refl, sym, ap, ◌∙◌}
 use mathlib.Core.Bool.{Bool, true, false, not, ◌&&◌, ◌||◌, and-false}
@@ -13,10 +14,10 @@ use Rattle.lists.proofs.Lists.{all_append}
 use Rattle.rules.specs.Tables.{Table, none_hold}
 use Rattle.rules.specs.Image.{front, snakes_in, between, long_enough, contents_fit, ranges_fit, starts_fit, total_fits, cells_fit, bodies_fit, food_fits, well_formed}
 use Rattle.rules.specs.Faults.{cut_short, image_rows}
-use Rattle.rules.specs.Says.{Says, refuses, by_table}
+use Rattle.rules.specs.Says.{Says, by_table}
 use Rattle.rules.specs.Calls.{image_says}
 use Rattle.rules.specs.Promises.{Faulty}
-use Rattle.rules.specs.declared.Refusal.{Refusal}
+use Rattle.rules.specs.declared.refusal.Refusal.{Refusal}
 use Rattle.rules.proofs.Tables.{table_gives, table_after}
 
 not_not : (b : Bool) → not (not b) ≡ b
@@ -60,7 +61,7 @@ module _ {A : Type 0} (w : List ℕ) (t : Table) (r : Says A) where
   image_on e = table_after (image_rows w) t r ∙ rw (table_gives (image_rows w) _ (no_fault w ∙ e))
 
   -- the fault that was found, of any other
-  pub image_out : well_formed w ≡ false → (x : Refusal) → Faulty w x → refuses x ≡ by_table (image_rows w ++ t) r
+  pub image_out : well_formed w ≡ false → (x : Refusal) → Faulty w x → Err x ≡ by_table (image_rows w ++ t) r
   unfolding image_says
   image_out e x f = sym (table_after (image_rows w) t r ∙ rw (← (f.answer e)))
 
@@ -69,7 +70,7 @@ module _ {A : Type 0} (w : List ℕ) (r : Says A) where
   pub image_given : well_formed w ≡ true → by_table (image_rows w) r ≡ r
   image_given e = table_gives (image_rows w) r (no_fault w ∙ e)
 
-  pub image_refused : well_formed w ≡ false → (x : Refusal) → Faulty w x → refuses x ≡ by_table (image_rows w) r
+  pub image_refused : well_formed w ≡ false → (x : Refusal) → Faulty w x → Err x ≡ by_table (image_rows w) r
   unfolding image_says
   image_refused e x f = sym (ap (λ (l : Table). by_table l r) (sym (append-nil (image_rows w))) ∙ sym (image_out w [] r e x f))
 

@@ -19,14 +19,16 @@ use Rattle.lists.proofs.Below.{some_never, concat_long, sum_ext}
 use Rattle.rules.specs.Grid.{inside, cell_of}
 use Rattle.rules.specs.Placement.{start_place, tracing, even, placed}
 use Rattle.rules.specs.Setting.{bad_cell, all_placed, some_short}
-use Rattle.rules.specs.SettingParts.{place_check, cells_of}
+use Rattle.rules.specs.SettingParts.{place_says, cells_of}
 use Rattle.rules.specs.declared.Place.{Place}
 use Rattle.rules.proofs.Facts.{square_le}
 use Rattle.rules.proofs.Grid.{cell_below}
 use Rattle.rules.proofs.Placement.{traced_short, traced_inside, traced_reach}
 use Rattle.rules.proofs.Starts.{start_inside}
 use Rattle.rules.proofs.Taken.{bad_repeats}
-use Rattle.rules.specs.Tables.{fault}
+use Rattle.std.specs.Prelude.{Ok, Err}
+use Rattle.rules.specs.Says.{Says, by_table}
+use Rattle.rules.specs.declared.refusal.Refusal.TheVariants as Refusal
 
 -- the cells of places inside are below the area
 cells_below : (g : ℕ) (ps : List Place) → 1 ≤ g → all (inside (pos g)) ps ≡ true → (j : ℕ) → get_or (map (cell_of g) ps) j 0 < g * g
@@ -35,8 +37,8 @@ cells_below g [] h k j = mul-pos h h
 cells_below g (p ∷ ps) h k zero = cell_below g p (and_left (inside (pos g) p) (all (inside (pos g)) ps) k)
 cells_below g (p ∷ ps) h k (suc j) = cells_below g ps h (and_right (inside (pos g) p) (all (inside (pos g)) ps) k) j
 
-chosen : (t b : Bool) (v : ℕ) (r : ℕ) → v ≡ (0 if b else 11)
-    → (9 if t else 10 if eqb v 10 else 11 if eqb v 11 else r) ≡ (9 if t else 11 if not b else r)
+chosen : (t b : Bool) (v : ℕ) (r : Says (Unit {0})) → v ≡ (0 if b else 11)
+    → (Err Refusal.Untraceable if t else Err Refusal.CellOutside if eqb v 10 else Err Refusal.CellTaken if eqb v 11 else r) ≡ (Err Refusal.Untraceable if t else Err Refusal.CellTaken if not b else r)
 chosen true b v r e = refl
 chosen false true v r e = rw e
 chosen false false v r e = rw e
@@ -67,9 +69,10 @@ module _ (g n k : ℕ) (side : 3 ≤ g) (small : g ≤ 32) (some : 1 ≤ k) wher
   pub cells_under : Under 1024 (concat_below n (cells_of g n k))
   cells_under j = rw (← all_cells) (omega (arith, cells_below g (all_placed (pos g) n k) (omega arith) all_inside j, square_le g small))
 
-  pub check_cells : (f : ℕ) → place_check (pos g) n k f
-      ≡ (9 if some_short (pos g) n k else 11 if not (distinct (concat_below n (cells_of g n k))) else 12 if ltb (g * g - length (all_placed (pos g) n k)) f else 0)
-  unfolding place_check fault
+  pub check_cells : (f : ℕ) → place_says (pos g) n k f
+      ≡ (Err Refusal.Untraceable if some_short (pos g) n k else Err Refusal.CellTaken if not (distinct (concat_below n (cells_of g n k))) else
+      Err Refusal.FoodFree if ltb (g * g - length (all_placed (pos g) n k)) f else Ok tt)
+  unfolding place_says by_table
   check_cells f =
       chosen (some_short (pos g) n k) (distinct (concat_below n (cells_of g n k))) (bad_cell (pos g) [] (all_placed (pos g) n k)) _
       (bad_repeats g (all_placed (pos g) n k) all_inside ∙ ap (λ (l : List ℕ). 0 if distinct l else 11) all_cells)

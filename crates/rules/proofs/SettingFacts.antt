@@ -1,4 +1,5 @@
 -- An accepted setting has the facts of its tests; no grid below 3 is accepted. Assumes nothing.
+use Rattle.std.specs.Prelude.{Option, Some, Ok, Err}
 use Prim.Native.Nat.{ℕ, zero, suc, ◌+◌, ◌*◌, ◌-◌, ◌≤◌}
 use native.Mathlib.Nat.{suc-ne-zero, le_refl, le_trans, mul-le-mul}
 use native.Mathlib.Omega.{arith}
@@ -19,25 +20,29 @@ use Rattle.lists.proofs.Pigeonhole.{cells_short}
 use Rattle.rules.specs.Grid.{inside, cell_of}
 use Rattle.rules.specs.Placement.{placed}
 use Rattle.rules.specs.Setting.{is_set, is_zero, side_of, setting_check, all_placed, some_short}
-use Rattle.rules.specs.SettingParts.{Limited, place_check, cells_of}
+use Rattle.rules.specs.SettingParts.{Limited, place_says, cells_of}
 use Rattle.rules.specs.SettingFacts.{Accepts}
 use Rattle.rules.specs.declared.Place.{Place}
 use Rattle.rules.specs.declared.Setting.{Setting}
-use Rattle.rules.specs.declared.Limit.{Limit}
-use Rattle.rules.specs.declared.Limit.TheVariants.{Is}
 use Rattle.rules.proofs.Grid.{cell_below}
-use Rattle.rules.proofs.SettingParts.{limits_none, places_none, limited, lead_some, lead_two_or, worst_most}
+use Rattle.rules.specs.Says.{Says}
+use Rattle.rules.specs.Calls.{setting_says}
+use Rattle.rules.specs.declared.refusal.Refusal.TheVariants as Refusal
+use Rattle.rules.proofs.SettingParts.{accepted_says, limits_none, places_none, limited, lead_some, lead_two_or, worst_most}
 use Rattle.rules.proofs.Starts.{grid_two, grid_side, side_three, side_small}
 use Rattle.rules.proofs.SmallGrids.{small_two, small_less}
 use Rattle.rules.proofs.PlaceCheck.{all_inside, all_cells, check_cells, body_long, all_long}
 
 -- ---- no small grid
 
-pub nine_or_ten : (b : Bool) → ◌≡◌ {A = ℕ} (9 if b else 10) 0 → ⊥
-nine_or_ten true e = suc-ne-zero 8 e
-nine_or_ten false e = suc-ne-zero 9 e
+abbrev Apart : Type 0
+Apart = ◌≡◌ {A = ℕ} 0 1
 
-wide : (g : ℤ) (n k f : ℕ) → 2 ≤ n → n ≤ 8 → 1 ≤ k → place_check g n k f ≡ 0 → lt_z g (pos 3) ≡ false
+pub nine_or_ten : (b : Bool) → ◌≡◌ {A = Says (Unit {0})} (Err Refusal.Untraceable if b else Err Refusal.CellOutside) (Ok tt) → ⊥
+nine_or_ten true e = let z : Apart = cc in omega arith
+nine_or_ten false e = let z : Apart = cc in omega arith
+
+wide : (g : ℤ) (n k f : ℕ) → 2 ≤ n → n ≤ 8 → 1 ≤ k → place_says g n k f ≡ Ok tt → lt_z g (pos 3) ≡ false
 wide g n k f a b c e = elim (tell (lt_z g (pos 2))) [
   | inl t ↦ absurd (nine_or_ten (ltb 1 k) (sym (small_less n f a b g k c t) ∙ e))
   | inr h ↦ elim (tell (lt_z g (pos 3))) [
@@ -53,10 +58,10 @@ record Fine (a b c : Bool) : Type 0 where
   eleven : b ≡ true
   twelve : c ≡ false
 
-fine : (a b c : Bool) → ◌≡◌ {A = ℕ} (9 if a else 11 if not b else 12 if c else 0) 0 → Fine a b c
-fine true b c e = absurd (suc-ne-zero 8 e)
-fine false false c e = absurd (suc-ne-zero 10 e)
-fine false true true e = absurd (suc-ne-zero 11 e)
+fine : (a b c : Bool) → ◌≡◌ {A = Says (Unit {0})} (Err Refusal.Untraceable if a else Err Refusal.CellTaken if not b else Err Refusal.FoodFree if c else Ok tt) (Ok tt) → Fine a b c
+fine true b c e = let z : Apart = cc in absurd (omega arith)
+fine false false c e = let z : Apart = cc in absurd (omega arith)
+fine false true true e = let z : Apart = cc in absurd (omega arith)
 fine false true false e = record { nine = refl; eleven = refl; twelve = refl }
 
 -- cells of places inside
@@ -69,14 +74,14 @@ cells_all g (p ∷ ps) k =
 
 -- ---- the lead
 
-some_lead : (l : Limit) (k : ℕ) → is_zero l ≡ false → l ≡ Is k → 1 ≤ k
+some_lead : (l : Option ℕ) (k : ℕ) → is_zero l ≡ false → l ≡ Some k → 1 ≤ k
 some_lead l zero h e = absurd (true≢false (sym (ap is_zero e) ∙ h))
 some_lead l (suc k) h e = omega arith
 
-two_lead : (l : Limit) (k n : ℕ) → (is_set l && not (eqb n 2)) ≡ false → l ≡ Is k → n ≡ 2
-two_lead l k n h e = eqb-true n 2 (not-false (eqb n 2) (sym (ap (λ (m : Limit). is_set m && not (eqb n 2)) e) ∙ h))
+two_lead : (l : Option ℕ) (k n : ℕ) → (is_set l && not (eqb n 2)) ≡ false → l ≡ Some k → n ≡ 2
+two_lead l k n h e = eqb-true n 2 (not-false (eqb n 2) (sym (ap (λ (m : Option ℕ). is_set m && not (eqb n 2)) e) ∙ h))
 
-module _ (g n k f : ℕ) (side : 3 ≤ g) (small : g ≤ 32) (some : 1 ≤ k) (e : place_check (pos g) n k f ≡ 0) where
+module _ (g n k f : ℕ) (side : 3 ≤ g) (small : g ≤ 32) (some : 1 ≤ k) (e : place_says (pos g) n k f ≡ Ok tt) where
   held : Fine (some_short (pos g) n k) (distinct (concat_below n (cells_of g n k))) (ltb (g * g - length (all_placed (pos g) n k)) f)
   held = fine (some_short (pos g) n k) (distinct (concat_below n (cells_of g n k))) (ltb (g * g - length (all_placed (pos g) n k)) f) (sym (check_cells g n k side small some f) ∙ e)
 
@@ -95,11 +100,14 @@ module _ (g n k f : ℕ) (side : 3 ≤ g) (small : g ≤ 32) (some : 1 ≤ k) (e
   food_most = omega (arith, ltb-false (g * g - length (all_placed (pos g) n k)) f held.twelve, total_is, total_most)
 
 module _ (s : Setting) (e : setting_check s ≡ 0) where
+  says : setting_says s ≡ Ok tt
+  says = accepted_says s e
+
   limits_hold : Limited s
-  limits_hold = limited s (limits_none s e)
+  limits_hold = limited s (limits_none s says)
 
   three : lt_z s.grid_size (pos 3) ≡ false
-  three = wide s.grid_size s.num_snakes s.initial_length s.initial_food_count limits_hold.snakes_min limits_hold.snakes_max limits_hold.size_min (places_none s e)
+  three = wide s.grid_size s.num_snakes s.initial_length s.initial_food_count limits_hold.snakes_min limits_hold.snakes_max limits_hold.size_min (places_none s says)
 
   is_side : s.grid_size ≡ pos (side_of s.grid_size)
   is_side = grid_side s.grid_size three
@@ -110,8 +118,8 @@ module _ (s : Setting) (e : setting_check s ≡ 0) where
   high : side_of s.grid_size ≤ 32
   high = side_small s.grid_size limits_hold.grid_max
 
-  checked : place_check (pos (side_of s.grid_size)) s.num_snakes s.initial_length s.initial_food_count ≡ 0
-  checked = ap (λ (g : ℤ). place_check g s.num_snakes s.initial_length s.initial_food_count) (sym is_side) ∙ places_none s e
+  checked : place_says (pos (side_of s.grid_size)) s.num_snakes s.initial_length s.initial_food_count ≡ Ok tt
+  checked = ap (λ (g : ℤ). place_says g s.num_snakes s.initial_length s.initial_food_count) (sym is_side) ∙ places_none s says
 
   pub accepts : Accepts s
   accepts =
@@ -130,9 +138,9 @@ module _ (s : Setting) (e : setting_check s ≡ 0) where
         grid_is = is_side;
         side_min = low;
         side_max = high;
-        lead_min = λ j q. some_lead s.win_food_lead j (lead_some s (limits_none s e)) q;
-        lead_two = λ j q. two_lead s.win_food_lead j n (lead_two_or s (limits_none s e)) q;
-        worst_max = worst_most s (limits_none s e);
+        lead_min = λ j q. some_lead s.win_food_lead j (lead_some s (limits_none s says)) q;
+        lead_two = λ j q. two_lead s.win_food_lead j n (lead_two_or s (limits_none s says)) q;
+        worst_max = worst_most s (limits_none s says);
         long = λ i l. ap (λ (z : ℤ). length (placed z n k i)) is_side ∙ body_long g n k low high o h.nine i l;
         within = ap (λ (z : ℤ). all (inside z) (all_placed z n k)) is_side ∙ all_inside g n k low high o;
         apart = h.eleven;

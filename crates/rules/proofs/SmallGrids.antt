@@ -16,15 +16,17 @@ use Rattle.lists.proofs.Below.{some_found, some_false, concat_split, concat_next
 use Rattle.rules.specs.Grid.{within, inside, ahead}
 use Rattle.rules.specs.Placement.{start_place, even, unblocked, trail, tracing, placed}
 use Rattle.rules.specs.Setting.{bad_cell, all_placed, some_short}
-use Rattle.rules.specs.SettingParts.{place_check}
+use Rattle.rules.specs.SettingParts.{place_says}
 use Rattle.rules.specs.declared.Place.{Place}
 use Rattle.rules.specs.declared.Heading.{Heading}
 use Rattle.rules.proofs.Placement.{none_left, shut_first, trail_shut}
-use Rattle.rules.specs.Tables.{fault}
+use Rattle.std.specs.Prelude.{Ok, Err}
+use Rattle.rules.specs.Says.{Says, by_table}
+use Rattle.rules.specs.declared.refusal.Refusal.TheVariants as Refusal
 
 -- 9 by a body that is short
-short_nine : (g : ℤ) (n k f i : ℕ) → i < n → length (placed g n k i) < k → place_check g n k f ≡ 9
-unfolding place_check fault
+short_nine : (g : ℤ) (n k f i : ℕ) → i < n → length (placed g n k i) < k → place_says g n k f ≡ Err Refusal.Untraceable
+unfolding place_says by_table
 short_nine g n k f i h l = rw (some_found (λ i. ltb (length (placed g n k i)) k) n i h (lt-ltb (length (placed g n k i)) k l))
 
 -- ---- a grid without a cell
@@ -56,11 +58,11 @@ module _ (g : ℤ) (n : ℕ) (none : (x : ℤ) → within g x ≡ false) where
   none_short : some_short g n 1 ≡ false
   none_short = some_false (λ i. ltb (length (placed g n 1 i)) 1) n (λ i h. rw (alone 1 i))
 
-  pub empty_ten : (f : ℕ) → 1 ≤ n → place_check g n 1 f ≡ 10
-  unfolding place_check fault
+  pub empty_ten : (f : ℕ) → 1 ≤ n → place_says g n 1 f ≡ Err Refusal.CellOutside
+  unfolding place_says by_table
   empty_ten f h = rw (none_short, head_off h)
 
-  pub empty_nine : (k f : ℕ) → 1 ≤ n → 1 < k → place_check g n k f ≡ 9
+  pub empty_nine : (k f : ℕ) → 1 ≤ n → 1 < k → place_says g n k f ≡ Err Refusal.Untraceable
   empty_nine k f h l = short_nine g n k f 0 h (rw (alone k 0) l)
 
 below_zero : (m : ℕ) (x : ℤ) → within (negsuc m) x ≡ false
@@ -85,9 +87,9 @@ few P a b c d e f g (suc (suc (suc (suc (suc (suc (suc zero))))))) h k = f
 few P a b c d e f g (suc (suc (suc (suc (suc (suc (suc (suc zero)))))))) h k = g
 few P a b c d e f g (suc (suc (suc (suc (suc (suc (suc (suc (suc n))))))))) h k = absurd (omega arith)
 
-one_ten : (f n : ℕ) → 2 ≤ n → n ≤ 8 → place_check (pos 1) n 1 f ≡ 10
-unfolding place_check some_below concat_below placed trail unblocked bad_cell any fault
-one_ten f = few (λ n. place_check (pos 1) n 1 f ≡ 10) refl refl refl refl refl refl refl
+one_ten : (f n : ℕ) → 2 ≤ n → n ≤ 8 → place_says (pos 1) n 1 f ≡ Err Refusal.CellOutside
+unfolding place_says some_below concat_below placed trail unblocked bad_cell any by_table
+one_ten f = few (λ n. place_says (pos 1) n 1 f ≡ Err Refusal.CellOutside) refl refl refl refl refl refl refl
 
 -- a body of suc k places
 abbrev body_to : ℤ → ℕ → ℕ → ℕ → List Place
@@ -101,31 +103,31 @@ one_short : (m n : ℕ) → 2 ≤ n → n ≤ 8 → length (body_to (pos 1) n (s
 unfolding trail unblocked
 one_short m = few (λ n. length (body_to (pos 1) n (suc m) 0) ≡ 1) refl refl refl refl refl refl refl
 
-two_ten_1 : (f n : ℕ) → 2 ≤ n → n ≤ 8 → place_check (pos 2) n 1 f ≡ 10
-unfolding place_check some_below concat_below placed trail unblocked bad_cell any fault
-two_ten_1 f = few (λ n. place_check (pos 2) n 1 f ≡ 10) refl refl refl refl refl refl refl
+two_ten_1 : (f n : ℕ) → 2 ≤ n → n ≤ 8 → place_says (pos 2) n 1 f ≡ Err Refusal.CellOutside
+unfolding place_says some_below concat_below placed trail unblocked bad_cell any by_table
+two_ten_1 f = few (λ n. place_says (pos 2) n 1 f ≡ Err Refusal.CellOutside) refl refl refl refl refl refl refl
 
-two_ten_2 : (f n : ℕ) → 2 ≤ n → n ≤ 8 → place_check (pos 2) n 2 f ≡ 10
-unfolding place_check some_below concat_below placed trail unblocked bad_cell any fault
-two_ten_2 f = few (λ n. place_check (pos 2) n 2 f ≡ 10) refl refl refl refl refl refl refl
+two_ten_2 : (f n : ℕ) → 2 ≤ n → n ≤ 8 → place_says (pos 2) n 2 f ≡ Err Refusal.CellOutside
+unfolding place_says some_below concat_below placed trail unblocked bad_cell any by_table
+two_ten_2 f = few (λ n. place_says (pos 2) n 2 f ≡ Err Refusal.CellOutside) refl refl refl refl refl refl refl
 
-two_ten_3 : (f n : ℕ) → 2 ≤ n → n ≤ 8 → place_check (pos 2) n 3 f ≡ 10
-unfolding place_check some_below concat_below placed trail unblocked bad_cell any fault
-two_ten_3 f = few (λ n. place_check (pos 2) n 3 f ≡ 10) refl refl refl refl refl refl refl
+two_ten_3 : (f n : ℕ) → 2 ≤ n → n ≤ 8 → place_says (pos 2) n 3 f ≡ Err Refusal.CellOutside
+unfolding place_says some_below concat_below placed trail unblocked bad_cell any by_table
+two_ten_3 f = few (λ n. place_says (pos 2) n 3 f ≡ Err Refusal.CellOutside) refl refl refl refl refl refl refl
 
 two_short : (m n : ℕ) → 2 ≤ n → n ≤ 8 → length (body_to (pos 2) n (suc (suc (suc m))) (n - 1)) ≡ 3
 unfolding trail unblocked
 two_short m = few (λ n. length (body_to (pos 2) n (suc (suc (suc m))) (n - 1)) ≡ 3) refl refl refl refl refl refl refl
 
 module _ (n f : ℕ) (low : 2 ≤ n) (high : n ≤ 8) where
-  one : (k : ℕ) → 1 ≤ k → place_check (pos 1) n k f ≡ (9 if ltb 1 k else 10)
+  one : (k : ℕ) → 1 ≤ k → place_says (pos 1) n k f ≡ (Err Refusal.Untraceable if ltb 1 k else Err Refusal.CellOutside)
   one zero h = absurd (omega arith)
   one (suc zero) h = one_ten f n low high
   one (suc (suc m)) h =
       rw (lt-ltb 1 (suc (suc m)) (omega arith))
       (short_nine (pos 1) n (suc (suc m)) f 0 (omega arith) (rw (body_to_lem (pos 1) n (suc m) 0, one_short m n low high) (omega arith)))
 
-  two : (k : ℕ) → 1 ≤ k → place_check (pos 2) n k f ≡ (9 if ltb 3 k else 10)
+  two : (k : ℕ) → 1 ≤ k → place_says (pos 2) n k f ≡ (Err Refusal.Untraceable if ltb 3 k else Err Refusal.CellOutside)
   two zero h = absurd (omega arith)
   two (suc zero) h = two_ten_1 f n low high
   two (suc (suc zero)) h = two_ten_2 f n low high
@@ -134,16 +136,16 @@ module _ (n f : ℕ) (low : 2 ≤ n) (high : n ≤ 8) where
       rw (lt-ltb 3 (suc (suc (suc (suc m)))) (omega arith))
       (short_nine (pos 2) n (suc (suc (suc (suc m)))) f (n - 1) (omega arith) (rw (body_to_lem (pos 2) n (suc (suc (suc m))) (n - 1), two_short m n low high) (omega arith)))
 
-  empty : (g : ℤ) → ((x : ℤ) → within g x ≡ false) → (k : ℕ) → 1 ≤ k → place_check g n k f ≡ (9 if ltb 1 k else 10)
+  empty : (g : ℤ) → ((x : ℤ) → within g x ≡ false) → (k : ℕ) → 1 ≤ k → place_says g n k f ≡ (Err Refusal.Untraceable if ltb 1 k else Err Refusal.CellOutside)
   empty g off zero h = absurd (omega arith)
   empty g off (suc zero) h = empty_ten g n off f (omega arith)
   empty g off (suc (suc m)) h = rw (lt-ltb 1 (suc (suc m)) (omega arith)) (empty_nine g n off (suc (suc m)) f (omega arith) (omega arith))
 
   -- a grid of 2 traces bodies of 3, and a smaller one bodies of 1
-  pub small_two : (g : ℤ) (k : ℕ) → 1 ≤ k → g ≡ pos 2 → place_check g n k f ≡ (9 if ltb 3 k else 10)
+  pub small_two : (g : ℤ) (k : ℕ) → 1 ≤ k → g ≡ pos 2 → place_says g n k f ≡ (Err Refusal.Untraceable if ltb 3 k else Err Refusal.CellOutside)
   small_two g k h e = rw e (two k h)
 
-  pub small_less : (g : ℤ) (k : ℕ) → 1 ≤ k → lt_z g (pos 2) ≡ true → place_check g n k f ≡ (9 if ltb 1 k else 10)
+  pub small_less : (g : ℤ) (k : ℕ) → 1 ≤ k → lt_z g (pos 2) ≡ true → place_says g n k f ≡ (Err Refusal.Untraceable if ltb 1 k else Err Refusal.CellOutside)
   small_less (pos zero) k h l = empty (pos 0) at_zero k h
   small_less (pos (suc zero)) k h l = one k h
   small_less (pos (suc (suc g))) k h l = absurd (not_below g (ltb-true (suc (suc g)) 2 l))

@@ -1,4 +1,5 @@
 -- What a step never does: let a corpse decide a fate, or let a casualty lose to nobody. Assumes nothing.
+use Rattle.std.specs.Prelude.{Option, Some, None}
 use Prim.Native.Nat.{ℕ, ◌<◌}
 use native.Mathlib.Omega.{arith}
 use mathlib.Core.Path.{◌≡◌, refl, sym, ap, ap₂, ◌∙◌}
@@ -18,10 +19,8 @@ use Rattle.rules.specs.State.{Snake, State, nobody, count, snake_of}
 use Rattle.rules.specs.Events.{dies, blank}
 use Rattle.rules.specs.Step.{Moved, another, on_body, cause_of, after, alive, leads, lost_by, transition_of, stepped}
 use Rattle.rules.specs.declared.Cause.{Cause}
-use Rattle.rules.specs.declared.Cause.TheVariants.{NoCause, Wall, SelfBody, OppBody, HeadOn}
+use Rattle.rules.specs.declared.Cause.TheVariants.{Wall, SelfBody, OppBody, HeadOn}
 use Rattle.rules.specs.declared.Event.{Event}
-use Rattle.rules.specs.declared.Limit.{Limit}
-use Rattle.rules.specs.declared.Limit.TheVariants.{Unset, Is}
 use Rattle.rules.specs.declared.Setting.{Setting}
 
 -- ---- two worlds with the same living snakes: a corpse's body changes no one's fate
@@ -48,21 +47,21 @@ module _ (g n : ℕ) (m k : ℕ → Moved) (moves : (j : ℕ) → (m j).moves �
       let bodies = others i (on_body g n m (m i).head) (on_body g n k (k i).head)
       (λ j l. ap₂ (λ (a b : Moved). same a.head b.head || member (cell_of g a.head) b.rest) e (agree j l)) in
       λ r.
-      NoCause if not (moves i r) else
-      HeadOn if heads r else
-      Wall if not (inside (pos g) (e r).head) else
-      SelfBody if member (cell_of g (e r).head) (e r).rest else
-      OppBody if bodies r else
-      NoCause)
+      None if not (moves i r) else
+      (Some HeadOn) if heads r else
+      (Some Wall) if not (inside (pos g) (e r).head) else
+      (Some SelfBody) if member (cell_of g (e r).head) (e r).rest else
+      (Some OppBody) if bodies r else
+      None)
       (λ f. let b : (k i).moves ≡ false = sym (moves i) ∙ f in rw (f, b))
       (tell (m i).moves)
 
 -- ---- a casualty that lost has someone alive after the step
 
-module _ (n : ℕ) (c : ℕ → Cause) (z : ℕ → Snake) (none : alive n c z ≡ 0) where
-  nobody_leads : (l : Limit) (i j : ℕ) → leads n c z l i j ≡ false
-  nobody_leads Unset i j = refl
-  nobody_leads (Is k) i j = rw none
+module _ (n : ℕ) (c : ℕ → Option Cause) (z : ℕ → Snake) (none : alive n c z ≡ 0) where
+  nobody_leads : (l : Option ℕ) (i j : ℕ) → leads n c z l i j ≡ false
+  nobody_leads None i j = refl
+  nobody_leads (Some k) i j = rw none
 
   nobody_lost : (s : Setting) (i : ℕ) → lost_by n c z s i ≡ false
   nobody_lost s i = rw (some_false (λ j. leads n c z s.win_food_lead j i) n (λ j _. nobody_leads s.win_food_lead j i), none) (neither (dies (c i)))
@@ -71,7 +70,7 @@ module _ (n : ℕ) (c : ℕ → Cause) (z : ℕ → Snake) (none : alive n c z �
       neither true = refl
       neither false = refl
 
-pub lost_by_someone : (n : ℕ) (c : ℕ → Cause) (z : ℕ → Snake) (s : Setting) (i : ℕ) → lost_by n c z s i ≡ true → 0 < alive n c z
+pub lost_by_someone : (n : ℕ) (c : ℕ → Option Cause) (z : ℕ → Snake) (s : Setting) (i : ℕ) → lost_by n c z s i ≡ true → 0 < alive n c z
 lost_by_someone n c z s i t = elim (ordered 0 (alive n c z)) [
   | less h e ↦ h
   | more h e ↦ absurd (false≢true (sym (nobody_lost n c z (omega arith) s i) ∙ t))
@@ -82,7 +81,7 @@ module _ (s : Setting) (g n : ℕ) (food : List ℕ) (m : ℕ → Moved) (i : �
   lost_in : (get_or (transition_of s g n food m).events i blank).lost ≡ true → 0 < count_below n (λ j. (snake_of (transition_of s g n food m).next j).alive)
   unfolding transition_of
   lost_in e =
-      let c : ℕ → Cause = λ j. get_or (each_below n (cause_of g n m)) j NoCause in
+      let c : ℕ → Option Cause = λ j. get_or (each_below n (cause_of g n m)) j None in
       let z : ℕ → Snake = λ j. get_or (each_below n (λ j. after g (m j) (c j))) j nobody in
       lost_by_someone n c z s i (sym (ap (λ (x : Event). x.lost) (each_at n _ blank i h)) ∙ e)
 

@@ -1,5 +1,6 @@
 -- What a step answers is well-formed again: a survivor's head is on the grid and off its own body, the dying keep a part of
 -- their old body, and different cells of the grid are no more than its area. Assumes nothing.
+use Rattle.std.specs.Prelude.{Option, Some, None}
 use Prim.Native.Nat.{ℕ, ◌-◌, ◌*◌, ◌<◌, ◌≤◌}
 use native.Mathlib.Nat.{le_trans}
 use native.Mathlib.Omega.{arith}
@@ -27,7 +28,7 @@ use Rattle.rules.specs.Facts.{Holdable}
 use Rattle.rules.specs.Events.{dies}
 use Rattle.rules.specs.Step.{Moved, stays, on_food, goes, head_to, move, moved_of, another, on_body, cause_of, after, ate_now, is_terminal, transition_of, stepped}
 use Rattle.rules.specs.declared.Cause.{Cause}
-use Rattle.rules.specs.declared.Cause.TheVariants.{NoCause, Wall, SelfBody, OppBody, HeadOn}
+use Rattle.rules.specs.declared.Cause.TheVariants.{Wall, SelfBody, OppBody, HeadOn}
 use Rattle.rules.specs.declared.Setting.{Setting}
 use Rattle.rules.proofs.Facts.{sound}
 use Rattle.rules.proofs.Holdable.{image_well_formed, holds_state}
@@ -62,7 +63,7 @@ rest_cells g m food z a ok =
 -- ---- a survivor's head is on the grid and off its own body
 
 spared : (moves heads on own opp : Bool) → moves ≡ true
-    → dies (NoCause if not moves else HeadOn if heads else Wall if not on else SelfBody if own else OppBody if opp else NoCause) ≡ false
+    → dies (None if not moves else (Some HeadOn) if heads else (Some Wall) if not on else (Some SelfBody) if own else (Some OppBody) if opp else None) ≡ false
     → (on ≡ true) × (own ≡ false)
 spared true true on own opp t e = absurd (true≢false e)
 spared true false true true opp t e = absurd (true≢false e)
@@ -90,11 +91,11 @@ body_some x r true e = omega arith
 body_some x r false e = absurd (false≢true e)
 
 module _ (g n : ℕ) (m : ℕ → Moved) (rests : (i : ℕ) → i < n → Cells (g * g) (m i).rest) where
-  abbrev c : ℕ → Cause
-  c j = get_or (each_below n (cause_of g n m)) j NoCause
+  abbrev c : ℕ → Option Cause
+  c j = get_or (each_below n (cause_of g n m)) j None
 
   cause_at : (i : ℕ) → i < n → c i ≡ cause_of g n m i
-  cause_at i h = each_at n (cause_of g n m) NoCause i h
+  cause_at i h = each_at n (cause_of g n m) None i h
 
   pub after_cells : (i : ℕ) → i < n → Cells (g * g) (after g (m i) (c i)).body
   after_cells i h = body_cells (g * g) (cell_of g (m i).head) (m i).rest ((m i).moves && not (dies (c i))) (rests i h)

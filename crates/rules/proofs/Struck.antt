@@ -1,4 +1,5 @@
 -- A hit is told exactly for the two causes by a body; what stands at its position, and that nothing stands there before it. Assumes nothing.
+use Rattle.std.specs.Prelude.{Option, Some, None, is_some}
 use Prim.Native.Nat.{ℕ, zero, suc, ◌<◌, ◌≤◌}
 use native.Mathlib.Omega.{arith}
 use mathlib.Core.Path.{◌≡◌, refl, sym, ap, subst, ◌∙◌}
@@ -18,7 +19,7 @@ use Rattle.rules.specs.Grid.{inside, same, cell_of}
 use Rattle.rules.specs.Step.{Moved, another, on_body, cause_of}
 use Rattle.rules.specs.Struck.{no_hit, behind_head, stops_head, hit_by, hit_of, strikes, stands_at, FirstBehind, HitsItself, HitsAnother}
 use Rattle.rules.specs.declared.Cause.{Cause}
-use Rattle.rules.specs.declared.Cause.TheVariants.{NoCause, Wall, SelfBody, OppBody, HeadOn}
+use Rattle.rules.specs.declared.Cause.TheVariants.{Wall, SelfBody, OppBody, HeadOn}
 use Rattle.rules.specs.declared.Place.{Place}
 
 -- ---- the tests behind a cause
@@ -26,10 +27,10 @@ use Rattle.rules.specs.declared.Place.{Place}
 abbrev Apart : Type 0
 Apart = ◌≡◌ {A = ℕ} 0 1
 
-abbrev chosen : Bool → Bool → Bool → Bool → Bool → Cause
-chosen a b c d e = NoCause if not a else HeadOn if b else Wall if not c else SelfBody if d else OppBody if e else NoCause
+abbrev chosen : Bool → Bool → Bool → Bool → Bool → Option Cause
+chosen a b c d e = None if not a else (Some HeadOn) if b else (Some Wall) if not c else (Some SelfBody) if d else (Some OppBody) if e else None
 
-self_only : (a b c d e : Bool) → chosen a b c d e ≡ SelfBody → d ≡ true
+self_only : (a b c d e : Bool) → chosen a b c d e ≡ (Some SelfBody) → d ≡ true
 self_only false b c d e h = let z : Apart = cc in absurd (omega arith)
 self_only true true c d e h = let z : Apart = cc in absurd (omega arith)
 self_only true false false d e h = let z : Apart = cc in absurd (omega arith)
@@ -37,7 +38,7 @@ self_only true false true true e h = refl
 self_only true false true false true h = let z : Apart = cc in absurd (omega arith)
 self_only true false true false false h = let z : Apart = cc in absurd (omega arith)
 
-opp_only : (a b c d e : Bool) → chosen a b c d e ≡ OppBody → (b ≡ false) × (e ≡ true)
+opp_only : (a b c d e : Bool) → chosen a b c d e ≡ (Some OppBody) → (b ≡ false) × (e ≡ true)
 opp_only false b c d e h = let z : Apart = cc in absurd (omega arith)
 opp_only true true c d e h = let z : Apart = cc in absurd (omega arith)
 opp_only true false false d e h = let z : Apart = cc in absurd (omega arith)
@@ -86,18 +87,18 @@ module _ (g n : ℕ) (m : ℕ → Moved) (i : ℕ) where
   abbrev meets : ℕ → Bool
   meets j = not (eqb i j) && (m j).moves && same (m i).head (m j).head
 
-  pub self_holds : cause_of g n m i ≡ SelfBody → member (cell_of g (m i).head) (m i).rest ≡ true
+  pub self_holds : cause_of g n m i ≡ (Some SelfBody) → member (cell_of g (m i).head) (m i).rest ≡ true
   unfolding cause_of
   self_holds h = self_only (m i).moves head_met (inside (pos g) (m i).head) (member (cell_of g (m i).head) (m i).rest) body_met h
 
-  pub opp_tests : cause_of g n m i ≡ OppBody → (head_met ≡ false) × (body_met ≡ true)
+  pub opp_tests : cause_of g n m i ≡ (Some OppBody) → (head_met ≡ false) × (body_met ≡ true)
   unfolding cause_of
   opp_tests h = opp_only (m i).moves head_met (inside (pos g) (m i).head) (member (cell_of g (m i).head) (m i).rest) body_met h
 
-  pub hits_itself : cause_of g n m i ≡ SelfBody → HitsItself g m i (hit_of g n m i)
-  hits_itself h = rw h (record { itself = refl; at = first_behind g (m i).head (m i) (self_holds h) })
+  pub hits_itself : cause_of g n m i ≡ (Some SelfBody) → HitsItself g m i (hit_of g n m i)
+  hits_itself h = rw h (record { hit = record { snake = i; position = behind_head g (m i).head (m i) }; told = refl; itself = refl; at = first_behind g (m i).head (m i) (self_holds h) })
 
-  module _ (h : cause_of g n m i ≡ OppBody) where
+  module _ (h : cause_of g n m i ≡ (Some OppBody)) where
     abbrev met : ℕ
     met = lowest_from (stops_head g n m i) 0 n
 
@@ -117,11 +118,13 @@ module _ (g n : ℕ) (m : ℕ → Moved) (i : ℕ) where
     met_holds = or_second (same (m i).head (m met).head) (member (cell_of g (m i).head) (m met).rest) met_apart (and_right (not (eqb i met) && (m met).moves) (on_body g n m (m i).head met) met_stops)
 
     -- no head was hit
-    pub hit_behind : hit_of g n m i ≡ record { snake = met; position = behind_head g (m i).head (m met) }
-    hit_behind = ap (hit_by g n m i) h ∙ (λ t. record { snake = met; position = 0 if met_apart t else behind_head g (m i).head (m met) })
+    pub hit_behind : hit_of g n m i ≡ Some (record { snake = met; position = behind_head g (m i).head (m met) })
+    hit_behind = ap (hit_by g n m i) h ∙ (λ t. Some (record { snake = met; position = 0 if met_apart t else behind_head g (m i).head (m met) }))
 
-    another_hit : HitsAnother g n m i (record { snake = met; position = behind_head g (m i).head (m met) })
+    another_hit : HitsAnother g n m i (Some (record { snake = met; position = behind_head g (m i).head (m met) }))
     another_hit = record {
+      hit = record { snake = met; position = behind_head g (m i).head (m met) };
+      told = refl;
       below = met_below;
       other = λ e. clash (eq-eqb i met (sym e)) (not-true (eqb i met) (and_left (not (eqb i met)) (m met).moves met_living));
       living = and_right (not (eqb i met)) (m met).moves met_living;
@@ -134,22 +137,22 @@ module _ (g n : ℕ) (m : ℕ → Moved) (i : ℕ) where
     hits_another = subst (HitsAnother g n m i) (sym hit_behind) another_hit
 
   -- a hit is told exactly for these causes
-  pub hit_told : n ≤ 8 → i < n → ltb (hit_of g n m i).snake 8 ≡ strikes (cause_of g n m i)
-  hit_told few l = go (cause_of g n m i) refl
+  pub hit_told : is_some (hit_of g n m i) ≡ strikes (cause_of g n m i)
+  hit_told = go (cause_of g n m i) refl
     where
-      go : (c : Cause) → cause_of g n m i ≡ c → ltb (hit_of g n m i).snake 8 ≡ strikes (cause_of g n m i)
-      go NoCause e = rw e
-      go Wall e = rw e
-      go SelfBody e = rw e (lt-ltb i 8 (omega arith))
-      go OppBody e = rw e (lt-ltb (met e) 8 (omega (arith, met_below e)))
-      go HeadOn e = rw e
+      go : (c : Option Cause) → cause_of g n m i ≡ c → is_some (hit_of g n m i) ≡ strikes (cause_of g n m i)
+      go None e = rw e
+      go (Some Wall) e = rw e
+      go (Some SelfBody) e = rw e
+      go (Some OppBody) e = rw e
+      go (Some HeadOn) e = rw e
 
   pub hit_else : strikes (cause_of g n m i) ≡ false → hit_of g n m i ≡ no_hit
   hit_else h = go (cause_of g n m i) refl
     where
-      go : (c : Cause) → cause_of g n m i ≡ c → hit_of g n m i ≡ no_hit
-      go NoCause e = ap (hit_by g n m i) e
-      go Wall e = ap (hit_by g n m i) e
-      go SelfBody e = absurd (clash (ap strikes e) h)
-      go OppBody e = absurd (clash (ap strikes e) h)
-      go HeadOn e = ap (hit_by g n m i) e
+      go : (c : Option Cause) → cause_of g n m i ≡ c → hit_of g n m i ≡ no_hit
+      go None e = ap (hit_by g n m i) e
+      go (Some Wall) e = ap (hit_by g n m i) e
+      go (Some SelfBody) e = absurd (clash (ap strikes e) h)
+      go (Some OppBody) e = absurd (clash (ap strikes e) h)
+      go (Some HeadOn) e = ap (hit_by g n m i) e

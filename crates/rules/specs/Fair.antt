@@ -1,5 +1,5 @@
 -- What it says that a draw is fair (01, demand 3): of the definitions, and of the words that a draw wrote. Assumes nothing.
-use Rattle.std.specs.Prelude.{ℕ, suc, ◌+◌, ◌-◌, ◌^◌, ◌<◌, ◌≤◌, ◌≡◌, Bool, true, false, not, List, [], ◌∷◌, eqb, length, get_or, take}
+use Rattle.std.specs.Prelude.{ℕ, suc, ◌+◌, ◌-◌, ◌^◌, ◌<◌, ◌≤◌, ◌≡◌, Bool, true, false, not, List, [], ◌∷◌, eqb, length, get_or, take, Ok}
 use Rattle.lists.specs.Below.{count_below}
 use Rattle.lists.specs.Lists.{member, distinct}
 use Rattle.lists.specs.Products.{falling, factorial}
@@ -8,10 +8,8 @@ use Rattle.rules.specs.State.{State, area}
 use Rattle.rules.specs.Image.{due_in, state_of, well_formed}
 use Rattle.rules.specs.Chance.{taken, free, draw_size, outcomes, drawn, with_food, after_draw, rank_of, can_rank}
 use Rattle.rules.specs.Promises.{Draws}
-use Rattle.rules.specs.declared.Number.{Number}
-use Rattle.rules.specs.declared.Number.TheVariants.{Value}
 use Rattle.rules.specs.declared.Drawn.{Drawn}
-use Rattle.rules.specs.declared.Answer.TheVariants.{Done}
+use Rattle.rules.specs.Says.{Says}
 
 pub record Fair (t : State) : Type 0 where
   -- a cell is free if and only if it is on the board and neither food nor any body holds it
@@ -74,17 +72,18 @@ pub record DrawWrote (w : List ℕ) (i : ℕ) (image list : List ℕ) : Type 0 w
   pub new : List ℕ
   pub lent_list : List ℕ
   pub cells : List ℕ
-  pub answer : Drawn
+  pub answer : Says Drawn
   pub count : ℕ
+  pub many : ℕ
   pub meets : Draws w i old new lent_list cells answer
-  pub done : answer.answer ≡ Done count
+  pub done : answer ≡ Ok (record { words = count; cells = many })
   pub image_is : image ≡ take count new
-  pub list_is : list ≡ take answer.cells cells
+  pub list_is : list ≡ take many cells
 
 -- l ranks as one index below P: what a draw of that index lists is l, and a draw that lists l is of that index
-pub record RanksAsOne (w l : List ℕ) (r : Number) : Type 0 where
+pub record RanksAsOne (w l : List ℕ) (r : Says ℕ) : Type 0 where
   pub index : ℕ
-  pub answer : r ≡ Value index
+  pub answer : r ≡ Ok index
   pub below : index < outcomes (state_of w)
   pub lists : (image list : List ℕ) → DrawWrote w index image list → list ≡ l
   pub alone : (i : ℕ) (image : List ℕ) → DrawWrote w i image l → i ≡ index

@@ -4,8 +4,9 @@ use Rattle.std.specs.Prelude.{ℕ, ◌+◌, ◌*◌, ◌-◌, min, Bool, not, �
 use Rattle.lists.specs.Choice.{◌if◌else◌}
 use Rattle.lists.specs.Below.{lowest_from}
 use Rattle.lists.specs.Lists.{member, distinct}
-use Rattle.rules.specs.Tables.{Table, by_word}
+use Rattle.rules.specs.Tables.{Table}
 use Rattle.rules.specs.Image.{word, front, snakes_in, side_in, due_in, birth_in, food_count_in, area_in, start_at, length_at, heading_at, alive_at, start_due, food_start, body_at, between, contents_fit, record_fits, ranges_fit, starts_fit, total_fits, cells_fit, bodies_fit, food_fits}
+use Rattle.rules.specs.declared.refusal.Refusal.TheVariants as Refusal
 
 -- the lowest number below n that fails a test
 abbrev pub first_out : ℕ → (ℕ → Bool) → ℕ
@@ -60,11 +61,11 @@ food_word w = lowest_from (λ k. leb (word w k) (word w (k - 1))) (food_start w 
 -- what is asked of every image
 unfoldable pub image_rows : List ℕ → Table
 image_rows w =
-    (by_word 50 (length w), cut_short w)
-    ∷ (by_word 51 (range_word w), not (ranges_fit w))
-    ∷ (by_word 52 (start_word w), not (starts_fit w))
-    ∷ (by_word 53 (total_word w), not (total_fits w))
-    ∷ (by_word 54 (cell_word w), not (cells_fit w))
-    ∷ (by_word 55 (twice_word w), not (bodies_fit w))
-    ∷ (by_word 56 (food_word w), not (food_fits w))
+    (Refusal.CutShort (length w), cut_short w)
+    ∷ (Refusal.OutOfRange (range_word w), not (ranges_fit w))
+    ∷ (Refusal.Start (start_word w), not (starts_fit w))
+    ∷ (Refusal.Total (total_word w), not (total_fits w))
+    ∷ (Refusal.CellBeyond (cell_word w), not (cells_fit w))
+    ∷ (Refusal.CellTwice (twice_word w), not (bodies_fit w))
+    ∷ (Refusal.FoodOrder (food_word w), not (food_fits w))
     ∷ []

@@ -1,3 +1,4 @@
+pub mod Refusals
 pub mod Tables
 pub mod Headings
 pub mod Grid

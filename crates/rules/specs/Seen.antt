@@ -1,7 +1,7 @@
 -- What is stated of the view: what stands above what, which images an agent cannot tell apart. Assumes nothing.
 use Rattle.std.specs.Prelude.{ℕ, ◌+◌, ◌/◌, ◌%◌, ◌<◌, ◌≡◌, List, Float, drop}
 use Rattle.rules.specs.Image.{front, snakes_in, side_in, food_count_in, start_at, length_at, heading_at, body_at, food_at}
-use Rattle.rules.specs.declared.Answer.{Answer}
+use Rattle.rules.specs.Says.{Says}
 
 -- one cell directly above another on side g
 pub record Above (g high low : ℕ) : Type 0 where
@@ -27,6 +27,6 @@ pub record DifferOnly (w v : List ℕ) (a : ℕ) : Type 0 where
   pub cells : drop (front (snakes_in w)) w ≡ drop (front (snakes_in w)) v
 
 -- two calls into equal buffers: equal answers, and equal numbers afterwards
-pub record SameSeen (new new' : List Float) (r r' : Answer) : Type 0 where
+pub record SameSeen (new new' : List Float) (r r' : Says ℕ) : Type 0 where
   pub answers : r ≡ r'
   pub numbers : new ≡ new'

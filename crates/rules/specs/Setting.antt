@@ -1,25 +1,24 @@
 -- The check of a setting, refusals 1 to 12 without 7, and the initial state (01, 'Numbers a refusal gives' and 'Modules' 2). Assumes nothing.
-use Rattle.std.specs.Prelude.{ℕ, ◌*◌, ◌-◌, ◌^◌, min, Bool, true, false, not, cond, ◌&&◌, ◌||◌, List, [], ◌∷◌, ◌++◌, map, ltb, eqb, length, take, drop, ℤ, pos, negsuc}
+use Rattle.std.specs.Prelude.{ℕ, ◌*◌, ◌-◌, ◌^◌, min, Bool, true, false, not, cond, ◌&&◌, ◌||◌, List, [], ◌∷◌, ◌++◌, map, ltb, eqb, length, take, drop, ℤ, pos, negsuc, Option, Some, None}
 use Rattle.std.specs.Int.Signed.{lt_z}
 use Rattle.lists.specs.Below.{some_below, each_below, concat_below}
 use Rattle.lists.specs.Lists.{any}
 use Rattle.lists.specs.Products.{falling}
-use Rattle.rules.specs.Tables.{Table, by, fault}
+use Rattle.rules.specs.Tables.{Table, fault}
 use Rattle.rules.specs.Grid.{inside, same, cell_of}
 use Rattle.rules.specs.Placement.{placed, start_heading}
 use Rattle.rules.specs.State.{Snake, State}
 use Rattle.rules.specs.declared.Setting.{Setting}
-use Rattle.rules.specs.declared.Limit.{Limit}
-use Rattle.rules.specs.declared.Limit.TheVariants.{Unset, Is}
 use Rattle.rules.specs.declared.Place.{Place}
+use Rattle.rules.specs.declared.refusal.Refusal.TheVariants as Refusal
 
-abbrev pub is_set : Limit → Bool
-is_set Unset = false
-is_set (Is k) = true
+abbrev pub is_set : Option ℕ → Bool
+is_set None = false
+is_set (Some k) = true
 
-abbrev pub is_zero : Limit → Bool
-is_zero Unset = false
-is_zero (Is k) = eqb k 0
+abbrev pub is_zero : Option ℕ → Bool
+is_zero None = false
+is_zero (Some k) = eqb k 0
 
 -- the grid's side: 0 where the grid is negative
 abbrev pub side_of : ℤ → ℕ
@@ -49,25 +48,25 @@ bad_cell g before (p ∷ ps) = let r = bad_cell g (p ∷ before) ps in cond (ins
 
 -- 6 'food above g² (0 when g < 0)', 8 'product .. above 2^53': f food for n snakes on side g
 abbrev pub crowd_order : ℕ → ℕ → ℕ → Table
-crowd_order n g f = (by 6, ltb (g * g) f) ∷ (by 8, ltb (2 ^ 53) (worst n g f)) ∷ []
+crowd_order n g f = (Refusal.FoodArea, ltb (g * g) f) ∷ (Refusal.Product, ltb (2 ^ 53) (worst n g f)) ∷ []
 
 -- 1 'snakes not 2..8', 2 'initial length 0', 3 'food lead 0', 4 'food lead set, snakes not 2', 5 'grid above 32', then 6 and 8: the numbers of a setting
 abbrev pub limits_order : Setting → Table
 limits_order s =
-    (by 1, ltb s.num_snakes 2 || ltb 8 s.num_snakes)
-    ∷ (by 2, eqb s.initial_length 0)
-    ∷ (by 3, is_zero s.win_food_lead)
-    ∷ (by 4, is_set s.win_food_lead && not (eqb s.num_snakes 2))
-    ∷ (by 5, lt_z (pos 32) s.grid_size)
+    (Refusal.Snakes, ltb s.num_snakes 2 || ltb 8 s.num_snakes)
+    ∷ (Refusal.LengthZero, eqb s.initial_length 0)
+    ∷ (Refusal.LeadZero, is_zero s.win_food_lead)
+    ∷ (Refusal.LeadNotTwo, is_set s.win_food_lead && not (eqb s.num_snakes 2))
+    ∷ (Refusal.Grid, lt_z (pos 32) s.grid_size)
     ∷ crowd_order s.num_snakes (side_of s.grid_size) s.initial_food_count
 
 -- 9 'some body cannot be traced to its length', 10 / 11 'first bad cell', 12 'food above the free cells': the places of n bodies of k, for f food
 abbrev pub places_order : ℤ → ℕ → ℕ → ℕ → Table
 places_order g n k f =
-    (by 9, some_short g n k)
-    ∷ (by 10, eqb (bad_cell g [] (all_placed g n k)) 10)
-    ∷ (by 11, eqb (bad_cell g [] (all_placed g n k)) 11)
-    ∷ (by 12, ltb (side_of g * side_of g - length (all_placed g n k)) f)
+    (Refusal.Untraceable, some_short g n k)
+    ∷ (Refusal.CellOutside, eqb (bad_cell g [] (all_placed g n k)) 10)
+    ∷ (Refusal.CellTaken, eqb (bad_cell g [] (all_placed g n k)) 11)
+    ∷ (Refusal.FoodFree, ltb (side_of g * side_of g - length (all_placed g n k)) f)
     ∷ []
 
 -- 'Setting: 1 to 12 as listed', but for 7
@@ -76,7 +75,7 @@ setting_order s = limits_order s ++ places_order s.grid_size s.num_snakes s.init
 
 -- 01's own table: 7 'food above 10,000' stands between 6 and 8. It is never given (02), so that no call asks it, and its number stays unused
 abbrev pub chain_order : Setting → Table
-chain_order s = take 6 (setting_order s) ++ ((by 7, ltb 10000 s.initial_food_count) ∷ drop 6 (setting_order s))
+chain_order s = take 6 (setting_order s) ++ ((Refusal.Chain, ltb 10000 s.initial_food_count) ∷ drop 6 (setting_order s))
 
 -- the number, and 0 for an accepted setting
 unfoldable pub setting_check : Setting → ℕ

@@ -1,9 +1,9 @@
 -- The check of a setting in two halves, numbers and places, as code goes about it; each over just what it depends on. Assumes nothing.
-use Rattle.std.specs.Prelude.{ℕ, ◌+◌, ◌*◌, ◌≤◌, ◌≡◌, false, List, [], ◌∷◌, map, ltb, ℤ, pos}
+use Rattle.std.specs.Prelude.{ℕ, ◌+◌, ◌*◌, ◌≤◌, ◌≡◌, false, List, [], ◌∷◌, map, ltb, ℤ, pos, Ok}
 use Rattle.std.specs.Int.Signed.{lt_z}
 use Rattle.lists.specs.Choice.{bit}
 use Rattle.lists.specs.Below.{concat_below}
-use Rattle.rules.specs.Tables.{fault}
+use Rattle.rules.specs.Says.{Says, by_table}
 use Rattle.rules.specs.Grid.{cell_of}
 use Rattle.rules.specs.Headings.{number_of}
 use Rattle.rules.specs.Image.{front}
@@ -12,12 +12,12 @@ use Rattle.rules.specs.Setting.{side_of, area_of, limits_order, places_order}
 use Rattle.rules.specs.declared.Setting.{Setting}
 
 -- 1 to 6 and 8
-unfoldable pub limits_check : Setting → ℕ
-limits_check s = fault (limits_order s)
+unfoldable pub limits_says : Setting → Says (Unit {0})
+limits_says s = by_table (limits_order s) (Ok tt)
 
 -- 9 to 12, for f food
-unfoldable pub place_check : ℤ → ℕ → ℕ → ℕ → ℕ
-place_check g n k f = fault (places_order g n k f)
+unfoldable pub place_says : ℤ → ℕ → ℕ → ℕ → Says (Unit {0})
+place_says g n k f = by_table (places_order g n k f) (Ok tt)
 
 -- what a setting without a fault in 1 to 6 and 8 tells the second half
 pub record Limited (s : Setting) : Type 0 where

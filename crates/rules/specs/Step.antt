@@ -1,6 +1,6 @@
 -- One step (01, 'Step'): all living snakes move, all causes are judged on that one world, then the consequences.
 -- A world is a function of the snake's number, so that 'another snake' is a test of numbers. Assumes nothing.
-use Rattle.std.specs.Prelude.{ℕ, ◌-◌, Bool, true, false, not, ◌&&◌, ◌||◌, List, ◌∷◌, leb, ltb, eqb, length, get_or, take, pos}
+use Rattle.std.specs.Prelude.{ℕ, ◌-◌, Bool, true, false, not, ◌&&◌, ◌||◌, List, ◌∷◌, leb, ltb, eqb, length, get_or, take, pos, Option, Some, None}
 use Rattle.lists.specs.Choice.{◌if◌else◌}
 use Rattle.lists.specs.Below.{some_below, count_below, each_below, lowest_from}
 use Rattle.lists.specs.Lists.{keep, member}
@@ -9,11 +9,9 @@ use Rattle.rules.specs.Grid.{ahead, inside, same, cell_of, place_of}
 use Rattle.rules.specs.State.{Snake, State, nobody, count, snake_of}
 use Rattle.rules.specs.Events.{dies, by_body}
 use Rattle.rules.specs.declared.Setting.{Setting}
-use Rattle.rules.specs.declared.Limit.{Limit}
-use Rattle.rules.specs.declared.Limit.TheVariants.{Unset, Is}
 use Rattle.rules.specs.declared.Heading.{Heading}
 use Rattle.rules.specs.declared.Cause.{Cause}
-use Rattle.rules.specs.declared.Cause.TheVariants.{NoCause, Wall, SelfBody, OppBody, HeadOn}
+use Rattle.rules.specs.declared.Cause.TheVariants.{Wall, SelfBody, OppBody, HeadOn}
 use Rattle.rules.specs.declared.Event.{Event}
 use Rattle.rules.specs.declared.Place.{Place}
 
@@ -65,29 +63,29 @@ module _ (g n : ℕ) (m : ℕ → Moved) where
 
   -- 'HeadOn (two moved heads equal, even off the grid), else Wall, else SelfBody, else OppBody
   -- (head on any cell of another snake alive before the step)'
-  unfoldable pub cause_of : ℕ → Cause
+  unfoldable pub cause_of : ℕ → Option Cause
   cause_of i =
-      NoCause if not (m i).moves else
-      HeadOn if another i (λ j. same (m i).head (m j).head) else
-      Wall if not (inside (pos g) (m i).head) else
-      SelfBody if member (cell_of g (m i).head) (m i).rest else
-      OppBody if another i (on_body (m i).head) else
-      NoCause
+      None if not (m i).moves else
+      (Some HeadOn) if another i (λ j. same (m i).head (m j).head) else
+      (Some Wall) if not (inside (pos g) (m i).head) else
+      (Some SelfBody) if member (cell_of g (m i).head) (m i).rest else
+      (Some OppBody) if another i (on_body (m i).head) else
+      None
 
 -- ---- consequences
 
 -- 'The dying lose their head cell'
-abbrev pub after : ℕ → Moved → Cause → Snake
+abbrev pub after : ℕ → Moved → Option Cause → Snake
 after g m c =
     let l = m.moves && not (dies c) in
     record { heading = m.heading; alive = l; body = cell_of g m.head ∷ m.rest if l else m.rest }
 
 -- 'Surviving eaters remove their food'
-abbrev pub ate_now : Moved → Cause → Bool
+abbrev pub ate_now : Moved → Option Cause → Bool
 ate_now m c = m.eats && not (dies c)
 
 -- of n snakes: the cells x of their moved heads, their causes c, the snakes z afterwards
-module _ (n : ℕ) (x : ℕ → ℕ) (c : ℕ → Cause) (z : ℕ → Snake) where
+module _ (n : ℕ) (x : ℕ → ℕ) (c : ℕ → Option Cause) (z : ℕ → Snake) where
   -- 'An OppBody victim credits the lowest-numbered survivor whose body holds the fatal cell, if any'; n where there is none
   abbrev pub killer_of : ℕ → ℕ
   killer_of i = lowest_from (λ j. (z j).alive && member (x i) (z j).body) 0 n if by_body (c i) else n
@@ -96,7 +94,7 @@ module _ (n : ℕ) (x : ℕ → ℕ) (c : ℕ → Cause) (z : ℕ → Snake) whe
   credited j = some_below n (λ i. eqb (killer_of i) j)
 
 -- of n snakes: their causes c, the snakes z afterwards
-module _ (n : ℕ) (c : ℕ → Cause) (z : ℕ → Snake) where
+module _ (n : ℕ) (c : ℕ → Option Cause) (z : ℕ → Snake) where
   abbrev pub alive : ℕ
   alive = count_below n (λ i. (z i).alive)
 
@@ -104,9 +102,9 @@ module _ (n : ℕ) (c : ℕ → Cause) (z : ℕ → Snake) where
   deaths = count_below n (λ i. dies (c i))
 
   -- 'two alive with lengths apart by the lead or more': i is the longer, j the other
-  abbrev pub leads : Limit → ℕ → ℕ → Bool
-  leads Unset i j = false
-  leads (Is k) i j = eqb alive 2 && ((z i).alive && (z j).alive && ltb (length (z j).body) (length (z i).body) && leb k (length (z i).body - length (z j).body))
+  abbrev pub leads : Option ℕ → ℕ → ℕ → Bool
+  leads None i j = false
+  leads (Some k) i j = eqb alive 2 && ((z i).alive && (z j).alive && ltb (length (z j).body) (length (z i).body) && leb k (length (z i).body - length (z j).body))
 
   -- 'Terminal: at most one alive (none, with play_to_last), or' a lead
   abbrev pub is_terminal : Setting → Bool
@@ -125,7 +123,7 @@ module _ (n : ℕ) (c : ℕ → Cause) (z : ℕ → Snake) where
   drew_by i = dies (c i) && eqb alive 0 && ltb 1 deaths
 
 -- the event of snake i; e says who ate
-abbrev pub event_of : ℕ → (ℕ → ℕ) → (ℕ → Cause) → (ℕ → Snake) → (ℕ → Bool) → Setting → ℕ → Event
+abbrev pub event_of : ℕ → (ℕ → ℕ) → (ℕ → Option Cause) → (ℕ → Snake) → (ℕ → Bool) → Setting → ℕ → Event
 event_of n x c z e s i = record {
   ate_food = e i;
   died = dies (c i);
@@ -151,7 +149,7 @@ pub record Transition : Type 0 where
 unfoldable pub transition_of : Setting → ℕ → ℕ → List ℕ → (ℕ → Moved) → Transition
 transition_of s g n food m =
     let cs = each_below n (cause_of g n m) in
-    let c : ℕ → Cause = λ i. get_or cs i NoCause in
+    let c : ℕ → Option Cause = λ i. get_or cs i None in
     let zs = each_below n (λ i. after g (m i) (c i)) in
     let z : ℕ → Snake = λ i. get_or zs i nobody in
     let xs = each_below n (λ i. cell_of g (m i).head) in

@@ -2,15 +2,8 @@
 use Rattle.std.specs.Prelude.{ℕ, ◌≡◌, Bool, true, not, List, [], ◌∷◌, ◌++◌}
 use Rattle.lists.specs.Choice.{◌if◌else◌}
 use Rattle.lists.specs.Lists.{all}
-use Rattle.rules.specs.declared.Refusal.{Refusal}
-
--- the refusal of a number, and the word that shows it
-abbrev pub by_word : ℕ → ℕ → Refusal
-by_word k at = record { number = k; word = at }
-
--- of a number alone: its word is 0
-abbrev pub by : ℕ → Refusal
-by k = by_word k 0
+use Rattle.rules.specs.declared.refusal.Refusal.{Refusal}
+use Rattle.rules.specs.Refusals.{code_of}
 
 abbrev pub Table : Type 0
 Table = List (Refusal × Bool)
@@ -18,7 +11,7 @@ Table = List (Refusal × Bool)
 -- the number of the first row that holds; 0 where none does
 unfoldable pub fault : Table → ℕ
 fault [] = 0
-fault (e ∷ es) = let x = fault es in e.0.number if e.1 else x
+fault (e ∷ es) = let x = fault es in code_of e.0 if e.1 else x
 
 -- no row holds
 abbrev pub none_hold : Table → Bool

@@ -3,7 +3,7 @@ ghost use Rattle.std.specs.Prelude.{◌≡◌};
 ghost use Rattle.rules.specs.Reward.{all_finite, plus, reward_dead, reward_living};
 ghost use Rattle.rules.specs.Promises.{Rewards};
 
-use rules::{Event, Reward, Weights};
+use rules::{Event, Refusal, Weights};
 
 // Strict tests: no order of branches to follow.
 fn all_finite(w: Weights) -> bool
@@ -42,14 +42,14 @@ fn of_living(w: Weights, e: Event) -> f64
     added(x, e.survived_to_max_ticks, w.survival)
 }
 
-pub fn reward(weights: Weights, event: Event) -> Reward
+pub fn reward(weights: Weights, event: Event) -> Result<f64, Refusal>
     ensures { Rewards weights event result }
 {
     if !all_finite(weights) {
-        return Reward::Refused(refusals::by(31));
+        return Err(Refusal::Weight);
     }
     if event.died {
-        return Reward::Sum(of_dead(weights, event));
+        return Ok(of_dead(weights, event));
     }
-    Reward::Sum(of_living(weights, event))
+    Ok(of_living(weights, event))
 }

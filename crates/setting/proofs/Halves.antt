@@ -1,43 +1,39 @@
--- The halves of the check put together, and what `validate` says. Assumes nothing.
+-- The halves of the check put together. Assumes nothing.
+use Rattle.std.specs.Prelude.{Ok, Err}
 use Prim.Native.Nat.{ℕ}
+use native.Mathlib.Omega.{arith}
 use mathlib.Core.Path.{◌≡◌, sym, ap, ◌∙◌}
 use mathlib.Core.List.{List}
-use Rattle.lists.specs.Choice.{first_of}
-use Rattle.lists.proofs.Tests.{first_some}
-use Rattle.rules.specs.Setting.{setting_check}
-use Rattle.rules.specs.SettingParts.{limits_check, place_check}
-use Rattle.rules.specs.Tables.{by}
-use Rattle.rules.specs.Says.{first, gives}
+use Rattle.rules.specs.Calls.{setting_says}
+use Rattle.rules.specs.SettingParts.{limits_says, place_says}
+use Rattle.rules.specs.Says.{Says}
 use Rattle.rules.specs.Promises.{Validates}
 use Rattle.rules.specs.declared.Setting.{Setting}
-use Rattle.rules.specs.declared.Refusal.{Refusal}
-use Rattle.rules.specs.declared.Verdict.{Verdict}
-use Rattle.rules.specs.declared.Verdict.TheVariants.{Refused}
-use Rattle.rules.proofs.Tables.{setting_says_lem, refuses_first}
+use Rattle.rules.specs.declared.refusal.Refusal.{Refusal}
+use Rattle.rules.proofs.Tables.{and_then}
 use Rattle.rules.proofs.SettingParts.{check_parts}
 use Rattle.placed.specs.Tested.{Tested}
-use Rattle.setting.specs.Verdicts.{Verdicts}
 
--- the number of the first half, or of the second
-module _ (s : Setting) (k : ℕ) (e : k ≡ limits_check s) where
-  pub check_first : (k ≡ 0 → ⊥) → k ≡ setting_check s
-  check_first h = e ∙ sym (check_parts s ∙ first_some (limits_check s) (place_check s.grid_size s.num_snakes s.initial_length s.initial_food_count) (λ z. h (e ∙ z)))
+refused_none : {k : Refusal} → ◌≡◌ {A = Says (Unit {0})} (Err k) (Ok tt) → ⊥
+refused_none e = let z : ◌≡◌ {A = ℕ} 0 1 = cc in omega arith
 
-  pub check_second : k ≡ 0 → (r : ℕ) → r ≡ place_check s.grid_size s.num_snakes s.initial_length s.initial_food_count → r ≡ setting_check s
-  check_second z r q = q ∙ sym (check_parts s ∙ ap (λ (m : ℕ). first_of m (place_check s.grid_size s.num_snakes s.initial_length s.initial_food_count)) (sym e ∙ z))
+module _ (s : Setting) (r : Says (Unit {0})) (e : r ≡ limits_says s) where
+  abbrev second : Says (Unit {0})
+  second = place_says s.grid_size s.num_snakes s.initial_length s.initial_food_count
 
-  module _ (cells old new : List ℕ) where
-    pub judge_first : (k ≡ 0 → ⊥) → Tested (setting_check s) cells old new k
-    judge_first h = record { says = check_first h; words = λ z. absurd (h z) }
+  half : (x : Says (Unit {0})) → r ≡ x → setting_says s ≡ and_then x second
+  half x q = check_parts s ∙ ap (λ (y : Says (Unit {0})). and_then y second) (sym e ∙ q)
 
-    pub judge_second : k ≡ 0 → (r : ℕ) → Tested (place_check s.grid_size s.num_snakes s.initial_length s.initial_food_count) cells old new r → Tested (setting_check s) cells old new r
-    judge_second z r j = record { says = check_second z r j.says; words = j.words }
+  -- what the first half refuses
+  pub refused_first : (k : Refusal) → r ≡ Err k → Err k ≡ setting_says s
+  refused_first k q = sym (half (Err k) q)
 
--- ---- what `validate` says, by the half that decides
+  pub judge_first : (cells old : List ℕ) (k : Refusal) → r ≡ Err k → Tested (setting_says s) cells old old (Err k)
+  judge_first cells old k q = record { says = refused_first k q; words = λ z. absurd (refused_none z) }
 
-module _ (s : Setting) (k : ℕ) (e : k ≡ limits_check s) where
-  pub verdict_first : (k ≡ 0 → ⊥) → (x : Refusal) → x ≡ by k → Validates s (Refused x)
-  verdict_first h x q = record { answer = refuses_first k x (gives tt) q h ∙ ap (λ (j : ℕ). first j (gives tt)) (check_first s k e h) ∙ sym (setting_says_lem s) }
+  -- what the second says where the first refuses nothing
+  pub second_says : r ≡ Ok tt → (v : Says (Unit {0})) → v ≡ second → Validates s v
+  second_says q v f = record { answer = f ∙ sym (half (Ok tt) q) }
 
-  pub verdict_second : k ≡ 0 → (n : ℕ) → n ≡ place_check s.grid_size s.num_snakes s.initial_length s.initial_food_count → (v : Verdict) → Verdicts n v → Validates s v
-  verdict_second z n q v f = record { answer = f.says ∙ ap (λ (j : ℕ). first j (gives tt)) (check_second s k e z n q) ∙ sym (setting_says_lem s) }
+  pub judge_second : (cells old new : List ℕ) → r ≡ Ok tt → (v : Says (Unit {0})) → Tested second cells old new v → Tested (setting_says s) cells old new v
+  judge_second cells old new q v j = record { says = j.says ∙ sym (half (Ok tt) q); words = j.words }

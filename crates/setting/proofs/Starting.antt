@@ -1,4 +1,5 @@
 -- From the words of the initial state to the promise of the call. Assumes nothing.
+use Rattle.std.specs.Prelude.{Ok, Err}
 use Prim.Native.Nat.{ℕ, ◌+◌, ◌*◌, ◌<◌, ◌≤◌}
 use native.Mathlib.Omega.{arith}
 use mathlib.Core.Path.{◌≡◌, refl, sym, ap, ◌∙◌}
@@ -18,35 +19,33 @@ use Rattle.lists.proofs.Below.{concat_long, sum_ext}
 use Rattle.lists.proofs.Concat.{blocks_long}
 use Rattle.lists.proofs.Writes.{write_front}
 use Rattle.rules.specs.Image.{image_of}
-use Rattle.rules.specs.Calls.{initial_says}
+use Rattle.rules.specs.Calls.{setting_says, initial_says}
 use Rattle.rules.specs.Promises.{Starts}
-use Rattle.rules.specs.Says.{refuses, gives, first, seen, lent, says}
-use Rattle.rules.specs.Tables.{by}
+use Rattle.rules.specs.Says.{Says, seen, lent}
 use Rattle.rules.specs.Setting.{side_of, setting_check, initial_state}
 use Rattle.rules.specs.SettingParts.{cells_of, start_cells, start_record, start_contents}
-use Rattle.rules.specs.declared.Answer.{Answer}
-use Rattle.rules.specs.declared.Answer.TheVariants.{Done, Refused}
 use Rattle.rules.specs.declared.Setting.{Setting}
-use Rattle.rules.specs.declared.Refusal.{Refusal}
-use Rattle.rules.proofs.Tables.{start_for, initial_says_lem, first_refuses}
+use Rattle.rules.specs.declared.refusal.Refusal.{Refusal}
+use Rattle.rules.proofs.Tables.{and_then, start_for, initial_says_lem}
+use Rattle.rules.proofs.SettingParts.{accepted_says, says_accepted}
 use Rattle.rules.proofs.Facts.{square_le}
 use Rattle.rules.proofs.InitialFacts.{cells_long, start_image}
 use Rattle.rules.proofs.SettingFacts.{accepts}
 use Rattle.setting.specs.Starts.{Startable, Room}
 use Rattle.placed.specs.Tested.{Tested}
+use Rattle.rules.specs.declared.refusal.Refusal.TheVariants as Refusal
 
 module _ (s : Setting) (old : List ℕ) where
-  refused : (new : List ℕ) (r : Answer) (k : ℕ) → initial_says s (length old) ≡ refuses (by k) → new ≡ old → r ≡ Refused (by k) → Starts s old new r
+  refused : (new : List ℕ) (r : Says ℕ) (k : Refusal) → initial_says s (length old) ≡ Err k → new ≡ old → r ≡ Err k → Starts s old new r
   refused new r k e n q =
       record {
-        answer = ap says q ∙ sym (ap (seen (λ t. length (image_of t))) e);
+        answer = q ∙ sym (ap (seen (λ t. length (image_of t))) e);
         words = n ∙ sym (ap (lent image_of old) e);
       }
 
-  pub starts_refused : (k : ℕ) (cells kept left : List ℕ) → Tested (setting_check s) cells kept left k → (k ≡ 0 → ⊥) → (x : Refusal) → x ≡ by k → Starts s old old (Refused x)
-  starts_refused k cells kept left t h x q =
-      let r = start_for s (length old) in
-      refused old (Refused x) k (initial_says_lem s (length old) ∙ ap (λ (j : ℕ). first j r) (sym t.says) ∙ first_refuses k r h) refl (ap Refused q)
+  pub starts_refused : (k : Refusal) (cells kept left : List ℕ) (r : Says (Unit {0})) → Tested (setting_says s) cells kept left r → r ≡ Err k → Starts s old old (Err k)
+  starts_refused k cells kept left r t q =
+      refused old (Err k) k (initial_says_lem s (length old) ∙ ap (λ (y : Says (Unit {0})). and_then y (start_for s (length old))) (sym t.says ∙ q)) refl refl
 
 module _ (s : Setting) (e : setting_check s ≡ 0) where
   total_is : length (start_cells s) ≡ s.num_snakes * s.initial_length
@@ -78,11 +77,11 @@ module _ (s : Setting) (cells : List ℕ) (p : Startable s cells) (b : ℕ) (pas
   count_is : b + length cells ≡ length (image_of (initial_state s))
   count_is = omega (arith, ap (λ (l : List ℕ). length l) p.placed, image_long s p.accepted)
 
-  pub starts_short : (old : List ℕ) → length old < b + length cells → (x : Refusal) → x ≡ by 29 → Starts s old old (Refused x)
-  starts_short old h x q =
-      refused s old old (Refused x) 29
-      (rw (initial_says_lem s (length old), p.accepted, lt-ltb (length old) (length (image_of (initial_state s))) (omega (arith, count_is))))
-      refl (ap Refused q)
+  pub starts_short : (old : List ℕ) → length old < b + length cells → Starts s old old (Err Refusal.Buffer)
+  starts_short old h =
+      refused s old old (Err Refusal.Buffer) Refusal.Buffer
+      (rw (initial_says_lem s (length old), accepted_says s p.accepted, lt-ltb (length old) (length (image_of (initial_state s))) (omega (arith, count_is))))
+      refl refl
 
   -- a signed number is handed on as the machine reads it back
   module _ (f : SFits w32 s.grid_size) (g : ℕ) (side : g ≡ side_of (to_z w32 (of_z w32 s.grid_size))) where
@@ -102,16 +101,16 @@ module _ (s : Setting) (cells : List ℕ) (p : Startable s cells) (b : ℕ) (pas
             words = omega arith;
           }
 
-      given : initial_says s (length old) ≡ gives (initial_state s)
-      given = rw (initial_says_lem s (length old), p.accepted, le-ltb (length old) (length (image_of (initial_state s))) (omega (arith, count_is)))
+      given : initial_says s (length old) ≡ Ok (initial_state s)
+      given = rw (initial_says_lem s (length old), accepted_says s p.accepted, le-ltb (length old) (length (image_of (initial_state s))) (omega (arith, count_is)))
 
       pub starts_done : (new : List ℕ)
           → new ≡ write_at old 0 ((s.num_snakes ∷ g ∷ s.initial_food_count ∷ bit (ltb 0 s.initial_food_count) ∷ 0 ∷ []) ++ (concat_below s.num_snakes (start_record s.num_snakes s.initial_length) ++ cells))
-          → Starts s old new (Done (b + length cells))
+          → Starts s old new (Ok (b + length cells))
       starts_done new w =
           let r = concat_below s.num_snakes (start_record s.num_snakes s.initial_length) in
           record {
-            answer = ap gives count_is ∙ sym (ap (seen (λ t. length (image_of t))) given);
+            answer = ap Ok count_is ∙ sym (ap (seen (λ t. length (image_of t))) given);
             words =
                 w
                 ∙ ap (λ (k : ℕ). write_at old 0 ((s.num_snakes ∷ k ∷ s.initial_food_count ∷ bit (ltb 0 s.initial_food_count) ∷ 0 ∷ []) ++ (r ++ cells))) side_is
@@ -123,9 +122,9 @@ module _ (s : Setting) (cells : List ℕ) (p : Startable s cells) (b : ℕ) (pas
 
 -- ---- the call: the check has found nothing, and the cells of all bodies stand at the front
 
-module _ (s : Setting) (k : ℕ) (old new : List ℕ) (t : Tested (setting_check s) (start_cells s) old new k) (z : k ≡ 0) where
+module _ (s : Setting) (r : Says (Unit {0})) (old new : List ℕ) (t : Tested (setting_says s) (start_cells s) old new r) (z : r ≡ Ok tt) where
   none_found : setting_check s ≡ 0
-  none_found = sym t.says ∙ z
+  none_found = says_accepted s (sym t.says ∙ z)
 
   pub total_fits_lem : Fits w64 (s.num_snakes * s.initial_length)
   total_fits_lem = record { fits = omega (arith, total_most s none_found) }

@@ -6,7 +6,7 @@ use events::no_events;
 use lists::word_at;
 use page_file::{load, moves_to, put_entry};
 use referee::Desk;
-use rules::{Answer, Setting};
+use rules::Setting;
 use std::io::{Read, Seek};
 
 // Whether it is known what leads to the page, and whether the line could be written.
@@ -43,15 +43,12 @@ fn put_unknown(image: &[u16]) -> Shown {
 
 fn put_start(setting: Setting, image: &[u16]) -> Shown {
     let mut start = [0u16; 9253];
-    let Answer::Done(words) = arena::initial_state(setting, &mut start) else {
-        return put_unknown(image);
-    };
-    if start.get(..words) != Some(image) {
-        return put_unknown(image);
-    }
-    Shown {
-        known: true,
-        heard: put_still(b'i', image),
+    match arena::initial_state(setting, &mut start) {
+        Ok(words) if start.get(..words) == Some(image) => Shown {
+            known: true,
+            heard: put_still(b'i', image),
+        },
+        _ => put_unknown(image),
     }
 }
 

@@ -8,7 +8,6 @@ mod messages;
 use line::put_state;
 use messages::{put_foot, tell};
 use page_file::{NotLoaded, load, put_board, read_words};
-use parsing::Num;
 use rules::Refusal;
 use std::env::{Env, FillError};
 use std::io::{Read, Seek, SeekFrom};
@@ -41,7 +40,7 @@ fn asked(rt: &HostRuntime) -> Result<u64, Fault> {
     };
     let got = parsing::next_number(&text[..n], 0);
     match got.num {
-        Num::Reads(page) if n < got.next => Ok(page),
+        Some(page) if n < got.next => Ok(page),
         _ => Err(Fault::NoPage),
     }
 }

@@ -91,35 +91,32 @@ fn say_page(front: &[u8], page: u64, back: &[u8]) {
     say(back);
 }
 
-fn say_fault(number: u8) {
-    match number {
-        50 => say(b": words are missing from its contents\n"),
-        51 => say(b": a content word is out of range\n"),
-        52 => say(b": a start is out of line\n"),
-        53 => say(b": its total length is wrong\n"),
-        54 => say(b": a cell is beyond the grid\n"),
-        55 => say(b": a cell stands twice in a body\n"),
-        _ => say(b": its food is not ascending\n"),
-    }
-}
-
-fn say_damaged(why: Refusal, page: u64) {
+// A refusal that shows a word of the page.
+fn say_damaged(why: Refusal, page: u64, fault: &[u8]) {
     say(b"r ");
-    say_number(why.number as u64);
+    say_number(why.number() as u64);
     say(b" ");
-    say_number(why.word as u64);
+    say_number(why.word() as u64);
     say(b": page ");
     say_number(page);
     say(b" is damaged at its word ");
-    say_number(why.word as u64);
-    say_fault(why.number);
+    say_number(why.word() as u64);
+    say(fault);
 }
 
 fn tell_refused(why: Refusal, page: u64, pages: u64) {
-    match why.number {
-        40 => say(b"r 40: this is no match book, or its contents are damaged\n"),
-        41 => say_pages(pages),
-        50..=255 => say_damaged(why, page),
+    match why {
+        Refusal::Contents => say(b"r 40: this is no match book, or its contents are damaged\n"),
+        Refusal::Page => say_pages(pages),
+        Refusal::CutShort(_) => {
+            say_damaged(why, page, b": words are missing from its contents\n")
+        }
+        Refusal::OutOfRange(_) => { say_damaged(why, page, b": a content word is out of range\n") }
+        Refusal::Start(_) => say_damaged(why, page, b": a start is out of line\n"),
+        Refusal::Total(_) => say_damaged(why, page, b": its total length is wrong\n"),
+        Refusal::CellBeyond(_) => say_damaged(why, page, b": a cell is beyond the grid\n"),
+        Refusal::CellTwice(_) => say_damaged(why, page, b": a cell stands twice in a body\n"),
+        Refusal::FoodOrder(_) => say_damaged(why, page, b": its food is not ascending\n"),
         _ => say_page(
             b"r 21: page ",
             page,

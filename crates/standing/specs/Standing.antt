@@ -1,11 +1,9 @@
 -- How a match stands: the moves made, the move on which each snake died, who lost and lives, its end and its last line (01, 'Replay'; 02, wish 3).
 -- Assumes nothing.
-use Rattle.std.specs.Prelude.{ℕ, ◌+◌, Bool, false, not, ◌&&◌, ◌||◌, List, ltb, leb, get_or, replicate}
+use Rattle.std.specs.Prelude.{ℕ, ◌+◌, Bool, false, not, ◌&&◌, ◌||◌, List, ltb, leb, get_or, replicate, Option, Some, None}
 use Rattle.lists.specs.Choice.{◌if◌else◌}
 use Rattle.lists.specs.Below.{filled}
 use Rattle.rules.specs.Events.{blank}
-use Rattle.rules.specs.declared.Limit.{Limit}
-use Rattle.rules.specs.declared.Limit.TheVariants.{Unset, Is}
 use Rattle.rules.specs.declared.Event.{Event}
 use Rattle.rules.specs.declared.Setting.{Setting}
 use Rattle.printing.specs.Text.{placings_text}
@@ -28,9 +26,9 @@ abbrev pub counted : ℕ → ℕ
 counted k = k + 1 if ltb k 18446744073709551615 else k
 
 -- 'moves at or above max_ticks'
-abbrev pub reached : Limit → ℕ → Bool
-reached Unset k = false
-reached (Is most) k = leb most k
+abbrev pub reached : Option ℕ → ℕ → Bool
+reached None k = false
+reached (Some most) k = leb most k
 
 -- 'After a move that is not terminal'
 abbrev pub ends_by : Match → Bool → Bool

@@ -5,8 +5,7 @@ ghost use Rattle.standing.specs.Calls.{move_says, Takes};
 
 use crate::moves::{after_move, events_shown};
 use crate::{Match, Taken};
-use refusals::by;
-use rules::{Event, Setting, Verdict};
+use rules::{Event, Refusal, Setting};
 
 // A match that has just begun.
 pub fn new_match(setting: Setting) -> Match
@@ -23,19 +22,14 @@ pub fn new_match(setting: Setting) -> Match
 }
 
 // A move: `over` and `events` are a step's answer, `image` is what it wrote. Refusal 33.
-pub fn take_move(m: Match, over: bool, image: &[u16], events: [Event; 8]) -> Taken
-    ensures { Takes (move_says m over image.now events) m events result }
+pub fn take_move(m: Match, over: bool, image: &[u16], events: [Event; 8]) -> Result<Taken, Refusal>
+    ensures { Takes (move_says m over image.now events) result }
 {
     if m.over {
-        return Taken {
-            verdict: Verdict::Refused(by(33)),
-            game: m,
-            events,
-        };
+        return Err(Refusal::Over);
     }
-    Taken {
-        verdict: Verdict::Accepted,
+    Ok(Taken {
         game: after_move(m, over, events),
         events: events_shown(m, over, image, events),
-    }
+    })
 }

@@ -10,11 +10,11 @@ mod shown;
 pub use calls::{new_match, take_move};
 pub use moves::{after_move, events_shown, snakes_of};
 pub use placings::places;
-use rules::{Event, Setting, Verdict};
+use rules::{Event, Setting};
 pub use shown::{put_end, put_line};
 
 // The setting, the moves made, for each snake the move on which it died (0 while it lives) and whether it lost and lives, whether the
-// match is over, and whether max_ticks ended it.
+// match is over, and whether max_ticks ended it. A death is a number with 0 for the living, since the definitions `outlives` and `death_at` count so.
 #[derive(Clone, Copy)]
 pub struct Match {
     pub setting: Setting,
@@ -25,10 +25,9 @@ pub struct Match {
     pub timeout: bool,
 }
 
-// What a move makes of a match, and its events as the replay shows them; on a refusal both are as they were.
+// What a move makes of a match, and its events as the replay shows them.
 #[derive(Clone, Copy)]
 pub struct Taken {
-    pub verdict: Verdict,
     pub game: Match,
     pub events: [Event; 8],
 }

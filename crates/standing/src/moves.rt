@@ -10,7 +10,7 @@ use crate::Match;
 use events::{mark, no_events};
 use layout::alive_at;
 use lists::word_at;
-use rules::{Event, Limit};
+use rules::Event;
 
 fn at_most_eight(n: u64) -> usize
     ensures { (result ≡ few n) × (result ≤ 8) }
@@ -32,13 +32,10 @@ fn count_on(k: u64) -> u64
     k.saturating_add(1)
 }
 
-fn has_reached(limit: Limit, k: u64) -> bool
+fn has_reached(limit: Option<u64>, k: u64) -> bool
     ensures { result ≡ reached limit k }
 {
-    match limit {
-        Limit::Unset => false,
-        Limit::Is(most) => most <= k,
-    }
+    limit.is_some_and(|most| most <= k)
 }
 
 // Whether a move ends the match by max_ticks.

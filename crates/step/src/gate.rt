@@ -5,7 +5,7 @@ ghost use Rattle.rules.specs.Facts.{Sound};
 ghost use Rattle.rules.specs.Orders.{bad_action};
 ghost use Rattle.step.specs.Asked.{AsksImage, Asks};
 
-use rules::{Setting, Verdict};
+use rules::{Refusal, Setting};
 
 // 25: a living snake's action above 2.
 fn has_bad_action(image: &[u16], actions: &[u64]) -> bool
@@ -21,35 +21,30 @@ fn has_bad_action(image: &[u16], actions: &[u64]) -> bool
 }
 
 // 21, 22, 24, 25, asked of a checked image.
-fn asked_in(setting: Setting, image: &[u16], actions: &[u64]) -> Verdict
+fn asked_in(setting: Setting, image: &[u16], actions: &[u64]) -> Result<(), Refusal>
     requires { Sound image.now }
     ensures { AsksImage setting image.now actions.now result }
 {
     if setting::differs(setting, image) {
-        return Verdict::Refused(refusals::by(21));
+        return Err(Refusal::OtherSetting);
     }
     if 0 < image[2] {
-        return Verdict::Refused(refusals::by(22));
+        return Err(Refusal::FoodDue);
     }
     if actions.len() != image[0] as usize {
-        return Verdict::Refused(refusals::by(24));
+        return Err(Refusal::ActionCount);
     }
     if has_bad_action(image, actions) {
-        return Verdict::Refused(refusals::by(25));
+        return Err(Refusal::Action);
     }
-    Verdict::Accepted
+    Ok(())
 }
 
 // What is asked before anything is judged: every refusal of a step but 29.
-pub fn asked(setting: Setting, image: &[u16], actions: &[u64]) -> Verdict
+pub fn asked(setting: Setting, image: &[u16], actions: &[u64]) -> Result<(), Refusal>
     ensures { Asks setting image.now actions.now result }
 {
-    let verdict = setting::validate(setting);
-    let Verdict::Accepted = verdict else {
-        return verdict;
-    };
-    if !image::well_formed(image) {
-        return Verdict::Refused(image::fault_in(image));
-    }
+    setting::validate(setting)?;
+    image::check_image(image)?;
     asked_in(setting, image, actions)
 }

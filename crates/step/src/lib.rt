@@ -13,26 +13,19 @@ ghost use Rattle.rules.specs.Facts.{Sound};
 ghost use Rattle.rules.specs.Step.{stepped};
 ghost use Rattle.rules.specs.Promises.{Steps};
 ghost use Rattle.step.specs.Applied.{Applied};
-ghost use Rattle.step.specs.Asked.{RefusedBy};
 
 pub use conclusion::{apply, conclude};
-use events::no_events;
 pub use gate::asked;
 use judge::judge;
-use rules::{Answer, Refusal, Setting, Stepped, Verdict};
-
-fn refused(why: Refusal) -> Stepped
-    ensures { RefusedBy why result }
-{
-    Stepped {
-        answer: Answer::Refused(why),
-        terminal: false,
-        events: no_events(),
-    }
-}
+use rules::{Refusal, Setting, Stepped};
 
 // The step of a checked image: judge all on one world, then apply.
-fn go_on(setting: Setting, image: &[u16], actions: &[u64], out: &mut [u16]) -> Stepped
+fn go_on(
+    setting: Setting,
+    image: &[u16],
+    actions: &[u64],
+    out: &mut [u16],
+) -> Result<Stepped, Refusal>
     requires sound { Sound image.now }
     requires actions_len { length actions.now ≡ snakes_in image.now }
     ensures { Applied (stepped setting (state_of image.now) actions.now) out.old out.new result }
@@ -41,11 +34,14 @@ fn go_on(setting: Setting, image: &[u16], actions: &[u64], out: &mut [u16]) -> S
     apply(setting, image, judged, out)
 }
 
-pub fn step(setting: Setting, image: &[u16], actions: &[u64], out: &mut [u16]) -> Stepped
+pub fn step(
+    setting: Setting,
+    image: &[u16],
+    actions: &[u64],
+    out: &mut [u16],
+) -> Result<Stepped, Refusal>
     ensures { Steps setting image.now actions.now out.old out.new result }
 {
-    match asked(setting, image, actions) {
-        Verdict::Refused(why) => refused(why),
-        Verdict::Accepted => go_on(setting, image, actions, out),
-    }
+    asked(setting, image, actions)?;
+    go_on(setting, image, actions, out)
 }

@@ -1,6 +1,5 @@
 -- From what `feed` and `take_line` promise to what a step of the stream does. Assumes nothing.
 use Prim.Native.Nat.{ℕ, suc, ◌+◌, ◌-◌, ◌<◌, ◌≤◌}
-use native.Mathlib.Nat.{sub-zero}
 use native.Mathlib.Omega.{arith}
 use mathlib.Core.Path.{◌≡◌, refl, sym, ap, ◌∙◌}
 use mathlib.Core.Bool.{Bool, true, false, cond}
@@ -41,10 +40,10 @@ below a b h e = elim (ordered a b) [ less l t ↦ l | more l t ↦ absurd (e (om
 -- ---- the line that is held
 
 pub took_held : (r : Progress) (line image new next list out exit : List ℕ) (t : Turned) → Ready r line image → Spare next list out
-    → Plays (line_says r.desk (take r.desk.words image) (take (r.fill - 0) (drop 0 line)) (length next) (length list)) r.desk.game image new out exit t
+    → Plays (line_says r.desk (take r.desk.words image) (take r.fill line) (length next) (length list)) r.desk.game image new out exit t
     → (s : List ℕ) → Holds line r.fill s → Took r.desk image (s ++ []) new (take t.text exit) t
 took_held r line image new next list out exit t e b p s h =
-    let q : Plays (line_says r.desk (take r.desk.words image) (take r.fill line) 9253 1024) r.desk.game image new out exit t = rw (sub-zero r.fill, b.room, b.cells) at p in
+    let q : Plays (line_says r.desk (take r.desk.words image) (take r.fill line) 9253 1024) r.desk.game image new out exit t = rw (b.room, b.cells) at p in
     let k : Took r.desk image s new (take t.text exit) t = record { buffer = line; fill = r.fill; long = e.wide; held = h; out = out; exit = exit; plays = q; prints = refl } in
     rw (append-nil s) k
 

@@ -58,7 +58,7 @@ fn take_held(
     ensures takes { Takes r result line.now [] image.old image.new out.new }
     ensures at_value { result.at ≡ at }
 {
-    let t = referee::take_line(r.desk, image, next, list, &line[0..r.fill], out);
+    let t = referee::take_line(r.desk, image, next, list, &line[..r.fill], out);
     let desk = Desk {
         begun: true,
         game: t.game,

@@ -1,6 +1,6 @@
 -- What is told in lent arrays: the refusal, and the arrays afterwards. Assumes nothing.
-use Rattle.std.specs.Prelude.{ℕ, List, [], ◌∷◌, ◌≡◌, length, take, drop}
-use Rattle.rules.specs.Says.{Says, refuses, gives}
+use Rattle.std.specs.Prelude.{ℕ, List, [], ◌∷◌, ◌≡◌, length, take, drop, Ok, Err}
+use Rattle.rules.specs.Says.{Says}
 use Rattle.rules.specs.Calls.{body_asked}
 use Rattle.image.specs.Memory.{start_asked}
 use Rattle.flat.specs.Flat.{refusal_number}
@@ -10,14 +10,14 @@ use Rattle.flat.specs.Flat.{refusal_number}
 module _ {A : Type 0} where
   -- 0 for an answer
   abbrev pub refusal_of : Says A → ℕ
-  refusal_of (refuses k) = refusal_number k
-  refusal_of (gives a) = 0
+  refusal_of (Err k) = refusal_number k
+  refusal_of (Ok a) = 0
 
 module _ {A B : Type 0} where
   -- a lent array afterwards: 'A refusal .. leaves all lent words untouched', an answer is the whole array
   abbrev pub told : (A → List B) → List B → Says A → List B
-  told f old (refuses k) = old
-  told f old (gives a) = f a
+  told f old (Err k) = old
+  told f old (Ok a) = f a
 
 abbrev pub one : {A : Type 0} → A → List A
 one x = x ∷ []

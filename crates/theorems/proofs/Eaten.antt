@@ -1,4 +1,5 @@
 -- 'Food due = apples eaten': the surviving eaters are as many as the apples that are gone. Assumes nothing.
+use Rattle.std.specs.Prelude.{Option, Some, None}
 use Prim.Native.Nat.{ℕ, zero, suc, ◌+◌, ◌<◌}
 use native.Mathlib.Nat.{le_refl}
 use native.Mathlib.Omega.{arith}
@@ -27,7 +28,7 @@ use Rattle.rules.specs.declared.Heading.{Heading}
 use Rattle.rules.specs.declared.Place.{Place}
 use Rattle.rules.specs.declared.Setting.{Setting}
 use Rattle.rules.specs.declared.Cause.{Cause}
-use Rattle.rules.specs.declared.Cause.TheVariants.{NoCause, Wall, SelfBody, OppBody, HeadOn}
+use Rattle.rules.specs.declared.Cause.TheVariants.{Wall, SelfBody, OppBody, HeadOn}
 use Rattle.rules.proofs.Grid.{same_cell}
 use Rattle.rules.proofs.StepFacts.{survivor_clear}
 
@@ -87,7 +88,7 @@ module _ (l : List ℕ) (d : distinct l ≡ true) (x : ℕ → ℕ) (e : ℕ →
 -- ---- of a step
 
 unmet : (moves heads on own opp : Bool) → moves ≡ true
-    → dies (NoCause if not moves else HeadOn if heads else Wall if not on else SelfBody if own else OppBody if opp else NoCause) ≡ false
+    → dies (None if not moves else (Some HeadOn) if heads else (Some Wall) if not on else (Some SelfBody) if own else (Some OppBody) if opp else None) ≡ false
     → heads ≡ false
 unmet true true on own opp t e = absurd (true≢false e)
 unmet true false on own opp t e = refl
@@ -95,8 +96,8 @@ unmet false heads on own opp t e = absurd (false≢true t)
 
 module _ (g n : ℕ) (food : List ℕ) (m : ℕ → Moved)
     (on : (i : ℕ) → i < n → (m i).eats ≡ true → ((m i).moves ≡ true) × (member (cell_of g (m i).head) food ≡ true)) where
-  abbrev cause : ℕ → Cause
-  cause j = get_or (each_below n (cause_of g n m)) j NoCause
+  abbrev cause : ℕ → Option Cause
+  cause j = get_or (each_below n (cause_of g n m)) j None
 
   abbrev cell : ℕ → ℕ
   cell j = get_or (each_below n (λ i. cell_of g (m i).head)) j 0
@@ -109,7 +110,7 @@ module _ (g n : ℕ) (food : List ℕ) (m : ℕ → Moved)
   eater i h t =
       let u : ate_now (m i) (cause i) ≡ true = sym (each_at n (λ i. ate_now (m i) (cause i)) false i h) ∙ t in (
         and_left (m i).eats (not (dies (cause i))) u,
-        ap dies (sym (each_at n (cause_of g n m) NoCause i h)) ∙ not-true (dies (cause i)) (and_right (m i).eats (not (dies (cause i))) u),
+        ap dies (sym (each_at n (cause_of g n m) None i h)) ∙ not-true (dies (cause i)) (and_right (m i).eats (not (dies (cause i))) u),
       )
 
   cell_at : (i : ℕ) → i < n → cell i ≡ cell_of g (m i).head

@@ -1,5 +1,6 @@
 -- In the events of a step a living snake has lost exactly where another leads it: then the step is terminal by the lead, two live, and the
 -- longer won. So max_ticks ends no match by the lead. Assumes nothing.
+use Rattle.std.specs.Prelude.{Option, Some, None}
 use Prim.Native.Nat.{ℕ, zero, suc, ◌-◌, ◌<◌}
 use native.Mathlib.Nat.{le_refl}
 use native.Mathlib.Omega.{arith}
@@ -18,10 +19,7 @@ use Rattle.rules.specs.State.{Snake, State, nobody, count}
 use Rattle.rules.specs.Events.{dies, blank}
 use Rattle.rules.specs.Step.{Moved, Transition, cause_of, after, alive, deaths, leads, transition_of, stepped}
 use Rattle.rules.specs.declared.Cause.{Cause}
-use Rattle.rules.specs.declared.Cause.TheVariants.{NoCause}
 use Rattle.rules.specs.declared.Event.{Event}
-use Rattle.rules.specs.declared.Limit.{Limit}
-use Rattle.rules.specs.declared.Limit.TheVariants.{Unset, Is}
 use Rattle.rules.specs.declared.Setting.{Setting}
 use Rattle.standing.specs.Standing.{lost_alive, reached, counted, ends_by}
 use Rattle.standing.specs.declared.Match.{Match}
@@ -43,9 +41,9 @@ some_one (suc n) p e = go (some_below n p) (p n) (some_one n p) refl e
 
 -- ---- what a lead says
 
-pub record Leading (n : ℕ) (l : Limit) (z : ℕ → Snake) (i j : ℕ) : Type 0 where
+pub record Leading (n : ℕ) (l : Option ℕ) (z : ℕ → Snake) (i j : ℕ) : Type 0 where
   pub lead : ℕ
-  pub set : l ≡ Is lead
+  pub set : l ≡ Some lead
   pub two : count_below n (λ a. (z a).alive) ≡ 2
   pub longer : (z i).alive ≡ true
   pub other : (z j).alive ≡ true
@@ -64,20 +62,20 @@ five true true false d e h = absurd (false≢true h)
 five true true true false e h = absurd (false≢true h)
 five true true true true e h = record { one = refl; two = refl; three = refl; four = refl }
 
-module _ (n : ℕ) (c : ℕ → Cause) (z : ℕ → Snake) where
-  pub leading : (l : Limit) (i j : ℕ) → leads n c z l i j ≡ true → Leading n l z i j
-  leading Unset i j e = absurd (false≢true e)
-  leading (Is k) i j e =
+module _ (n : ℕ) (c : ℕ → Option Cause) (z : ℕ → Snake) where
+  pub leading : (l : Option ℕ) (i j : ℕ) → leads n c z l i j ≡ true → Leading n l z i j
+  leading None i j e = absurd (false≢true e)
+  leading (Some k) i j e =
       let f = five (eqb (alive n c z) 2) (z i).alive (z j).alive (ltb (length (z j).body) (length (z i).body)) (leb k (length (z i).body - length (z j).body)) e in
       record { lead = k; set = refl; two = eqb-true (alive n c z) 2 f.one; longer = f.two; other = f.three; apart = ltb-true (length (z j).body) (length (z i).body) f.four }
 
   -- the causes have no part in it
-  causes_aside : (l : Limit) (i j : ℕ) → leads n (λ _. NoCause) z l i j ≡ leads n c z l i j
-  causes_aside Unset i j = refl
-  causes_aside (Is k) i j = refl
+  causes_aside : (l : Option ℕ) (i j : ℕ) → leads n (λ _. None) z l i j ≡ leads n c z l i j
+  causes_aside None i j = refl
+  causes_aside (Some k) i j = refl
 
   -- a corpse is not led
-  pub corpse_unled : (l : Limit) (i j : ℕ) → (z j).alive ≡ false → leads n c z l i j ≡ false
+  pub corpse_unled : (l : Option ℕ) (i j : ℕ) → (z j).alive ≡ false → leads n c z l i j ≡ false
   corpse_unled l i j e = elim (tell (leads n c z l i j)) [
     | inl t ↦ absurd (true≢false (sym (leading l i j t).other ∙ e))
     | inr f ↦ f
@@ -100,13 +98,13 @@ module _ (s : Setting) (g n : ℕ) (food : List ℕ) (m : ℕ → Moved) where
   abbrev o : Transition
   o = transition_of s g n food m
 
-  abbrev c : ℕ → Cause
-  c j = get_or (each_below n (cause_of g n m)) j NoCause
+  abbrev c : ℕ → Option Cause
+  c j = get_or (each_below n (cause_of g n m)) j None
 
   abbrev z : ℕ → Snake
   z j = get_or (each_below n (λ j. after g (m j) (c j))) j nobody
 
-  abbrev l : Limit
+  abbrev l : Option ℕ
   l = s.win_food_lead
 
   casualty : (i : ℕ) → i < n → dies (c i) ≡ true → (z i).alive ≡ false
@@ -126,7 +124,7 @@ module _ (s : Setting) (g n : ℕ) (food : List ℕ) (m : ℕ → Moved) where
   -- the next state says who leads
   leads_next : (i j : ℕ) → leads_in s o.next i j ≡ leads n c z l i j
   unfolding transition_of
-  leads_next i j = ap (λ (k : ℕ). leads k (λ _. NoCause) z l i j) snakes_long ∙ causes_aside n c z l i j
+  leads_next i j = ap (λ (k : ℕ). leads k (λ _. None) z l i j) snakes_long ∙ causes_aside n c z l i j
 
   led_next : (i : ℕ) → i < n → lost_alive (get_or o.events i blank) ≡ led_in s o.next i
   led_next i h =

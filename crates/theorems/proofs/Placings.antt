@@ -1,5 +1,6 @@
 -- Exactly the matches that the lead ends have another `p` line than 01 gave them, 1 for the longer snake and 2 for the other: of every turn that a
 -- replay comes to, and so of every output. Assumes nothing.
+use Rattle.std.specs.Prelude.{Option, None, Ok, Err, Some}
 use Prim.Native.Nat.{ℕ, zero, suc, ◌+◌, ◌-◌, ◌<◌}
 use native.Mathlib.Omega.{arith}
 use mathlib.Core.Path.{◌≡◌, refl, sym, ap, ◌∙◌}
@@ -20,12 +21,10 @@ use Rattle.rules.specs.Setting.{setting_check, initial_state}
 use Rattle.rules.specs.SettingFacts.{Accepts}
 use Rattle.rules.specs.Step.{Moved, Transition, stays, moved_of, cause_of, after, transition_of, stepped}
 use Rattle.rules.specs.Chance.{drawn, after_draw}
-use Rattle.rules.specs.Tables.{by}
-use Rattle.rules.specs.Says.{Says, refuses, gives, first, seen}
+use Rattle.rules.specs.Says.{Says, seen}
 use Rattle.rules.specs.Calls.{initial_says, step_says, draw_says}
 use Rattle.rules.specs.Orders.{initial_order, step_order, draw_order}
 use Rattle.rules.specs.declared.Cause.{Cause}
-use Rattle.rules.specs.declared.Cause.TheVariants.{NoCause}
 use Rattle.rules.specs.declared.Event.{Event}
 use Rattle.rules.specs.declared.Setting.{Setting}
 use Rattle.rules.proofs.Image.{state_back}
@@ -34,18 +33,21 @@ use Rattle.rules.proofs.SettingFacts.{accepts}
 use Rattle.rules.proofs.Tables.{given_is, initial_says_lem, start_for}
 use Rattle.parsing.specs.Lines.{read_first, read_later}
 use Rattle.parsing.specs.Split.{lines_of}
-use Rattle.parsing.specs.declared.First.{First}
-use Rattle.parsing.specs.declared.First.TheVariants.{NoFirst, Opens}
 use Rattle.parsing.specs.declared.Line.{Line}
-use Rattle.parsing.specs.declared.Line.TheVariants.{NoLine, DrawLine, MoveLine}
+use Rattle.parsing.specs.declared.Line.TheVariants as Line
 use Rattle.printing.specs.Text.{digits_up_to, decimal_text, refusal_text, placings_text}
 use Rattle.standing.specs.Placings.{placing_of, end_placing, placings_of}
 use Rattle.standing.specs.Standing.{fresh, snakes_of, counted, death_at, behind_at, lost_alive, ends_by, moved, end_text}
 use Rattle.standing.specs.declared.Match.{Match}
-use Rattle.referee.specs.Match.{Turn, opened, opened_by, begin_says, drawn_turn, moved_turn, asked_by, asked, turn_says, play_on, played, replay_of}
+use Rattle.referee.specs.Match.{Turn, opened, opened_by, begin_says, drawn_turn, moved_turn, asked, turn_says, play_on, played, replay_of}
 use Rattle.referee.proofs.Saying.{snakes_kept}
 use Rattle.theorems.specs.Lead.{leads_in, led_in, by_lead, end_before, two_places, Reached, begun, taken, Ending, refused, placed, place_of, Placed}
 use Rattle.theorems.proofs.Lead.{Leading, leading, found, some_one, corpse_unled, living_lost, lead_terminal}
+use Rattle.rules.specs.declared.refusal.Refusal.TheVariants as Refusal
+use Rattle.rules.specs.Refusals.{code_of}
+use Rattle.rules.proofs.SettingParts.{says_accepted}
+use Rattle.rules.proofs.Tables.{then_first}
+use Rattle.rules.specs.Calls.{setting_says}
 
 -- ---- what is known of a match m and its state t
 
@@ -58,7 +60,7 @@ record Known (m : Match) (t : State) : Type 0 where
 
 -- who leads, in a state
 lead_facts : (s : Setting) (t : State) (i j : ℕ) → leads_in s t i j ≡ true → Leading (count t) s.win_food_lead (snake_of t) i j
-lead_facts s t i j e = leading (count t) (λ _. NoCause) (snake_of t) s.win_food_lead i j e
+lead_facts s t i j e = leading (count t) (λ _. None) (snake_of t) s.win_food_lead i j e
 
 -- one who is led makes it the end by the lead
 led_ends : (s : Setting) (t : State) (i : ℕ) → i < count t → led_in s t i ≡ true → by_lead s t ≡ true
@@ -119,7 +121,7 @@ survives_in : (s : Setting) (g n : ℕ) (food : List ℕ) (m : ℕ → Moved) (i
     → ((m i).moves ≡ true) × ((get_or (transition_of s g n food m).events i blank).died ≡ false)
 unfolding transition_of
 survives_in s g n food m i h e =
-    let c : ℕ → Cause = λ j. get_or (each_below n (cause_of g n m)) j NoCause in
+    let c : ℕ → Option Cause = λ j. get_or (each_below n (cause_of g n m)) j None in
     let f : ((m i).moves && not (dies (c i))) ≡ true = sym (ap (λ (z : Snake). z.alive) (each_at n (λ j. after g (m j) (c j)) nobody i h)) ∙ e in (
       and_left (m i).moves (not (dies (c i))) f,
       ap (λ (x : Event). x.died) (each_at n _ blank i h) ∙ not-true (dies (c i)) (and_right (m i).moves (not (dies (c i))) f),
@@ -174,36 +176,32 @@ module _ (m : Match) (t : State) (acts : List ℕ) (k : Known m t) where
 -- ---- every turn that a replay comes to
 
 data Seen {A B : Type 0} (f : A → B) (x : Says A) (b : B) : Type 0 where
-  saw : (a : A) → x ≡ gives a → f a ≡ b → Seen f x b
+  saw : (a : A) → x ≡ Ok a → f a ≡ b → Seen f x b
 
-seen_gives : {A B : Type 0} (f : A → B) (x : Says A) (b : B) → seen f x ≡ gives b → Seen f x b
-seen_gives f (refuses k) b e = let z : ◌≡◌ {A = ℕ} 0 1 = cc in absurd (omega arith)
-seen_gives f (gives a) b e = saw a refl cc
+seen_gives : {A B : Type 0} (f : A → B) (x : Says A) (b : B) → seen f x ≡ Ok b → Seen f x b
+seen_gives f (Err k) b e = let z : ◌≡◌ {A = ℕ} 0 1 = cc in absurd (omega arith)
+seen_gives f (Ok a) b e = saw a refl cc
 
-check_passed : (k : ℕ) (r : Says State) (t : State) → first k r ≡ gives t → k ≡ 0
-check_passed zero r t e = refl
-check_passed (suc k) r t e = let z : ◌≡◌ {A = ℕ} 0 1 = cc in absurd (omega arith)
-
-opens : (x : First) (room : ℕ) (t : Turn) → opened_by x room ≡ gives t → Known t.game t.next
+opens : (x : Option Setting) (room : ℕ) (t : Turn) → opened_by x room ≡ Ok t → Known t.game t.next
 unfolding initial_says
-opens NoFirst room t e = let z : ◌≡◌ {A = ℕ} 0 1 = cc in absurd (omega arith)
-opens (Opens s) room t e = elim (seen_gives (opened s) (initial_says s room) t e) [
+opens None room t e = let z : ◌≡◌ {A = ℕ} 0 1 = cc in absurd (omega arith)
+opens (Some s) room t e = elim (seen_gives (opened s) (initial_says s room) t e) [
   | saw a p q ↦
-      let z = check_passed (setting_check s) (start_for s room) a (sym (initial_says_lem s room) ∙ p) in
+      let z = says_accepted s (then_first (setting_says s) (start_for s room) a (sym (initial_says_lem s room) ∙ p)) in
       rw (← q, ← given_is (initial_order s room) (initial_state s) a p) (start_known s (accepts s z))
 ]
 
-asks : (m : Match) (t : State) (room cells : ℕ) (x : Line) (acts : List ℕ) (u : Turn) → Known m t → asked_by m (image_of t) room cells x acts ≡ gives u → Known u.game u.next
+asks : (m : Match) (t : State) (room cells : ℕ) (x : Option Line) (u : Turn) → Known m t → asked m (image_of t) room cells x ≡ Ok u → Known u.game u.next
 unfolding draw_says step_says moved_turn
-asks m t room cells NoLine acts u k e = let z : ◌≡◌ {A = ℕ} 0 1 = cc in absurd (omega arith)
-asks m t room cells (DrawLine i) acts u k e =
+asks m t room cells None u k e = let z : ◌≡◌ {A = ℕ} 0 1 = cc in absurd (omega arith)
+asks m t room cells (Some (Line.Draw i)) u k e =
     let w = image_of t in
     elim (seen_gives (drawn_turn m) (draw_says w i room cells) u e) [
       | saw d p q ↦
           let n = given_is (draw_order w i room cells) (record { next = after_draw (state_of w) i; cells = drawn (state_of w) i }) d p in
           rw (← q, ← n, state_back t) (drawn_known m t i k)
     ]
-asks m t room cells MoveLine acts u k e =
+asks m t room cells (Some (Line.Move acts)) u k e =
     let w = image_of t in
     let l = take (snakes_of m) acts in
     elim (seen_gives (moved_turn m) (step_says m.setting w l room) u e) [
@@ -212,7 +210,7 @@ asks m t room cells MoveLine acts u k e =
           rw (← q, ← n, state_back t) (step_known m t l k)
     ]
 
-before_33 : (b : Bool) (x : Says Turn) (u : Turn) → (refuses (by 33) if b else x) ≡ gives u → x ≡ gives u
+before_33 : (b : Bool) (x : Says Turn) (u : Turn) → (Err Refusal.Over if b else x) ≡ Ok u → x ≡ Ok u
 before_33 true x u e = let z : ◌≡◌ {A = ℕ} 0 1 = cc in absurd (omega arith)
 before_33 false x u e = e
 
@@ -222,7 +220,7 @@ known t (begun line room e) = opens (read_first line) room t e
 known t (taken v line room cells r e) =
     let x = read_later (snakes_of v.game) line in
     let k = known v r in
-    asks v.game v.next room cells x.line x.acts t k (before_33 v.game.over (asked v.game (image_of v.next) room cells x) t e)
+    asks v.game v.next room cells x t k (before_33 v.game.over (asked v.game (image_of v.next) room cells x) t e)
 
 -- ---- its placings
 
@@ -361,7 +359,7 @@ module _ (m : Match) (t : State) (k : Known m t) where
     second = longer_second;
     others = same_line;
     living = λ e i h a. as_before i h (none_led s t i h e) ∙ lives_first i h a;
-    dead = λ i h a. as_before i h (some_false (λ j. leads_in s t j i) (count t) (λ j _. corpse_unled (count t) (λ _. NoCause) (snake_of t) s.win_food_lead j i a));
+    dead = λ i h a. as_before i h (some_false (λ j. leads_in s t j i) (count t) (λ j _. corpse_unled (count t) (λ _. None) (snake_of t) s.win_food_lead j i a));
   }
 
 pub places_by_lead : (t : Turn) → Reached t → Placed t.game t.next
@@ -369,15 +367,15 @@ places_by_lead t r = placed_by t.game t.next (known t r)
 
 -- ---- every output
 
-ends_on : (lines : List (List ℕ)) (x : Says Turn) → ((t : Turn) → x ≡ gives t → Reached t) → Ending (play_on lines x)
+ends_on : (lines : List (List ℕ)) (x : Says Turn) → ((t : Turn) → x ≡ Ok t → Reached t) → Ending (play_on lines x)
 unfolding play_on
-ends_on [] (refuses k) r = refused [] k refl
-ends_on [] (gives t) r = placed t.text t (r t refl) refl
-ends_on (line ∷ lines) (refuses k) r = refused [] k refl
-ends_on (line ∷ lines) (gives t) r =
+ends_on [] (Err k) r = refused [] k refl
+ends_on [] (Ok t) r = placed t.text t (r t refl) refl
+ends_on (line ∷ lines) (Err k) r = refused [] k refl
+ends_on (line ∷ lines) (Ok t) r =
     let rest = ends_on lines (turn_says t.game (image_of t.next) line 9253 1024) (λ u e. taken t line 9253 1024 (r t refl) e) in
     elim rest [
-      | refused shown k q ↦ refused (t.text ++ shown) k (ap (λ (l : List ℕ). t.text ++ l) q ∙ sym (append_assoc t.text shown (refusal_text k.number)))
+      | refused shown k q ↦ refused (t.text ++ shown) k (ap (λ (l : List ℕ). t.text ++ l) q ∙ sym (append_assoc t.text shown (refusal_text (code_of k))))
       | placed shown u v q ↦ placed (t.text ++ shown) u v (ap (λ (l : List ℕ). t.text ++ l) q ∙ sym (append_assoc t.text shown (end_text u.game)))
     ]
 
@@ -387,5 +385,5 @@ unfolding replay_of
 replay_ends input = go (lines_of input)
   where
     go : (lines : List (List ℕ)) → Ending (played lines)
-    go [] = refused [] (by 32) refl
+    go [] = refused [] Refusal.Line refl
     go (line ∷ lines) = ends_on lines (begin_says line 9253) (λ t e. begun line 9253 e)

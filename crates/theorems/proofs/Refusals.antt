@@ -1,5 +1,6 @@
 -- Demand 1 of each call: an answer, or exactly the table's number in the table's order; a refusal leaves every lent word, and an answer
 -- the words after those that it wrote. A call is spoken of by its promise, which its code is proved to meet. Assumes nothing.
+use Rattle.std.specs.Prelude.{Option, Ok, Err}
 use Prim.Native.Nat.{ℕ}
 use native.Mathlib.Omega.{arith}
 use mathlib.Core.Path.{◌≡◌, refl, sym, ap, ◌∙◌}
@@ -21,44 +22,28 @@ use Rattle.rules.specs.View.{view, lit}
 use Rattle.rules.specs.LengthKey.{length_key}
 use Rattle.rules.specs.Turns.{chance_acts, legal_for, truncated}
 use Rattle.rules.specs.Reward.{reward_of}
-use Rattle.rules.specs.Says.{Says, refuses, gives, by_table, seen, beside, lent, says, says_verdict, says_number, says_key, says_actor, says_legal, says_mark, says_sum, box, says_space}
-use Rattle.rules.specs.Calls.{setting_says, image_says, initial_says, step_says, struck_says, observe_says, count_says, Draw, draw_says, rank_says, actor_says, legal_says, key_says, truncation_says, reward_says, space_says}
+use Rattle.rules.specs.Says.{Says, by_table, seen, beside, lent, chance_of, actions_of, box, shape_of}
+use Rattle.rules.specs.Calls.{stepped_of, drawn_of, setting_says, image_says, initial_says, step_says, struck_says, observe_says, count_says, Draw, draw_says, rank_says, actor_says, legal_says, key_says, truncation_says, reward_says, space_says}
 use Rattle.rules.specs.Promises.{Examines, Validates, Starts, Steps, Strikes, Observes, Counts, Draws, Ranks, ActsNext, Allows, Keys, Truncates, Rewards, ObservationSpace}
 use Rattle.rules.specs.declared.Setting.{Setting}
 use Rattle.rules.specs.declared.Event.{Event}
 use Rattle.rules.specs.declared.Weights.{Weights}
-use Rattle.rules.specs.declared.Refusal.{Refusal}
-use Rattle.rules.specs.declared.Verdict.{Verdict}
-use Rattle.rules.specs.declared.Verdict.TheVariants.{Refused as RefusedVerdict}
-use Rattle.rules.specs.declared.Answer.{Answer}
-use Rattle.rules.specs.declared.Answer.TheVariants.{Done, Refused as RefusedAnswer}
+use Rattle.rules.specs.declared.refusal.Refusal.{Refusal}
 use Rattle.rules.specs.declared.Stepped.{Stepped}
 use Rattle.rules.specs.declared.Hit.{Hit}
-use Rattle.rules.specs.declared.Hits.{Hits}
 use Rattle.rules.specs.declared.Drawn.{Drawn}
-use Rattle.rules.specs.declared.Number.{Number}
-use Rattle.rules.specs.declared.Number.TheVariants.{Refused as RefusedNumber}
-use Rattle.rules.specs.declared.LengthCell.{LengthCell}
-use Rattle.rules.specs.declared.LengthCell.TheVariants.{Refused as RefusedKey}
 use Rattle.rules.specs.declared.Actor.{Actor}
-use Rattle.rules.specs.declared.Actor.TheVariants.{Refused as RefusedActor}
 use Rattle.rules.specs.declared.Legal.{Legal}
-use Rattle.rules.specs.declared.Legal.TheVariants.{Refused as RefusedLegal}
-use Rattle.rules.specs.declared.Truncated.{Truncated}
-use Rattle.rules.specs.declared.Truncated.TheVariants.{Refused as RefusedMark}
-use Rattle.rules.specs.declared.Reward.{Reward}
-use Rattle.rules.specs.declared.Reward.TheVariants.{Refused as RefusedSum}
 use Rattle.rules.specs.declared.Space.{Space}
-use Rattle.rules.specs.declared.Space.TheVariants.{Refused as RefusedSpace}
 use Rattle.rules.specs.Faults.{image_rows}
 use Rattle.rules.specs.Orders.{initial_order, step_order, struck_order, observe_order, count_order, draw_order, rank_order, image_order, agent_order, reward_order, space_order}
 use Rattle.rules.proofs.Tables.{table_refuses, table_first, table_seen}
-use Rattle.rules.proofs.Answers.{answer_one, verdict_one, number_one, key_one, actor_one, legal_one, mark_one, sum_one, space_one}
 use Rattle.theorems.specs.Answers.{RefusedBy}
+use Rattle.rules.specs.Refusals.{code_of}
 
 -- document 01's 'Order' with document 02's group in 20's place, and that each table has those numbers
 abbrev pub numbers : Table → List ℕ
-numbers t = map (λ (e : Refusal × Bool). e.0.number) t
+numbers t = map (λ (e : Refusal × Bool). code_of e.0) t
 
 abbrev pub setting_numbers : List ℕ
 setting_numbers = 1 ∷ 2 ∷ 3 ∷ 4 ∷ 5 ∷ 6 ∷ 8 ∷ 9 ∷ 10 ∷ 11 ∷ 12 ∷ []
@@ -119,107 +104,107 @@ space_order_lem g = refl
 
 -- ---- for each call that refuses: refused by k if and only if k is the number of its table's first row that holds
 
--- by what an answer says: `refusal k` says that it refuses by k, and no other answer says that
-module _ {R A : Type 0} (said : R → Says A) (refusal : Refusal → R) (as_said : (k : Refusal) → said (refusal k) ≡ refuses k) (one : (r q : R) → said r ≡ said q → r ≡ q) where
-  pub by_rows : (t : Table) (a : A) (r : R) → said r ≡ by_table t (gives a) → RefusedBy refusal t r
-  by_rows t a r e = record {
-    number = λ k h. table_refuses t a k (sym e ∙ ap said h ∙ as_said k);
-    refused = λ k h. one r (refusal k) (e ∙ table_first t (gives a) k h ∙ sym (as_said k));
-  }
+-- of an answer that is what its table says
+pub by_rows : {A : Type 0} (t : Table) (a : A) (r : Says A) → r ≡ by_table t (Ok a) → RefusedBy Err t r
+by_rows t a r e = record { number = λ k h. table_refuses t a k (sym e ∙ h); refused = λ k h. e ∙ table_first t (Ok a) k h }
 
--- of the calls that write, which say how many words
-pub by_words : {A : Type 0} (f : A → ℕ) (t : Table) (a : A) (r : Answer) → says r ≡ seen f (by_table t (gives a)) → RefusedBy RefusedAnswer t r
-by_words f t a r e = by_rows says RefusedAnswer (λ k. refl) answer_one t (f a) r (e ∙ table_seen f t a)
+-- of one that is that seen through f
+pub by_seen : {A B : Type 0} (f : A → B) (t : Table) (a : A) (r : Says B) → r ≡ seen f (by_table t (Ok a)) → RefusedBy Err t r
+by_seen f t a r e = by_rows t (f a) r (e ∙ table_seen f t a)
 
-pub by_number : (t : Table) (a : ℕ) (r : Number) → says_number r ≡ by_table t (gives a) → RefusedBy RefusedNumber t r
-by_number = by_rows says_number RefusedNumber (λ k. refl) number_one
+-- and of one that is that where it is seen through f
+view_refuses : {A B : Type 0} (f : A → B) (r : Says A) (k : Refusal) → seen f r ≡ Err k → r ≡ Err k
+view_refuses f (Err m) k h = let e : m ≡ k = cc in ap Err e
+view_refuses f (Ok a) k h = let z : ◌≡◌ {A = ℕ} 0 1 = cc in absurd (omega arith)
 
-pub validate_refused : (s : Setting) (r : Verdict) → Validates s r → RefusedBy RefusedVerdict (setting_order s) r
+pub by_view : {A B : Type 0} (f : A → B) (t : Table) (b : B) (r : Says A) → seen f r ≡ by_table t (Ok b) → RefusedBy Err t r
+by_view f t b r e = record { number = λ k h. table_refuses t b k (sym e ∙ ap (seen f) h); refused = λ k h. view_refuses f r k (e ∙ table_first t (Ok b) k h) }
+
+pub validate_refused : (s : Setting) (r : Says (Unit {0})) → Validates s r → RefusedBy Err (setting_order s) r
 unfolding setting_says
-validate_refused s r p = by_rows says_verdict RefusedVerdict (λ k. refl) verdict_one (setting_order s) tt r p.answer
+validate_refused s r p = by_rows (setting_order s) tt r p.answer
 
-pub examine_refused : (w : List ℕ) (r : Verdict) → Examines w r → RefusedBy RefusedVerdict (image_order w) r
+pub examine_refused : (w : List ℕ) (r : Says (Unit {0})) → Examines w r → RefusedBy Err (image_order w) r
 unfolding image_says
-examine_refused w r p = by_rows says_verdict RefusedVerdict (λ k. refl) verdict_one (image_order w) tt r p.answer
+examine_refused w r p = by_rows (image_order w) tt r p.answer
 
-pub initial_refused : (s : Setting) (old new : List ℕ) (r : Answer) → Starts s old new r → RefusedBy RefusedAnswer (initial_order s (length old)) r
+pub initial_refused : (s : Setting) (old new : List ℕ) (r : Says ℕ) → Starts s old new r → RefusedBy Err (initial_order s (length old)) r
 unfolding initial_says
-initial_refused s old new r p = by_words _ (initial_order s (length old)) (initial_state s) r p.answer
+initial_refused s old new r p = by_seen _ (initial_order s (length old)) (initial_state s) r p.answer
 
-pub step_refused : (s : Setting) (w acts old new : List ℕ) (r : Stepped) → Steps s w acts old new r → RefusedBy RefusedAnswer (step_order s w acts (length old)) r.answer
+pub step_refused : (s : Setting) (w acts old new : List ℕ) (r : Says Stepped) → Steps s w acts old new r → RefusedBy Err (step_order s w acts (length old)) r
 unfolding step_says
-step_refused s w acts old new r p = by_words _ (step_order s w acts (length old)) (stepped s (state_of w) acts) r.answer p.answer
+step_refused s w acts old new r p = by_seen stepped_of (step_order s w acts (length old)) (stepped s (state_of w) acts) r p.answer
 
-pub struck_refused : (s : Setting) (w acts : List ℕ) (r : Hits) → Strikes s w acts r → RefusedBy RefusedVerdict (struck_order s w acts) r.verdict
+pub struck_refused : (s : Setting) (w acts : List ℕ) (r : Says (List (Option Hit))) → Strikes s w acts r → RefusedBy Err (struck_order s w acts) r
 unfolding struck_says
-struck_refused s w acts r p =
-    by_rows says_verdict RefusedVerdict (λ k. refl) verdict_one (struck_order s w acts) tt r.verdict (p.answer ∙ table_seen (λ (h : List Hit). tt) (struck_order s w acts) (hits_in (state_of w) acts))
+struck_refused s w acts r p = by_rows (struck_order s w acts) (hits_in (state_of w) acts) r p.answer
 
-pub observe_refused : (w : List ℕ) (a : ℕ) (old new : List Float) (r : Answer) → Observes w a old new r → RefusedBy RefusedAnswer (observe_order w a (length old)) r
+pub observe_refused : (w : List ℕ) (a : ℕ) (old new : List Float) (r : Says ℕ) → Observes w a old new r → RefusedBy Err (observe_order w a (length old)) r
 unfolding observe_says
-observe_refused w a old new r p = by_words _ (observe_order w a (length old)) (view (state_of w) a) r p.answer
+observe_refused w a old new r p = by_seen _ (observe_order w a (length old)) (view (state_of w) a) r p.answer
 
-pub count_refused : (w : List ℕ) (r : Number) → Counts w r → RefusedBy RefusedNumber (count_order w) r
+pub count_refused : (w : List ℕ) (r : Says ℕ) → Counts w r → RefusedBy Err (count_order w) r
 unfolding count_says
-count_refused w r p = by_number (count_order w) (outcomes (state_of w)) r p.answer
+count_refused w r p = by_rows (count_order w) (outcomes (state_of w)) r p.answer
 
-pub draw_refused : (w : List ℕ) (i : ℕ) (old new list cells : List ℕ) (r : Drawn) → Draws w i old new list cells r
-    → RefusedBy RefusedAnswer (draw_order w i (length old) (length list)) r.answer
+pub draw_refused : (w : List ℕ) (i : ℕ) (old new list cells : List ℕ) (r : Says Drawn) → Draws w i old new list cells r
+    → RefusedBy Err (draw_order w i (length old) (length list)) r
 unfolding draw_says
 draw_refused w i old new list cells r p =
-    by_words _ (draw_order w i (length old) (length list)) (record { next = after_draw (state_of w) i; cells = drawn (state_of w) i }) r.answer p.answer
+    by_seen drawn_of (draw_order w i (length old) (length list)) (record { next = after_draw (state_of w) i; cells = drawn (state_of w) i }) r p.answer
 
-pub rank_refused : (w l : List ℕ) (r : Number) → Ranks w l r → RefusedBy RefusedNumber (rank_order w l) r
+pub rank_refused : (w l : List ℕ) (r : Says ℕ) → Ranks w l r → RefusedBy Err (rank_order w l) r
 unfolding rank_says
-rank_refused w l r p = by_number (rank_order w l) (rank_of (state_of w) l) r p.answer
+rank_refused w l r p = by_rows (rank_order w l) (rank_of (state_of w) l) r p.answer
 
-pub actor_refused : (w : List ℕ) (r : Actor) → ActsNext w r → RefusedBy RefusedActor (image_order w) r
+pub actor_refused : (w : List ℕ) (r : Says Actor) → ActsNext w r → RefusedBy Err (image_order w) r
 unfolding actor_says
-actor_refused w r p = by_rows says_actor RefusedActor (λ k. refl) actor_one (image_order w) (chance_acts (state_of w)) r p.answer
+actor_refused w r p = by_view chance_of (image_order w) (chance_acts (state_of w)) r p.answer
 
-pub legal_refused : (w : List ℕ) (a : ℕ) (r : Legal) → Allows w a r → RefusedBy RefusedLegal (agent_order w a) r
+pub legal_refused : (w : List ℕ) (a : ℕ) (r : Says Legal) → Allows w a r → RefusedBy Err (agent_order w a) r
 unfolding legal_says
-legal_refused w a r p = by_rows says_legal RefusedLegal (λ k. refl) legal_one (agent_order w a) (legal_for (state_of w) a) r p.answer
+legal_refused w a r p = by_view actions_of (agent_order w a) (legal_for (state_of w) a) r p.answer
 
-pub key_refused : (w : List ℕ) (r : LengthCell) → Keys w r → RefusedBy RefusedKey (image_order w) r
+pub key_refused : (w : List ℕ) (r : Says (Option ℕ)) → Keys w r → RefusedBy Err (image_order w) r
 unfolding key_says
-key_refused w r p = by_rows says_key RefusedKey (λ k. refl) key_one (image_order w) (length_key (state_of w)) r p.answer
+key_refused w r p = by_rows (image_order w) (length_key (state_of w)) r p.answer
 
-pub truncation_refused : (w : List ℕ) (a : ℕ) (v : Event) (r : Truncated) → Truncates w a v r → RefusedBy RefusedMark (agent_order w a) r
+pub truncation_refused : (w : List ℕ) (a : ℕ) (v : Event) (r : Says Event) → Truncates w a v r → RefusedBy Err (agent_order w a) r
 unfolding truncation_says
-truncation_refused w a v r p = by_rows says_mark RefusedMark (λ k. refl) mark_one (agent_order w a) (truncated v (snake_of (state_of w) a).alive) r p.answer
+truncation_refused w a v r p = by_rows (agent_order w a) (truncated v (snake_of (state_of w) a).alive) r p.answer
 
-pub reward_refused : (w : Weights) (v : Event) (r : Reward) → Rewards w v r → RefusedBy RefusedSum (reward_order w) r
+pub reward_refused : (w : Weights) (v : Event) (r : Says Float) → Rewards w v r → RefusedBy Err (reward_order w) r
 unfolding reward_says
-reward_refused w v r p = by_rows says_sum RefusedSum (λ k. refl) sum_one (reward_order w) (reward_of w v) r p.answer
+reward_refused w v r p = by_rows (reward_order w) (reward_of w v) r p.answer
 
-pub space_refused : (g : ℤ) (r : Space) → ObservationSpace g r → RefusedBy RefusedSpace (space_order g) r
+pub space_refused : (g : ℤ) (r : Says Space) → ObservationSpace g r → RefusedBy Err (space_order g) r
 unfolding space_says
-space_refused g r p = by_rows says_space RefusedSpace (λ k. refl) space_one (space_order g) (box 5 (side_of g) (side_of g) (lit false) (lit true)) r p.answer
+space_refused g r p = by_view shape_of (space_order g) (box 5 (side_of g) (side_of g) (lit false) (lit true)) r p.answer
 
 -- ---- a refusal leaves every lent word
 
 module _ {A B C : Type 0} (f : A → B) (g : A → List C) (old : List C) where
-  pub kept : (x : Says A) (k : Refusal) → seen f x ≡ refuses k → lent g old x ≡ old
-  kept (refuses n) k h = refl
-  kept (gives a) k h = let z : ◌≡◌ {A = ℕ} 0 1 = cc in absurd (omega arith)
+  pub kept : (x : Says A) (k : Refusal) → seen f x ≡ Err k → lent g old x ≡ old
+  kept (Err n) k h = refl
+  kept (Ok a) k h = let z : ◌≡◌ {A = ℕ} 0 1 = cc in absurd (omega arith)
 
 module _ (k : Refusal) where
-  pub initial_untouched : (s : Setting) (old new : List ℕ) (r : Answer) → Starts s old new r → r ≡ RefusedAnswer k → new ≡ old
-  initial_untouched s old new r p e = p.words ∙ kept _ image_of old (initial_says s (length old)) k (sym p.answer ∙ ap says e)
+  pub initial_untouched : (s : Setting) (old new : List ℕ) (r : Says ℕ) → Starts s old new r → r ≡ Err k → new ≡ old
+  initial_untouched s old new r p e = p.words ∙ kept _ image_of old (initial_says s (length old)) k (sym p.answer ∙ e)
 
-  pub step_untouched : (s : Setting) (w acts old new : List ℕ) (r : Stepped) → Steps s w acts old new r → r.answer ≡ RefusedAnswer k → new ≡ old
-  step_untouched s w acts old new r p e = p.words ∙ kept _ (λ (o : Transition). image_of o.next) old (step_says s w acts (length old)) k (sym p.answer ∙ ap says e)
+  pub step_untouched : (s : Setting) (w acts old new : List ℕ) (r : Says Stepped) → Steps s w acts old new r → r ≡ Err k → new ≡ old
+  step_untouched s w acts old new r p e = p.words ∙ kept _ (λ (o : Transition). image_of o.next) old (step_says s w acts (length old)) k (sym p.answer ∙ e)
 
-  pub observe_untouched : (w : List ℕ) (a : ℕ) (old new : List Float) (r : Answer) → Observes w a old new r → r ≡ RefusedAnswer k → new ≡ old
-  observe_untouched w a old new r p e = p.numbers ∙ kept _ (λ v. v) old (observe_says w a (length old)) k (sym p.answer ∙ ap says e)
+  pub observe_untouched : (w : List ℕ) (a : ℕ) (old new : List Float) (r : Says ℕ) → Observes w a old new r → r ≡ Err k → new ≡ old
+  observe_untouched w a old new r p e = p.numbers ∙ kept _ (λ v. v) old (observe_says w a (length old)) k (sym p.answer ∙ e)
 
   -- both buffers of a draw
-  pub draw_untouched : (w : List ℕ) (i : ℕ) (old new list cells : List ℕ) (r : Drawn) → Draws w i old new list cells r → r.answer ≡ RefusedAnswer k
+  pub draw_untouched : (w : List ℕ) (i : ℕ) (old new list cells : List ℕ) (r : Says Drawn) → Draws w i old new list cells r → r ≡ Err k
       → (new ≡ old) × (cells ≡ list)
   draw_untouched w i old new list cells r p e =
       let x = draw_says w i (length old) (length list) in
-      let h : seen (λ (d : Draw). length (image_of d.next)) x ≡ refuses k = sym p.answer ∙ ap says e in
+      let h : seen drawn_of x ≡ Err k = sym p.answer ∙ e in
       (p.words ∙ kept _ (λ (d : Draw). image_of d.next) old x k h, p.list ∙ kept _ (λ (d : Draw). d.cells) list x k h)
 
 -- ---- an answer is the count of the words that it wrote, and the words after them keep their values
@@ -229,30 +214,31 @@ module _ {A C : Type 0} (g : A → List C) (old : List C) where
   unfolding over_front
   after_front s n e = rw (sym e) (drop-append_seam s (drop (length s) old))
 
-  pub kept_after : (x : Says A) (n : ℕ) → seen (λ a. length (g a)) x ≡ gives n → drop n (lent g old x) ≡ drop n old
-  kept_after (refuses k) n h = let z : ◌≡◌ {A = ℕ} 0 1 = cc in absurd (omega arith)
-  kept_after (gives a) n h = after_front (g a) n (cc)
+  pub kept_after : (x : Says A) (n : ℕ) → seen (λ a. length (g a)) x ≡ Ok n → drop n (lent g old x) ≡ drop n old
+  kept_after (Err k) n h = let z : ◌≡◌ {A = ℕ} 0 1 = cc in absurd (omega arith)
+  kept_after (Ok a) n h = after_front (g a) n (cc)
 
-  -- the same, where the count stands beside the answer and is 0 on a refusal
-  kept_beside : (x : Says A) (n : ℕ) → n ≡ beside (λ a. length (g a)) 0 x → drop n (lent g old x) ≡ drop n old
-  kept_beside (refuses k) n h = refl
-  kept_beside (gives a) n h = after_front (g a) n (sym h)
+  -- the same of an answer m that holds the count
+  pub kept_by : {B : Type 0} (f : A → B) (count : B → ℕ) → ((a : A) → count (f a) ≡ length (g a)) → (x : Says A) (m : B) → seen f x ≡ Ok m
+      → drop (count m) (lent g old x) ≡ drop (count m) old
+  kept_by f count same (Err k) m h = let z : ◌≡◌ {A = ℕ} 0 1 = cc in absurd (omega arith)
+  kept_by f count same (Ok a) m h = let e : f a ≡ m = cc in after_front (g a) (count m) (sym (same a) ∙ ap count e)
 
 module _ (n : ℕ) where
-  pub initial_after : (s : Setting) (old new : List ℕ) (r : Answer) → Starts s old new r → r ≡ Done n → drop n new ≡ drop n old
-  initial_after s old new r p e = ap (drop n) p.words ∙ kept_after image_of old (initial_says s (length old)) n (sym p.answer ∙ ap says e)
+  pub initial_after : (s : Setting) (old new : List ℕ) (r : Says ℕ) → Starts s old new r → r ≡ Ok n → drop n new ≡ drop n old
+  initial_after s old new r p e = ap (drop n) p.words ∙ kept_after image_of old (initial_says s (length old)) n (sym p.answer ∙ e)
 
-  pub step_after : (s : Setting) (w acts old new : List ℕ) (r : Stepped) → Steps s w acts old new r → r.answer ≡ Done n → drop n new ≡ drop n old
-  step_after s w acts old new r p e =
-      ap (drop n) p.words ∙ kept_after (λ (o : Transition). image_of o.next) old (step_says s w acts (length old)) n (sym p.answer ∙ ap says e)
+  pub observe_after : (w : List ℕ) (a : ℕ) (old new : List Float) (r : Says ℕ) → Observes w a old new r → r ≡ Ok n → drop n new ≡ drop n old
+  observe_after w a old new r p e = ap (drop n) p.numbers ∙ kept_after (λ v. v) old (observe_says w a (length old)) n (sym p.answer ∙ e)
 
-  pub observe_after : (w : List ℕ) (a : ℕ) (old new : List Float) (r : Answer) → Observes w a old new r → r ≡ Done n → drop n new ≡ drop n old
-  observe_after w a old new r p e = ap (drop n) p.numbers ∙ kept_after (λ v. v) old (observe_says w a (length old)) n (sym p.answer ∙ ap says e)
+pub step_after : (s : Setting) (w acts old new : List ℕ) (m : Stepped) → Steps s w acts old new (Ok m) → drop m.words new ≡ drop m.words old
+step_after s w acts old new m p =
+    ap (drop m.words) p.words ∙ kept_by (λ (o : Transition). image_of o.next) old stepped_of (λ (x : Stepped). x.words) (λ o. refl) (step_says s w acts (length old)) m (sym p.answer)
 
-  pub draw_after : (w : List ℕ) (i : ℕ) (old new list cells : List ℕ) (r : Drawn) → Draws w i old new list cells r → r.answer ≡ Done n
-      → (drop n new ≡ drop n old) × (drop r.cells cells ≡ drop r.cells list)
-  draw_after w i old new list cells r p e =
-      let x = draw_says w i (length old) (length list) in (
-        ap (drop n) p.words ∙ kept_after (λ (d : Draw). image_of d.next) old x n (sym p.answer ∙ ap says e),
-        ap (drop r.cells) p.list ∙ kept_beside (λ (d : Draw). d.cells) list x r.cells p.cells,
-      )
+pub draw_after : (w : List ℕ) (i : ℕ) (old new list cells : List ℕ) (m : Drawn) → Draws w i old new list cells (Ok m)
+    → (drop m.words new ≡ drop m.words old) × (drop m.cells cells ≡ drop m.cells list)
+draw_after w i old new list cells m p =
+    let x = draw_says w i (length old) (length list) in (
+      ap (drop m.words) p.words ∙ kept_by (λ (d : Draw). image_of d.next) old drawn_of (λ (y : Drawn). y.words) (λ d. refl) x m (sym p.answer),
+      ap (drop m.cells) p.list ∙ kept_by (λ (d : Draw). d.cells) list drawn_of (λ (y : Drawn). y.cells) (λ d. refl) x m (sym p.answer),
+    )

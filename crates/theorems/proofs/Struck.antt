@@ -1,4 +1,5 @@
 -- Who was hit where, of the calls' answers: beside the events of the step of the same setting, image and actions. Assumes nothing.
+use Rattle.std.specs.Prelude.{Option, Some, None, Ok, is_some}
 use Prim.Native.Nat.{ℕ, ◌<◌, ◌≤◌}
 use native.Mathlib.Omega.{arith}
 use mathlib.Core.Path.{◌≡◌, sym, ap, subst, ◌∙◌}
@@ -14,24 +15,21 @@ use Rattle.rules.specs.Tables.{Table, none_hold}
 use Rattle.rules.specs.State.{State, nobody, count}
 use Rattle.rules.specs.Setting.{setting_order}
 use Rattle.rules.specs.Image.{state_of}
-use Rattle.rules.specs.Events.{blank}
+use Rattle.rules.specs.Events.{blank, eight}
 use Rattle.rules.specs.Step.{Moved, stays, moved_of, cause_of, transition_of, stepped}
 use Rattle.rules.specs.Struck.{no_hit, hit_of, hits_in, strikes, HitsItself, HitsAnother}
 use Rattle.rules.specs.Faults.{image_rows}
 use Rattle.rules.specs.Orders.{asked_rows, struck_order, step_order}
-use Rattle.rules.specs.Says.{seen, beside}
+use Rattle.rules.specs.Says.{Says, seen, beside}
 use Rattle.rules.specs.Calls.{struck_says}
 use Rattle.rules.specs.Promises.{Steps, Strikes}
 use Rattle.rules.specs.declared.Cause.{Cause}
-use Rattle.rules.specs.declared.Cause.TheVariants.{NoCause, SelfBody, OppBody}
+use Rattle.rules.specs.declared.Cause.TheVariants.{SelfBody, OppBody}
 use Rattle.rules.specs.declared.Event.{Event}
 use Rattle.rules.specs.declared.Hit.{Hit}
-use Rattle.rules.specs.declared.Hits.{Hits}
-use Rattle.rules.specs.declared.Refusal.{Refusal}
+use Rattle.rules.specs.declared.refusal.Refusal.{Refusal}
 use Rattle.rules.specs.declared.Setting.{Setting}
 use Rattle.rules.specs.declared.Stepped.{Stepped}
-use Rattle.rules.specs.declared.Verdict.TheVariants.{Accepted}
-use Rattle.rules.proofs.Answers.{verdict_one}
 use Rattle.rules.proofs.Facts.{sound}
 use Rattle.rules.proofs.Parts.{state_count}
 use Rattle.rules.proofs.Struck.{hits_itself, hits_another, hit_told, hit_else}
@@ -46,61 +44,56 @@ moved_in t acts i = get_or (each_below (count t) (moved_of t acts)) i (stays nob
 -- a step's event says the cause
 cause_in_lem : (s : Setting) (g n : ℕ) (food : List ℕ) (m : ℕ → Moved) (i : ℕ) → i < n → (get_or (transition_of s g n food m).events i blank).death_cause ≡ cause_of g n m i
 unfolding transition_of
-cause_in_lem s g n food m i h = ap (λ (x : Event). x.death_cause) (each_at n _ blank i h) ∙ each_at n (cause_of g n m) NoCause i h
+cause_in_lem s g n food m i h = ap (λ (x : Event). x.death_cause) (each_at n _ blank i h) ∙ each_at n (cause_of g n m) None i h
 
 cause_told : (s : Setting) (t : State) (acts : List ℕ) (i : ℕ) → i < count t → (get_or (stepped s t acts).events i blank).death_cause ≡ cause_of t.side (count t) (moved_in t acts) i
 unfolding stepped
 cause_told s t acts i h = cause_in_lem s t.side (count t) t.food (moved_in t acts) i h
 
-module _ (s : Setting) (w acts : List ℕ) (r : Hits) (p : Strikes s w acts r) (none : none_hold (struck_order s w acts) ≡ true) where
+module _ (s : Setting) (w acts : List ℕ) (hits : List (Option Hit)) (p : Strikes s w acts (Ok hits)) (none : none_hold (struck_order s w acts) ≡ true) where
   abbrev t : State
   t = state_of w
 
-  pub struck_is : (r.verdict ≡ Accepted) × (r.hits ≡ hits_in t acts)
+  pub struck_is : hits ≡ hits_in t acts
   unfolding struck_says
-  struck_is =
-      let e = lawful (struck_order s w acts) (hits_in t acts) none in
-      (verdict_one r.verdict Accepted (p.answer ∙ ap (seen (λ (h : List Hit). tt)) e), p.hits ∙ ap (beside (λ (h : List Hit). h) (replicate 8 no_hit)) e)
+  struck_is = let e : Ok hits ≡ Ok (hits_in t acts) = p.answer ∙ lawful (struck_order s w acts) (hits_in t acts) none in cc
 
-  few : count t ≤ 8
-  few =
-      let rows : Table = image_rows w ++ asked_rows s w acts in
-      let rest = and_right (none_hold (setting_order s)) (none_hold rows) (sym (all_append (λ (e : Refusal × Bool). not e.1) (setting_order s) rows) ∙ none) in
-      omega (arith, (sound w (rows_formed w (asked_rows s w acts) rest)).snakes_max, state_count w)
-
-  hit_is : (i : ℕ) → i < count t → get_or r.hits i no_hit ≡ hit_of t.side (count t) (moved_in t acts) i
+  hit_is : (i : ℕ) → i < count t → get_or hits i no_hit ≡ hit_of t.side (count t) (moved_in t acts) i
   unfolding hits_in
-  hit_is i h = ap (λ (l : List Hit). get_or l i no_hit) struck_is.1 ∙ filled_at (hit_of t.side (count t) (moved_in t acts)) (count t) 8 no_hit no_hit i h
+  hit_is i h = ap (λ (l : List (Option Hit)). get_or l i no_hit) struck_is ∙ filled_at (hit_of t.side (count t) (moved_in t acts)) (count t) 8 no_hit no_hit i h
 
   -- from n on nobody
-  pub struck_past : (i : ℕ) → count t ≤ i → get_or r.hits i no_hit ≡ no_hit
+  pub struck_past : (i : ℕ) → count t ≤ i → get_or hits i no_hit ≡ no_hit
   unfolding hits_in
   struck_past i h =
       let f = hit_of t.side (count t) (moved_in t acts) in
-      ap (λ (l : List Hit). get_or l i no_hit) struck_is.1 ∙ filled_is f (count t) 8 no_hit i ∙ each_past (count t) f no_hit i h
+      ap (λ (l : List (Option Hit)). get_or l i no_hit) struck_is ∙ filled_is f (count t) 8 no_hit i ∙ each_past (count t) f no_hit i h
 
   -- beside the step's answer
-  module _ (old new : List ℕ) (o : Stepped) (q : Steps s w acts old new o) (room : none_hold (step_order s w acts (length old)) ≡ true) (i : ℕ) (h : i < count t) where
-    abbrev cause : Cause
+  module _ (old new : List ℕ) (o : Stepped) (q : Steps s w acts old new (Ok o)) (room : none_hold (step_order s w acts (length old)) ≡ true) (i : ℕ) (h : i < count t) where
+    abbrev cause : Option Cause
     cause = (get_or o.events i blank).death_cause
 
-    abbrev hit : Hit
-    hit = get_or r.hits i no_hit
+    abbrev hit : Option Hit
+    hit = get_or hits i no_hit
+
+    events_are : o.events ≡ eight (stepped s t acts).events
+    events_are = let e = (step_is s w acts old new (Ok o) q room).answer in cc
 
     cause_is : cause ≡ cause_of t.side (count t) (moved_in t acts) i
     cause_is =
-        ap (λ (es : List Event). (get_or es i blank).death_cause) (step_is s w acts old new o q room).events
+        ap (λ (es : List Event). (get_or es i blank).death_cause) events_are
         ∙ ap (λ (x : Event). x.death_cause) (event_at_lem s t acts i h)
         ∙ cause_told s t acts i h
 
-    pub struck_told : ltb hit.snake 8 ≡ strikes cause
-    struck_told = ap (λ (x : Hit). ltb x.snake 8) (hit_is i h) ∙ hit_told t.side (count t) (moved_in t acts) i few h ∙ ap strikes (sym cause_is)
+    pub struck_told : is_some hit ≡ strikes cause
+    struck_told = ap is_some (hit_is i h) ∙ hit_told t.side (count t) (moved_in t acts) i ∙ ap strikes (sym cause_is)
 
     pub struck_nobody : strikes cause ≡ false → hit ≡ no_hit
     struck_nobody e = hit_is i h ∙ hit_else t.side (count t) (moved_in t acts) i (sym (ap strikes cause_is) ∙ e)
 
-    pub struck_itself : cause ≡ SelfBody → HitsItself t.side (moved_in t acts) i hit
+    pub struck_itself : cause ≡ (Some SelfBody) → HitsItself t.side (moved_in t acts) i hit
     struck_itself e = subst (HitsItself t.side (moved_in t acts) i) (sym (hit_is i h)) (hits_itself t.side (count t) (moved_in t acts) i (sym cause_is ∙ e))
 
-    pub struck_another : cause ≡ OppBody → HitsAnother t.side (count t) (moved_in t acts) i hit
+    pub struck_another : cause ≡ (Some OppBody) → HitsAnother t.side (count t) (moved_in t acts) i hit
     struck_another e = subst (HitsAnother t.side (count t) (moved_in t acts) i) (sym (hit_is i h)) (hits_another t.side (count t) (moved_in t acts) i (sym cause_is ∙ e))

@@ -1,25 +1,24 @@
 -- The end of a match by the lead, 01's last line, and what a replay comes to: what the theorems on 02's wish 3 speak of. Assumes nothing.
-use Rattle.std.specs.Prelude.{ℕ, ◌+◌, ◌<◌, ◌≡◌, Bool, true, false, List, [], ◌∷◌, ◌++◌, ◌⊎◌, length, get_or}
+use Rattle.std.specs.Prelude.{ℕ, ◌+◌, ◌<◌, ◌≡◌, Bool, true, false, List, [], ◌∷◌, ◌++◌, ◌⊎◌, length, get_or, None, Ok}
 use Rattle.lists.specs.Below.{some_below, count_below, filled}
 use Rattle.rules.specs.State.{State, count, snake_of}
 use Rattle.rules.specs.Image.{image_of}
 use Rattle.rules.specs.Events.{blank}
 use Rattle.rules.specs.Step.{Transition, leads}
-use Rattle.rules.specs.Says.{gives}
-use Rattle.rules.specs.declared.Cause.TheVariants.{NoCause}
-use Rattle.rules.specs.declared.Refusal.{Refusal}
+use Rattle.rules.specs.declared.refusal.Refusal.{Refusal}
 use Rattle.rules.specs.declared.Setting.{Setting}
 use Rattle.printing.specs.Text.{refusal_text, placings_text}
 use Rattle.standing.specs.Placings.{placing_of, end_placing}
 use Rattle.standing.specs.Standing.{snakes_of, end_text}
 use Rattle.standing.specs.declared.Match.{Match}
 use Rattle.referee.specs.Match.{Turn, begin_says, turn_says}
+use Rattle.rules.specs.Refusals.{code_of}
 
 -- ---- the lead, in a state
 
 -- 'two alive with lengths apart by the lead or more': i is the longer, j the other. A cause of death has no part in it
 abbrev pub leads_in : Setting → State → ℕ → ℕ → Bool
-leads_in s t i j = leads (count t) (λ _. NoCause) (snake_of t) s.win_food_lead i j
+leads_in s t i j = leads (count t) (λ _. None) (snake_of t) s.win_food_lead i j
 
 -- another leads snake i
 abbrev pub led_in : Setting → State → ℕ → Bool
@@ -56,12 +55,12 @@ two_places a b = 112 ∷ 32 ∷ (48 + a) ∷ 32 ∷ (48 + b) ∷ 10 ∷ []
 
 -- a turn that the lines of some input lead to
 pub data Reached : Turn → Type 0 where
-  begun : {t : Turn} (line : List ℕ) (room : ℕ) → begin_says line room ≡ gives t → Reached t
-  taken : {u : Turn} (t : Turn) (line : List ℕ) (room cells : ℕ) → Reached t → turn_says t.game (image_of t.next) line room cells ≡ gives u → Reached u
+  begun : {t : Turn} (line : List ℕ) (room : ℕ) → begin_says line room ≡ Ok t → Reached t
+  taken : {u : Turn} (t : Turn) (line : List ℕ) (room cells : ℕ) → Reached t → turn_says t.game (image_of t.next) line room cells ≡ Ok u → Reached u
 
 -- how an output ends: by a refusal, or by the last line of the turn that the input leads to
 pub data Ending (out : List ℕ) : Type 0 where
-  refused : (shown : List ℕ) (k : Refusal) → out ≡ shown ++ refusal_text k.number → Ending out
+  refused : (shown : List ℕ) (k : Refusal) → out ≡ shown ++ refusal_text (code_of k) → Ending out
   placed : (shown : List ℕ) (t : Turn) → Reached t → out ≡ shown ++ end_text t.game → Ending out
 
 -- the placings of a match: of snake i, and the line

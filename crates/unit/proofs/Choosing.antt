@@ -1,14 +1,15 @@
 -- What the outcome of a unit number says by the tests that the code makes: one law for each return. Assumes nothing.
+use Rattle.std.specs.Prelude.{Ok, Err}
 use Rattle.std.proofs.Common.{◌≡◌, ℕ, ◌^◌, Bool, true, false, not, eqb, ltb, sym, ap, ◌∙◌, pos_of_ne-zero, ltb-false}
 use lib.Ieee.{Float}
 use borrow.Author.Tests.{eqb-false, not-true, not-false}
 use Rattle.lists.proofs.Tests.{or_false_left, or_false_right}
-use Rattle.rules.specs.Tables.{by}
-use Rattle.rules.specs.Says.{refuses, gives, by_table}
-use Rattle.rules.specs.declared.Refusal.{Refusal}
+use Rattle.rules.specs.Says.{by_table}
+use Rattle.rules.specs.declared.refusal.Refusal.{Refusal}
 use Rattle.unit.specs.UnitNumber.{outside_count, is_unit, outcome_of}
 use Rattle.unit.specs.Calls.{outcome_says}
 use Rattle.unit.specs.Chosen.{Choosable}
+use Rattle.rules.specs.declared.refusal.Refusal.TheVariants as Refusal
 
 module _ (c : ℕ) (u : Float) where
   -- what is not refused is in range
@@ -22,13 +23,13 @@ module _ (c : ℕ) (u : Float) where
 
   module _ (o : Bool) (k : o ≡ outside_count c) where
     -- 80: the count is outside its range
-    pub outcome_80 : o ≡ true → (x : Refusal) → x ≡ by 80 → refuses x ≡ outcome_says c u
+    pub outcome_80 : o ≡ true → (x : Refusal) → x ≡ Refusal.UnitCount → Err x ≡ outcome_says c u
     unfolding outcome_says by_table
     outcome_80 t x r = let h = sym k ∙ t in rw (r, h)
 
     module _ (t : o ≡ false) (b : Bool) (a : b ≡ is_unit u) where
       -- 81: u is outside its own
-      pub outcome_81 : not b ≡ true → (x : Refusal) → x ≡ by 81 → refuses x ≡ outcome_says c u
+      pub outcome_81 : not b ≡ true → (x : Refusal) → x ≡ Refusal.UnitNumber → Err x ≡ outcome_says c u
       unfolding outcome_says by_table
       outcome_81 n x r = let h = sym k ∙ t in let f = sym a ∙ not-true b n in rw (r, h, f)
 
@@ -37,6 +38,6 @@ module _ (c : ℕ) (u : Float) where
         pub choosable : Choosable c u
         choosable = in_range (sym k ∙ t) (ap not (sym a) ∙ n)
 
-        pub outcome_comes : (i : ℕ) → i ≡ outcome_of c u → gives i ≡ outcome_says c u
+        pub outcome_comes : (i : ℕ) → i ≡ outcome_of c u → Ok i ≡ outcome_says c u
         unfolding outcome_says by_table
         outcome_comes i e = let h = sym k ∙ t in let f = sym a ∙ not-false b n in rw (e, h, f)

@@ -1,22 +1,18 @@
 -- 02's theorems of the outcome of a unit number, of every answer that meets its promise; and that a draw's index so made is never refused by 27.
 -- Assumes nothing.
+use Rattle.std.specs.Prelude.{Ok, Err}
 use Rattle.std.proofs.Common.{◌≡◌, ℕ, suc, ◌+◌, ◌-◌, ◌<◌, ◌≤◌, min, false, not, ltb, List, ◌++◌, length, drop, pos, negsuc, sym, refl, ap, ◌∙◌, subst, true≢false, arith, le-ltb, lt-ltb, ne_eqb}
 use lib.Ieee.{Float, fin, binary64, mul, of_int, to_unsigned}
 use Rattle.lists.specs.Lists.{any}
-use Rattle.rules.specs.Tables.{by}
-use Rattle.rules.specs.Image.{image_of, state_of}
+use Rattle.rules.specs.Image.{state_of}
 use Rattle.rules.specs.Chance.{outcomes, drawn, after_draw}
-use Rattle.rules.specs.Says.{gives, by_table, says, says_number}
+use Rattle.rules.specs.Says.{Says, by_table}
 use Rattle.rules.specs.Faults.{image_rows}
 use Rattle.rules.specs.Orders.{count_order, draw_rows, draw_order}
-use Rattle.rules.specs.Calls.{Draw, count_says, draw_says}
+use Rattle.rules.specs.Calls.{Draw, drawn_of, count_says, draw_says}
 use Rattle.rules.specs.Promises.{Counts, Draws}
-use Rattle.rules.specs.declared.Number.{Number}
-use Rattle.rules.specs.declared.Number.TheVariants.{Value}
 use Rattle.rules.specs.declared.Drawn.{Drawn}
-use Rattle.rules.specs.declared.Answer.TheVariants.{Refused}
 use Rattle.rules.proofs.Tables.{given_out, given_is, table_seen, table_without, table_listed}
-use Rattle.rules.proofs.Answers.{number_one}
 use Rattle.unit.specs.UnitNumber.{outside_count, outcome_of, whole_part}
 use Rattle.unit.specs.Orders.{outcome_order}
 use Rattle.unit.specs.Calls.{outcome_says}
@@ -24,6 +20,7 @@ use Rattle.unit.specs.Promises.{Chooses}
 use Rattle.unit.specs.Chosen.{Choosable, Chosen, NeverAbove}
 use Rattle.unit.proofs.Products.{product, count_value}
 use Rattle.unit.proofs.Choosing.{in_range}
+use Rattle.rules.specs.declared.refusal.Refusal.TheVariants as Refusal
 
 -- 'the rounded product of count and u': the exact one, of 3 and the number nearest to a third, is 1 - 2^-54, which rounds to 1
 pub rounds_up : outcome_of 3 (fin false 6004799503160661 (negsuc 53)) ≡ 1
@@ -42,13 +39,13 @@ module _ (c : ℕ) (u : Float) where
       cut (whole_part c u) (to_unsigned 64 (mul binary64 (of_int binary64 (pos c)) u)) p.inside p.least p.most
 
   -- counts 1 to 2^53 and u from 0 to below 1: an index comes, and what is shown of it
-  pub outcome_chosen : Choosable c u → (r : Number) → Chooses c u r → Chosen c u r
+  pub outcome_chosen : Choosable c u → (r : Says ℕ) → Chooses c u r → Chosen c u r
   unfolding outcome_says by_table outside_count
   outcome_chosen q r p =
       let f = rounded q in
       record {
         index = outcome_of c u;
-        answer = number_one r (Value (outcome_of c u)) (p.answer ∙ rw (ne_eqb c 0 (λ e. omega (arith, q.some)), le-ltb 9007199254740992 c q.few, q.unit));
+        answer = (p.answer ∙ rw (ne_eqb c 0 (λ e. omega (arith, q.some)), le-ltb 9007199254740992 c q.few, q.unit));
         legal = f.0;
         never_less = f.1;
         one_more = f.2;
@@ -56,11 +53,11 @@ module _ (c : ℕ) (u : Float) where
       }
 
   -- an index that comes is below the count
-  pub outcome_below : (r : Number) (i : ℕ) → Chooses c u r → r ≡ Value i → i < c
+  pub outcome_below : (r : Says ℕ) (i : ℕ) → Chooses c u r → r ≡ Ok i → i < c
   unfolding outcome_says
   outcome_below r i p e =
       let t = outcome_order c u in
-      let g = sym p.answer ∙ ap says_number e in
+      let g = sym p.answer ∙ e in
       let q = in_range c u (given_out t (outcome_of c u) i g 0) (given_out t (outcome_of c u) i g 1) in
       subst (λ (k : ℕ). k < c) (given_is t (outcome_of c u) i g) (rounded q).0
 
@@ -68,20 +65,20 @@ module _ (c : ℕ) (u : Float) where
 
 module _ (w : List ℕ) (i : ℕ) where
   -- where its row does not hold, no other gives 27
-  below_27 : i < outcomes (state_of w) → (old new list cells : List ℕ) (d : Drawn) → Draws w i old new list cells d → d.answer ≡ Refused (by 27) → ⊥
+  below_27 : i < outcomes (state_of w) → (old new list cells : List ℕ) (d : Says Drawn) → Draws w i old new list cells d → d ≡ Err Refusal.Outcome → ⊥
   unfolding draw_says any image_rows
   below_27 h old new list cells d p e =
-      let f : Draw → ℕ = λ x. length (image_of x.next) in
+      let f : Draw → Drawn = λ x. drawn_of x in
       let t = draw_order w i (length old) (length list) in
       let x : Draw = record { next = after_draw (state_of w) i; cells = drawn (state_of w) i } in
       let rest = drop 1 (draw_rows w i (length old) (length list)) in
-      let above = table_without (count_order w) rest (by 27, not (ltb i (outcomes (state_of w)))) (gives (f x)) (λ z. ap not (lt-ltb i (outcomes (state_of w)) h)) in
-      true≢false (sym (table_listed (count_order w ++ rest) (f x) (by 27) (sym above ∙ sym (table_seen f t x) ∙ sym p.answer ∙ ap says e)))
+      let above = table_without (count_order w) rest (Refusal.Outcome, not (ltb i (outcomes (state_of w)))) (Ok (f x)) (λ z. ap not (lt-ltb i (outcomes (state_of w)) h)) in
+      true≢false (sym (table_listed (count_order w ++ rest) (f x) Refusal.Outcome (sym above ∙ sym (table_seen f t x) ∙ sym p.answer ∙ e)))
 
   -- the count of an image, and an index chosen of it by a unit number: a draw of that index may be refused, but not by 27
-  pub chosen_draws : (c : ℕ) (u : Float) (n r : Number) → Counts w n → n ≡ Value c → Chooses c u r → r ≡ Value i → NeverAbove w i
+  pub chosen_draws : (c : ℕ) (u : Float) (n r : Says ℕ) → Counts w n → n ≡ Ok c → Chooses c u r → r ≡ Ok i → NeverAbove w i
   unfolding count_says
   chosen_draws c u n r p e q f =
-      let k : outcomes (state_of w) ≡ c = given_is (count_order w) (outcomes (state_of w)) c (sym p.answer ∙ ap says_number e) in
+      let k : outcomes (state_of w) ≡ c = given_is (count_order w) (outcomes (state_of w)) c (sym p.answer ∙ e) in
       let h : i < outcomes (state_of w) = rw k (outcome_below c u r i q f) in
       record { below = h; never_27 = below_27 h }

@@ -6,7 +6,7 @@ ghost use Rattle.unit.specs.UnitNumber.{outside_count, is_unit, outcome_of};
 ghost use Rattle.unit.specs.Promises.{Chooses};
 ghost use Rattle.unit.specs.Chosen.{Choosable};
 
-use rules::Number;
+use rules::Refusal;
 
 // 0, or above 2^53. Strict tests, here and below: no order of branches to follow.
 fn is_outside(count: u64) -> bool
@@ -31,14 +31,14 @@ fn index_of(count: u64, u: f64) -> u64
     whole.min(count - 1)
 }
 
-pub fn outcome_of(count: u64, u: f64) -> Number
+pub fn outcome_of(count: u64, u: f64) -> Result<u64, Refusal>
     ensures { Chooses count u result }
 {
     if is_outside(count) {
-        return Number::Refused(refusals::by(80));
+        return Err(Refusal::UnitCount);
     }
     if !is_unit(u) {
-        return Number::Refused(refusals::by(81));
+        return Err(Refusal::UnitNumber);
     }
-    Number::Value(index_of(count, u))
+    Ok(index_of(count, u))
 }

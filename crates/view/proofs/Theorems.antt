@@ -1,4 +1,5 @@
 -- What an agent cannot see, from the promise of the observation alone. Assumes nothing.
+use Rattle.std.specs.Prelude.{Ok, Err}
 use Prim.Native.Nat.{ℕ, ◌*◌}
 use mathlib.Core.Path.{◌≡◌, sym, ap, ap₂, ◌∙◌}
 use mathlib.Core.Logic.{⊎_elim}
@@ -11,16 +12,14 @@ use borrow.Author.Tests.{ltb-true}
 use Rattle.lists.specs.Choice.{◌if◌else◌}
 use Rattle.lists.proofs.Tests.{tell}
 use Rattle.rules.specs.Image.{snakes_in, well_formed}
-use Rattle.rules.specs.Tables.{by}
-use Rattle.rules.specs.Says.{refuses, gives, seen, lent, by_table}
+use Rattle.rules.specs.Says.{Says, seen, lent, by_table}
 use Rattle.rules.specs.Calls.{observe_says}
 use Rattle.rules.specs.Promises.{Observes}
-use Rattle.rules.specs.declared.Answer.{Answer}
 use Rattle.rules.proofs.Facts.{sound}
-use Rattle.rules.proofs.Answers.{answer_one}
 use Rattle.rules.proofs.Faults.{image_on}
 use Rattle.rules.specs.Seen.{Alike, DifferOnly, SameSeen}
 use Rattle.rules.proofs.View.{same_view, alike}
+use Rattle.rules.specs.declared.refusal.Refusal.TheVariants as Refusal
 
 module _ (w v : List ℕ) (a : ℕ) (p : well_formed w ≡ true) (q : well_formed v ≡ true) (k : Alike w v a) where
   inside_says : (room : ℕ) → ltb a (snakes_in w) ≡ true → observe_says w a room ≡ observe_says v a room
@@ -29,7 +28,7 @@ module _ (w v : List ℕ) (a : ℕ) (p : well_formed w ≡ true) (q : well_forme
       let u : ltb a (snakes_in v) ≡ true = ap (ltb a) (sym k.snakes) ∙ t in
       image_on w _ _ p
       ∙ rw (t, u)
-      (ap₂ (λ (g : ℕ) (x : List Float). refuses (by 29) if ltb room (5 * (g * g)) else gives x) k.side (same_view w v a (ltb-true a (snakes_in w) t) k))
+      (ap₂ (λ (g : ℕ) (x : List Float). Err Refusal.Buffer if ltb room (5 * (g * g)) else Ok x) k.side (same_view w v a (ltb-true a (snakes_in w) t) k))
       ∙ sym (image_on v _ _ q)
 
   outside_says : (room : ℕ) → ltb a (snakes_in w) ≡ false → observe_says w a room ≡ observe_says v a room
@@ -40,13 +39,13 @@ module _ (w v : List ℕ) (a : ℕ) (p : well_formed w ≡ true) (q : well_forme
   same_says room = ⊎_elim (inside_says room) (outside_says room) (tell (ltb a (snakes_in w)))
 
 module _ (w v : List ℕ) (a : ℕ) (p : well_formed w ≡ true) (q : well_formed v ≡ true)
-    (old new new' : List Float) (r r' : Answer) (x : Observes w a old new r) (y : Observes v a old new' r') where
+    (old new new' : List Float) (r r' : Says ℕ) (x : Observes w a old new r) (y : Observes v a old new' r') where
   -- of images alike in side, number of snakes, bodies, food and the agent's own heading
   pub same_seen : Alike w v a → SameSeen new new' r r'
   same_seen k =
       let e = same_says w v a p q k (length old) in
       record {
-        answers = answer_one r r' (x.answer ∙ ap (seen (λ v. length v)) e ∙ sym y.answer);
+        answers = (x.answer ∙ ap (seen (λ v. length v)) e ∙ sym y.answer);
         numbers = x.numbers ∙ ap (lent (λ v. v) old) e ∙ sym y.numbers;
       }
 

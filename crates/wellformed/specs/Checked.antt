@@ -1,5 +1,6 @@
 -- What the tests of an image have shown so far, as facts for the tests that come after them. Assumes nothing.
-use Rattle.std.specs.Prelude.{ℕ, ◌+◌, ◌<◌, ◌≤◌, List, ◌≡◌, Bool, ltb, length}
+use Rattle.std.specs.Prelude.{ℕ, ◌+◌, ◌<◌, ◌≤◌, List, ◌≡◌, Bool, true, false, ltb, length, Option, MatchOption}
+use Rattle.lists.specs.Below.{all_below}
 use Rattle.lists.specs.Lists.{all}
 use Rattle.boards.specs.Boards.{Under}
 use Rattle.rules.specs.Image.{front, snakes_in, side_in, area_in, start_at, length_at, food_start, body_at, starts_fit}
@@ -38,3 +39,7 @@ pub record Adds (w : List ℕ) (r : Layout) : Type 0 where
 -- whether all cells of a list are below the area
 pub record Below (l : List ℕ) (area : ℕ) (r : Bool) : Type 0 where
   pub says : r ≡ all (λ c. ltb c area) l
+
+-- r is the first number below n that fails a test, none where all pass
+abbrev pub FirstOut : ℕ → (ℕ → Bool) → Option ℕ → Type 0
+FirstOut n fits r = MatchOption r (all_below n fits ≡ true) (λ i. (i < n) × (fits i ≡ false) × (all_below i fits ≡ true))

@@ -1,4 +1,5 @@
 -- Which word each search finds: a law for each return and each turn of a loop. Assumes nothing.
+use Rattle.std.specs.Prelude.{Option, Some, None}
 use Prim.Native.Nat.{ℕ, ◌+◌, ◌-◌, ◌*◌, ◌<◌, ◌≤◌, max}
 use native.Mathlib.Omega.{arith}
 use mathlib.Core.Path.{◌≡◌, sym, ap, ◌∙◌}
@@ -11,12 +12,13 @@ use lib.ListN.{length, get_or, take, drop, length-drop}
 use lib.Seq.{length-take-le}
 use borrow.Author.Tests.{le-leb, lt-leb, not-true}
 use Rattle.lists.specs.Lists.{member, distinct}
-use Rattle.lists.proofs.Lowest.{lowest_le, Passing, pass_none, pass_from, pass_here, pass_on, pass_all, out_here, out_none}
+use Rattle.lists.proofs.Lowest.{lowest_le, Passing, pass_none, pass_from, pass_here, pass_on, pass_all}
+use Rattle.lists.proofs.Below.{all_done}
 use Rattle.lists.proofs.Lists.{part_is}
 use Rattle.boards.specs.Boards.{Stamped}
 use Rattle.rules.specs.Image.{word, snakes_in, area_in, body_at, food_start}
-use Rattle.rules.specs.Faults.{first_out, cell_word, twice_in, food_word}
-use Rattle.wellformed.specs.Checked.{OnBoard}
+use Rattle.rules.specs.Faults.{cell_word, twice_in, food_word}
+use Rattle.wellformed.specs.Checked.{FirstOut, OnBoard}
 use Rattle.wellformed.proofs.Loops.{BodiesTo, body_ends, body_fits}
 
 module _ (w : List ℕ) where
@@ -41,15 +43,15 @@ module _ (w : List ℕ) where
 
   -- ---- `first_twice`: the bodies so far have no cell twice
 
-  abbrev first_twice : ℕ
-  first_twice = first_out (snakes_in w) (λ i. distinct (body_at w i))
+  abbrev FirstTwice : Option ℕ → Type 0
+  FirstTwice r = FirstOut (snakes_in w) (λ i. distinct (body_at w i)) r
 
   module _ (board : List ℕ) (i : ℕ) (v : BodiesTo w board i) where
-    pub twice_here : i < snakes_in w → (b : Bool) (next : List ℕ) → Stamped (body_at w i) (i + 1) b next → not b ≡ true → i ≡ first_twice
-    twice_here h b next s t = out_here _ (snakes_in w) i h v.so_far (sym s.says ∙ not-true b t)
+    pub twice_here : i < snakes_in w → (b : Bool) (next : List ℕ) → Stamped (body_at w i) (i + 1) b next → not b ≡ true → FirstTwice (Some i)
+    twice_here h b next s t = (h, sym s.says ∙ not-true b t, v.so_far)
 
-    pub twice_none : snakes_in w ≤ i → snakes_in w ≡ first_twice
-    twice_none l = let e : snakes_in w ≡ i = omega (arith, v.within) in e ∙ out_none _ (snakes_in w) i v.within l v.so_far
+    pub twice_none : snakes_in w ≤ i → FirstTwice None
+    twice_none l = sym (all_done (λ i. distinct (body_at w i)) v.within l (sym v.so_far))
 
   -- ---- `twice_at`: the start and the length stand at words k and m
 

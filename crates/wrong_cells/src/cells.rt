@@ -1,9 +1,10 @@
-// Faults of the cells: one beyond the grid, one twice in a body, food that does not rise.
+// Faults of the cells: one beyond the grid, one twice in a body, food that does not rise. Words and places are no Option: they are asked for only where
+// there is one, and where there is none `cell_word`, `twice_in` and `food_word` have a value too.
 ghost use Rattle.std.specs.Prelude.{◌≡◌, ◌+◌, ◌<◌};
 ghost use Rattle.lists.specs.Lists.{distinct};
 ghost use Rattle.rules.specs.Image.{snakes_in, start_at, body_at, food_start};
-ghost use Rattle.rules.specs.Faults.{first_out, cell_word, twice_in, food_word};
-ghost use Rattle.wellformed.specs.Checked.{Ranged, Laid, OnBoard};
+ghost use Rattle.rules.specs.Faults.{cell_word, twice_in, food_word};
+ghost use Rattle.wellformed.specs.Checked.{FirstOut, Ranged, Laid, OnBoard};
 
 use layout::{front, length_at, start_at};
 use wellformed::body_once;
@@ -22,19 +23,19 @@ pub fn first_beyond(image: &[u16]) -> usize
     image.len()
 }
 
-// 55: the first snake with a cell twice in its body, or n. One board for all bodies, as in the check.
-pub fn first_twice(image: &[u16]) -> usize
+// 55: the first snake with a cell twice in its body. One board for all bodies, as in the check; a loop, since a closure that writes on it tells its caller nothing.
+pub fn first_twice(image: &[u16]) -> Option<usize>
     requires { OnBoard image.now }
-    ensures { result ≡ first_out (snakes_in image.now) (λ i. distinct (body_at image.now i)) }
+    ensures { FirstOut (snakes_in image.now) (λ i. distinct (body_at image.now i)) result }
 {
     let n = image[0] as usize;
     let mut board = [0u8; 1024];
     for i in 0..n {
         if !body_once(image, i, &mut board) {
-            return i;
+            return Some(i);
         }
     }
-    n
+    None
 }
 
 // The first place whose cell stood earlier in the body.

@@ -1,4 +1,5 @@
 -- Which word each search finds: a law for each return and each turn of a loop. Assumes nothing.
+use Rattle.std.specs.Prelude.{Some, None}
 use Prim.Native.Nat.{ℕ, ◌+◌, ◌*◌, ◌<◌, ◌≤◌}
 use native.Mathlib.Omega.{arith}
 use mathlib.Core.Path.{◌≡◌, sym, ap, ◌∙◌}
@@ -9,21 +10,22 @@ use borrow.Author.Tests.{eq-eqb, ne_eqb, not-true, not-false}
 use Rattle.lists.proofs.Lowest.{out_here, out_none}
 use Rattle.rules.specs.Image.{snakes_in, record_fits}
 use Rattle.rules.specs.Faults.{first_out, start_word}
+use Rattle.wellformed.specs.Checked.{FirstOut}
 use Rattle.wellformed.proofs.Checked.{start_fits}
-use Rattle.wellformed.proofs.Loops.{RecordsTo, records_next, AddsTo, adds_next}
+use Rattle.wellformed.proofs.Loops.{RecordsTo, records_next, records_all, AddsTo, adds_next}
 
 module _ (w : List ℕ) where
   -- ---- `first_record`: the records so far fit
 
   module _ (n i : ℕ) (v : RecordsTo w n true i) (h : i < n) (b : Bool) (e : b ≡ record_fits w i) where
-    pub record_here : not b ≡ true → i ≡ first_out n (record_fits w)
-    record_here t = out_here (record_fits w) n i h (sym v.so_far) (sym e ∙ not-true b t)
+    pub record_here : not b ≡ true → FirstOut n (record_fits w) (Some i)
+    record_here t = (h, sym e ∙ not-true b t, sym v.so_far)
 
     pub record_on : not b ≡ false → RecordsTo w n true (i + 1)
     record_on t = rw (not-false b t) at (records_next w n true i v h b e)
 
-  pub record_none : (n i : ℕ) → RecordsTo w n true i → n ≤ i → n ≡ first_out n (record_fits w)
-  record_none n i v l = let e : n ≡ i = omega (arith, v.within) in e ∙ out_none (record_fits w) n i v.within l (sym v.so_far)
+  pub record_none : (n i : ℕ) → RecordsTo w n true i → n ≤ i → FirstOut n (record_fits w) None
+  record_none n i v l = sym (records_all w n true i v l)
 
   -- ---- `first_start`: the starts so far fit, and the next is due at `due`
 

@@ -1,8 +1,8 @@
 // Faults of the contents: words missing, words out of range, starts out of line.
 ghost use Rattle.std.specs.Prelude.{◌≡◌, ◌+◌, ◌*◌, ◌<◌, ◌≤◌, length};
 ghost use Rattle.rules.specs.Image.{front, area_in, record_fits};
-ghost use Rattle.rules.specs.Faults.{first_out, cut_short, contents_out, record_out, start_word};
-ghost use Rattle.wellformed.specs.Checked.{Ranged};
+ghost use Rattle.rules.specs.Faults.{cut_short, contents_out, record_out, start_word};
+ghost use Rattle.wellformed.specs.Checked.{FirstOut, Ranged};
 
 use layout::{alive_at, front, heading_at, length_at, start_at};
 use wellformed::record_fits;
@@ -55,20 +55,20 @@ pub fn record_out(image: &[u16], area: usize, i: usize) -> usize
     alive_at(i)
 }
 
-// The first record that does not fit, or n.
-pub fn first_record(image: &[u16], area: usize, n: usize) -> usize
+// The first record that does not fit. No `position`: it was tried, and what its clauses say of the record before the place was not found.
+pub fn first_record(image: &[u16], area: usize, n: usize) -> Option<usize>
     requires { (n < 65536) × (front n ≤ length image.now) × (area ≡ area_in image.now) }
-    ensures { result ≡ first_out n (record_fits image.now) }
+    ensures { FirstOut n (record_fits image.now) result }
 {
     for i in 0..n {
         if !record_fits(image, area, i) {
-            return i;
+            return Some(i);
         }
     }
-    n
+    None
 }
 
-// 52: the first start that is not where the part before it ends.
+// 52: the first start that is not where the part before it ends. No Option: it is asked only where there is one, and where there is none `start_word` has a value too.
 pub fn first_start(image: &[u16]) -> usize
     requires { Ranged image.now }
     ensures { result ≡ start_word image.now }

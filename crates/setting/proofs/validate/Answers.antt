@@ -1,13 +1,16 @@
--- `setting::validate` meets its contract: the first half's number where it is not 0, else the second half's, which asks that the first found nothing. Assumes nothing.
+-- `setting::validate` meets its contract: what the first half refuses, else the second half's answer. Assumes nothing.
+use Rattle.std.proofs.lemmas.Result.{err_from_is_err_and}
 use Rattle.rules.proofs.SettingParts.{limited_by}
-use Rattle.setting.proofs.Halves.{verdict_first, verdict_second}
+use Rattle.setting.proofs.Halves.{refused_first, second_says}
 use Rattle.setting.proofs.validate.Goals as goal
 
-pub returns-then-number-ne0 : goal.returns-then-number-ne0
-returns-then-number-ne0 c = search verdict_first
+pub returns-in_err-limits : goal.returns-in_err-limits
+returns-in_err-limits c =
+    let p = err_from_is_err_and c.from_residual.result c.from_residual.ensures.1 in
+    rw (p.1, p.2) (record { answer = refused_first c.args.setting c.limits.result c.limits.ensures _ c.in_err-limits.was })
 
-pub place_number-requires : goal.place_number-requires
-place_number-requires c = search limited_by
+pub check_places-requires : goal.check_places-requires
+check_places-requires c = limited_by c.args.setting c.limits.result c.limits.ensures c.in_ok-limits.was
 
 pub returns : goal.returns
-returns c = search verdict_second
+returns c = second_says c.args.setting c.limits.result c.limits.ensures c.in_ok-limits.was _ c.check_places.ensures

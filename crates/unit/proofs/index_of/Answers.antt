@@ -1,5 +1,4 @@
 -- `unit::index_of` meets its contract: the rounded product lies where it can be cut (`Products`). Assumes nothing.
-use Rattle.std.proofs.Common.{rules}
 use Rattle.unit.specs.UnitNumber.{outcome_of}
 use Rattle.unit.proofs.Products.{product}
 use Rattle.unit.proofs.index_of.Goals as goal
@@ -12,4 +11,4 @@ truncating_f64_to_u64-whole-requires-clause-upper_bound c = (product c.args.coun
 
 pub returns : goal.returns
 unfolding outcome_of
-returns c = search rules
+returns c = rw (c.min.ensures, c.truncating_f64_to_u64-whole.ensures)

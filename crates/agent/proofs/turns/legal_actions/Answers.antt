@@ -1,11 +1,14 @@
--- `agent::legal_actions` meets its contract: an image that is not well-formed is refused by its fault, and one that is is sound, which `legal_in` asks.
+-- `agent::legal_actions` meets its contract: what the check refuses is refused so, and an image that it accepts is sound, which `legal_in` asks.
 -- Assumes nothing.
-use Rattle.rules.proofs.Facts.{passed, failed}
+use Rattle.std.proofs.lemmas.Result.{err_from_is_err_and}
+use Rattle.image.proofs.Examined.{image_sound}
 use Rattle.agent.proofs.Gates.{legal_faulty}
 use Rattle.agent.proofs.turns.legal_actions.Goals as goal
 
-pub returns-then-not-well_formed : goal.returns-then-not-well_formed
-returns-then-not-well_formed c = search (legal_faulty, failed)
+pub returns-in_err-check_image : goal.returns-in_err-check_image
+returns-in_err-check_image c =
+    let p = err_from_is_err_and c.from_residual.result c.from_residual.ensures.1 in
+    rw (p.1, p.2) (legal_faulty _ _ c.in_err-check_image.ensures _)
 
 pub legal_in-requires : goal.legal_in-requires
-legal_in-requires c = search passed
+legal_in-requires c = image_sound _ _ c.in_ok-check_image.ensures

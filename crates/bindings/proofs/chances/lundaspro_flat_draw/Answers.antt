@@ -2,8 +2,8 @@
 use Rattle.bindings.proofs.Saying.{draw_told, draw_refused}
 use Rattle.bindings.proofs.chances.lundaspro_flat_draw.Goals as goal
 
-pub returns-in-Done : goal.returns-in-Done
-returns-in-Done c = search draw_told
+pub returns-in-Ok : goal.returns-in-Ok
+returns-in-Ok c = search draw_told
 
-pub returns-in-Refused : goal.returns-in-Refused
-returns-in-Refused c = search draw_refused
+pub returns-in-Err : goal.returns-in-Err
+returns-in-Err c = search draw_refused

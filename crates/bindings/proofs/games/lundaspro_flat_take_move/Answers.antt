@@ -2,8 +2,8 @@
 use Rattle.bindings.proofs.GameLaws.{move_told, move_refused}
 use Rattle.bindings.proofs.games.lundaspro_flat_take_move.Goals as goal
 
-pub returns-in-Accepted : goal.returns-in-Accepted
-returns-in-Accepted c = search move_told
+pub returns-in-Ok : goal.returns-in-Ok
+returns-in-Ok c = search move_told
 
-pub returns-in-Refused : goal.returns-in-Refused
-returns-in-Refused c = search move_refused
+pub returns-in-Err : goal.returns-in-Err
+returns-in-Err c = search move_refused

@@ -2,8 +2,8 @@
 use Rattle.bindings.proofs.Saying.{image_accepted, image_refused}
 use Rattle.bindings.proofs.matches.lundaspro_flat_check_image.Goals as goal
 
-pub returns-in-Accepted : goal.returns-in-Accepted
-returns-in-Accepted c = search image_accepted
+pub returns-in-Ok : goal.returns-in-Ok
+returns-in-Ok c = search image_accepted
 
-pub returns-in-Refused : goal.returns-in-Refused
-returns-in-Refused c = search image_refused
+pub returns-in-Err : goal.returns-in-Err
+returns-in-Err c = search image_refused

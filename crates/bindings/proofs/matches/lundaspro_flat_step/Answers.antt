@@ -2,8 +2,8 @@
 use Rattle.bindings.proofs.Saying.{step_told, step_refused}
 use Rattle.bindings.proofs.matches.lundaspro_flat_step.Goals as goal
 
-pub returns-in-Done : goal.returns-in-Done
-returns-in-Done c = search step_told
+pub returns-in-Ok : goal.returns-in-Ok
+returns-in-Ok c = search step_told
 
-pub returns-in-Refused : goal.returns-in-Refused
-returns-in-Refused c = search step_refused
+pub returns-in-Err : goal.returns-in-Err
+returns-in-Err c = search step_refused

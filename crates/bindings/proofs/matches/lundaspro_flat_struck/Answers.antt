@@ -2,8 +2,8 @@
 use Rattle.bindings.proofs.Saying.{struck_told, struck_refused}
 use Rattle.bindings.proofs.matches.lundaspro_flat_struck.Goals as goal
 
-pub returns-in-Accepted : goal.returns-in-Accepted
-returns-in-Accepted c = search struck_told
+pub returns-in-Ok : goal.returns-in-Ok
+returns-in-Ok c = search struck_told
 
-pub returns-in-Refused : goal.returns-in-Refused
-returns-in-Refused c = search struck_refused
+pub returns-in-Err : goal.returns-in-Err
+returns-in-Err c = search struck_refused

@@ -2,8 +2,8 @@
 use Rattle.bindings.proofs.Saying.{setting_accepted, setting_refused}
 use Rattle.bindings.proofs.matches.lundaspro_flat_validate.Goals as goal
 
-pub returns-in-Accepted : goal.returns-in-Accepted
-returns-in-Accepted c = search setting_accepted
+pub returns-in-Ok : goal.returns-in-Ok
+returns-in-Ok c = search setting_accepted
 
-pub returns-in-Refused : goal.returns-in-Refused
-returns-in-Refused c = search setting_refused
+pub returns-in-Err : goal.returns-in-Err
+returns-in-Err c = search setting_refused

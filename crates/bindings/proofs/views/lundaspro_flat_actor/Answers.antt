@@ -1,12 +1,13 @@
 -- `bindings::lundaspro_flat_actor` meets its contract: each case of the answer (`Saying`). Assumes nothing.
+use borrow.Author.Rules.{rules}
 use Rattle.bindings.proofs.Saying.{chance_told, all_told, actor_refused}
 use Rattle.bindings.proofs.views.lundaspro_flat_actor.Goals as goal
 
-pub returns-in-Chance : goal.returns-in-Chance
-returns-in-Chance c = search chance_told
+pub returns-in-Ok-Chance : goal.returns-in-Ok-Chance
+returns-in-Ok-Chance c = search (rules, chance_told)
 
-pub returns-in-Simultaneous : goal.returns-in-Simultaneous
-returns-in-Simultaneous c = search all_told
+pub returns-in-Ok-Simultaneous : goal.returns-in-Ok-Simultaneous
+returns-in-Ok-Simultaneous c = search (rules, all_told)
 
-pub returns-in-Refused : goal.returns-in-Refused
-returns-in-Refused c = search actor_refused
+pub returns-in-Err : goal.returns-in-Err
+returns-in-Err c = search actor_refused

@@ -2,8 +2,8 @@
 use Rattle.bindings.proofs.Saying.{sum_told, sum_refused}
 use Rattle.bindings.proofs.views.lundaspro_flat_reward.Goals as goal
 
-pub returns-in-Sum : goal.returns-in-Sum
-returns-in-Sum c = search sum_told
+pub returns-in-Ok : goal.returns-in-Ok
+returns-in-Ok c = search sum_told
 
-pub returns-in-Refused : goal.returns-in-Refused
-returns-in-Refused c = search sum_refused
+pub returns-in-Err : goal.returns-in-Err
+returns-in-Err c = search sum_refused

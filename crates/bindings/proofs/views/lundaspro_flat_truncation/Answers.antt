@@ -2,8 +2,8 @@
 use Rattle.bindings.proofs.Saying.{mark_told, mark_refused}
 use Rattle.bindings.proofs.views.lundaspro_flat_truncation.Goals as goal
 
-pub returns-in-Marked : goal.returns-in-Marked
-returns-in-Marked c = search mark_told
+pub returns-in-Ok : goal.returns-in-Ok
+returns-in-Ok c = search mark_told
 
-pub returns-in-Refused : goal.returns-in-Refused
-returns-in-Refused c = search mark_refused
+pub returns-in-Err : goal.returns-in-Err
+returns-in-Err c = search mark_refused

@@ -8,5 +8,5 @@ use Rattle.book_words.proofs.settings.setting_in.Goals as goal
 
 pub returns : goal.returns
 returns c =
-    let e : to_z w32 (of_z w32 c.signed.result) ≡ c.signed.result = search rules in
+    let e : to_z w32 (of_z w32 c.from.result) ≡ c.from.result = search rules in
     rw e (search setting_read)

@@ -1,16 +1,11 @@
-use Rattle.std.proofs.Common.{ℕ, ◌≡◌, ◌≤◌, ◌||◌, ltb, eqb, arith}
-use Rattle.std.proofs.lemmas.Grind.{common_steps}
-use Rattle.lists.specs.Products.{falling, fitted}
-use Rattle.lists.proofs.Products.{falling_pos}
-use Rattle.lists.proofs.Fitted.{fitted_above}
+-- `bounds::too_many` meets its contract: a product that does not fit is above the limit (`fitted_above`). Assumes nothing.
+use Rattle.std.proofs.Common.{arith, sym, ap, ltb, ◌∙◌}
+use Rattle.lists.specs.Products.{falling}
+use Rattle.lists.proofs.Fitted.{fitted_above, fitted_is}
 use Rattle.bounds.proofs.numbers.too_many.Goals as goal
 
--- it does not fit, or is above the limit
-above : (area k : ℕ) → k ≤ area → (eqb (fitted (falling area k)) 0 || ltb 9007199254740992 (fitted (falling area k))) ≡ ltb 9007199254740992 (falling area k)
-above area k h = fitted_above 9007199254740992 (falling area k) (omega arith) (falling_pos area k h)
+pub returns-in-Some : goal.returns-in-Some
+returns-in-Some c = ap (ltb 9007199254740992) (fitted_is (falling c.args.area c.args.k) c.in-Some.product (sym c.product.ensures ∙ c.in-Some.is))
 
-pub returns-then-product-eq0 : goal.returns-then-product-eq0
-returns-then-product-eq0 c = let h = above _ _ c.requires in grind (arith, common_steps)
-
-pub returns-else-product-eq0 : goal.returns-else-product-eq0
-returns-else-product-eq0 c = let h = above _ _ c.requires in grind (arith, common_steps)
+pub returns-in-None : goal.returns-in-None
+returns-in-None c = sym (fitted_above (falling c.args.area c.args.k) (sym c.product.ensures ∙ c.in-None.is) 9007199254740992 (omega arith))

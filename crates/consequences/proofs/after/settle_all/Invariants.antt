@@ -5,4 +5,4 @@ use Rattle.consequences.specs.After.{settled_at, gone}
 use Rattle.consequences.proofs.after.settle_all.Given as goal
 
 abbrev pub invariant-loop-i : goal.invariant-loop-i
-invariant-loop-i l = Filling (settled_at l.judged.moves l.judged.fates) gone l.n l.i l.all
+invariant-loop-i l = Filling (settled_at l.judged.moves l.judged.causes) gone l.n l.i l.all

@@ -7,16 +7,17 @@ use Rattle.lists.proofs.numbers.product.Goals as goal
 pub loop-j-init : goal.loop-j-init
 loop-j-init c = (sym (falling_none c.args.n), omega arith)
 
-pub returns-in-None : goal.returns-in-None
-returns-in-None c =
+pub returns-in_err-p : goal.returns-in_err-p
+returns-in_err-p c =
     let s = c.loop-j in
     let a = c.args in
-    product_over a.n a.k s.j s.p c.loop-j-test.true c.requires s.invariant.0 (omega (arith, c.in-None.ensures))
+    c.from_residual.ensures
+    ∙ product_over a.n a.k s.j s.p c.loop-j-test.true c.requires s.invariant.0 (omega (arith, c.in_err-p.ensures))
 
 pub loop-j-preserved : goal.loop-j-preserved
 loop-j-preserved c =
     let s = c.loop-j in
-    let h = c.in-Some.ensures in
+    let h = c.in_ok-p.ensures in
     (h.1 ∙ rw s.invariant.0 (sym (falling_next c.args.n s.j)), omega arith)
 
 pub returns : goal.returns

@@ -4,4 +4,4 @@ use Rattle.contents.proofs.Laying.{accepted_wordy}
 use Rattle.make_book.proofs.table.put_contents.Goals as goal
 
 pub write_front-requires-clause-wordy : goal.write_front-requires-clause-wordy
-write_front-requires-clause-wordy c = search accepted_wordy
+write_front-requires-clause-wordy c = accepted_wordy c.args.setting c.validate.result c.validate.ensures c.in-Ok.is

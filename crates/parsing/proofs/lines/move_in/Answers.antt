@@ -9,4 +9,4 @@ returns-then-field_count-n c = let e = sym c.field_count.ensures ∙ c.if-field_
 
 pub returns-else-field_count-n : goal.returns-else-field_count-n
 unfolding move_in
-returns-else-field_count-n c = let e = c.field_count.ensures in c.no_entry.ensures ∙ rw (ne_eqb _ _ (λ p. c.if-field_count-n.false (e ∙ p)))
+returns-else-field_count-n c = let e = c.field_count.ensures in rw (ne_eqb _ _ (λ p. c.if-field_count-n.false (e ∙ p)))

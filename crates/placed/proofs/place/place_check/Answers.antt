@@ -16,7 +16,7 @@ returns-then-grid-lt2 c =
     let p = c.requires.limited in
     let e : to_z w32 (of_z w32 s.grid_size) ≡ s.grid_size = search rules in
     let h : lt_z s.grid_size (pos 2) ≡ true = rw e at c.if-grid-lt2.true in
-    judge_small _ s.initial_length 1 _ _ _ _ (small_less s.num_snakes s.initial_food_count p.snakes_min p.snakes_max s.grid_size s.initial_length p.size_min h) c.beyond.ensures
+    judge_small _ _ _ _ _ _ (small_less s.num_snakes s.initial_food_count p.snakes_min p.snakes_max s.grid_size s.initial_length p.size_min h) c.beyond.ensures
 
 pub returns-then-grid-lt3 : goal.returns-then-grid-lt3
 returns-then-grid-lt3 c =
@@ -25,4 +25,4 @@ returns-then-grid-lt3 c =
     let e : to_z w32 (of_z w32 s.grid_size) ≡ s.grid_size = search rules in
     let h : lt_z s.grid_size (pos 2) ≡ false = rw e at c.if-grid-lt2.false in
     let k : lt_z s.grid_size (pos 3) ≡ true = rw e at c.if-grid-lt3.true in
-    judge_small _ s.initial_length 3 _ _ _ _ (small_two s.num_snakes s.initial_food_count p.snakes_min p.snakes_max s.grid_size s.initial_length p.size_min (grid_two s.grid_size h k)) c.beyond-then-grid-lt3.ensures
+    judge_small _ _ _ _ _ _ (small_two s.num_snakes s.initial_food_count p.snakes_min p.snakes_max s.grid_size s.initial_length p.size_min (grid_two s.grid_size h k)) c.beyond-then-grid-lt3.ensures

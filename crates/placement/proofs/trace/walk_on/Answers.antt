@@ -3,6 +3,7 @@ use native.Mathlib.Nat.{lt_irrefl}
 use native.Mathlib.Omega.{arith}
 use mathlib.Core.Path.{◌≡◌, sym, ap, ◌∙◌}
 use mathlib.Core.Bool.{true, false}
+use mathlib.Core.List.{List}
 use lib.IntN.{pos}
 use lib.ListN.{get_or}
 use Rattle.rules.specs.Grid.{ahead, inside}
@@ -18,7 +19,7 @@ returns-then-on_grid c =
     let a = c.args in
     let t = c.loop-turn-test.true in
     let q : c.ahead-next.result ≡ ahead (get_or (tracing a.even) c.loop-turn.turn Up) a.from.place =
-    c.ahead-next.ensures ∙ ap (λ (h : Heading). ahead h a.from.place) c.direction.ensures in
+    c.ahead-next.ensures ∙ ap (λ (l : List Heading). ahead (get_or l c.loop-turn.turn Up) a.from.place) c.directions-directions.ensures in
     let i : inside (pos a.g) c.ahead-next.result ≡ true = sym c.on_grid.ensures ∙ c.if-on_grid.true in (
       t,
       record {
@@ -33,7 +34,7 @@ pub loop-turn-preserved : goal.loop-turn-preserved
 loop-turn-preserved c =
     let a = c.args in
     let q : c.ahead-next.result ≡ ahead (get_or (tracing a.even) c.loop-turn.turn Up) a.from.place =
-    c.ahead-next.ensures ∙ ap (λ (h : Heading). ahead h a.from.place) c.direction.ensures in
+    c.ahead-next.ensures ∙ ap (λ (l : List Heading). ahead (get_or l c.loop-turn.turn Up) a.from.place) c.directions-directions.ensures in
     let i : inside (pos a.g) c.ahead-next.result ≡ false = sym c.on_grid.ensures ∙ c.if-on_grid.false in
     c.loop-turn.invariant ∙ walk_shut (pos a.g) a.even a.from.place c.loop-turn.turn c.loop-turn-test.true (ap (λ (p : Place). inside (pos a.g) p) (sym q) ∙ i)
 

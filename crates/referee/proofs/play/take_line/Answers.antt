@@ -2,7 +2,10 @@
 -- Assumes nothing.
 use borrow.Author.Rules.{rules}
 use mathlib.Core.Bool.{false, not}
-use mathlib.Core.Path.{◌≡◌}
+use mathlib.Core.Path.{◌≡◌, sym}
+use Prim.Native.Nat.{◌≤◌}
+use lib.ListN.{length}
+use lib.Seq.{length-take-le}
 use Rattle.referee.proofs.Lines.{desk_stays, desk_words, desk_room, desk_moves}
 use Rattle.referee.proofs.play.take_line.Goals as goal
 
@@ -15,6 +18,11 @@ returns-then-not-t c = search desk_stays
 
 pub slice_bounds-write_at-end : goal.slice_bounds-write_at-end
 slice_bounds-write_at-end c = search (rules, desk_words)
+
+pub slice_bounds-write_at-end-2 : goal.slice_bounds-write_at-end-2
+slice_bounds-write_at-end-2 c =
+    let l : c.ask-t.result.words ≤ length c.ask-t.new.next = search (rules, desk_words) in
+    sym (length-take-le _ _ l)
 
 pub returns : goal.returns
 returns c =

@@ -3,8 +3,8 @@
 use Rattle.referee.proofs.Lines.{begin_stops, begin_opens}
 use Rattle.referee.proofs.turns.begin.Goals as goal
 
-pub returns-in_default : goal.returns-in_default
-returns-in_default c = search begin_stops
+pub returns-in-None : goal.returns-in-None
+returns-in-None c = search begin_stops
 
-pub returns : goal.returns
-returns c = search begin_opens
+pub returns-in-Some : goal.returns-in-Some
+returns-in-Some c = search begin_opens

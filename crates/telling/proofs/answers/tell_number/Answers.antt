@@ -1,9 +1,9 @@
 -- `telling::tell_number` meets its contract: each case of the answer (`Saying`). Assumes nothing.
-use Rattle.telling.proofs.Saying.{value_told, number_refused}
+use Rattle.telling.proofs.Saying.{number_told, number_refused}
 use Rattle.telling.proofs.answers.tell_number.Goals as goal
 
-pub returns-in-Value : goal.returns-in-Value
-returns-in-Value c = search value_told
+pub returns-in-Ok : goal.returns-in-Ok
+returns-in-Ok c = search number_told
 
-pub returns-in-Refused : goal.returns-in-Refused
-returns-in-Refused c = search number_refused
+pub returns-in-Err : goal.returns-in-Err
+returns-in-Err c = search number_refused

@@ -1,4 +1,4 @@
--- `consequences::Snakes::find_killers` meets its contract: the invariant says that the deaths passed are credited and the places after them 0 (`Laws`).
+-- `consequences::Snakes::find_killers` meets its contract: the invariant says that the deaths passed are credited and nobody in the places after them (`Laws`).
 -- Assumes nothing.
 use Rattle.judge.proofs.Loops.{fill_none}
 use Rattle.consequences.proofs.Laws.{killers_next}
