@@ -1,5 +1,5 @@
-/* The calls of the snake arena from C: a shared library of dist/, for x86-64 or aarch64 Linux; or crate bindings as target/staticlib/libbindings.a (`rt staticlib
- * bindings`) on x86-64.
+/* The calls of the snake arena from C: a shared library of dist/, for x86-64 or aarch64 Linux; or crate bindings as target/staticlib/libbindings.a
+ * (`clients/archive`) on x86-64.
  *
  * Every exported call is proved to answer as the call of crate arena, book or standing that it wraps, for every input; none has a precondition of its own. An
  * exported call (`lundaspro_flat_..`, below) takes numbers, arrays of fixed size and slices, and returns its refusal. The calls to use, with records, are
