@@ -7,8 +7,8 @@ pub use agent::{
 pub use chance::{count, draw, rank};
 pub use image::{body, check_image, well_formed};
 pub use rules::{
-    Actor, Cause, Drawn, Event, Heading, Hit, Legal, Refusal, RelativeAction, Setting, Space,
-    Stepped, Weights,
+    Actor, Cause, DeathCause, Drawn, Event, Heading, Hit, Legal, Refusal, RelativeAction, Setting,
+    Space, Stepped, Weights,
 };
 pub use score::{length_cell, reward};
 pub use setting::{initial_state, validate};

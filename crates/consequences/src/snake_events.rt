@@ -8,7 +8,7 @@ use crate::after::Tally;
 use crate::killers::is_killer;
 use crate::settled::Snakes;
 use events::{is_death, no_events};
-use rules::Event;
+use rules::{DeathCause, Event};
 
 impl Snakes {
     // Snake i's, settled so.
@@ -30,7 +30,7 @@ impl Snakes {
         Event {
             ate_food: a.ate,
             died,
-            death_cause: a.cause,
+            death_cause: DeathCause::new(a.cause),
             killed_opponent: is_killer(to, self.count, i),
             won: a.lives & (alive == 1) & (0 < deaths) | leads,
             lost: died & (0 < alive) | a.lives & !leads & leader.is_some(),

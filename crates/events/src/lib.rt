@@ -4,9 +4,9 @@
 ghost use Rattle.std.specs.Prelude.{◌≡◌, ◌≤◌, replicate};
 ghost use Rattle.rules.specs.Events.{dies, blank};
 ghost use Rattle.rules.specs.Turns.{truncated};
-ghost use Rattle.events.specs.Causes.{cause_number, cause_in};
+ghost use Rattle.rules.specs.Causes.{cause_number, cause_in};
 
-use rules::{Cause, Event};
+use rules::{Cause, DeathCause, Event};
 
 pub fn is_death(cause: Option<Cause>) -> bool
     ensures { result ≡ dies cause }
@@ -18,13 +18,7 @@ pub fn is_death(cause: Option<Cause>) -> bool
 pub fn cause_number(cause: Option<Cause>) -> u16
     ensures { (result ≡ cause_number cause) × (result ≤ 4) }
 {
-    match cause {
-        None => 0,
-        Some(Cause::Wall) => 1,
-        Some(Cause::SelfBody) => 2,
-        Some(Cause::OppBody) => 3,
-        Some(Cause::HeadOn) => 4,
-    }
+    u16::from(DeathCause::new(cause).number())
 }
 
 pub fn cause_in(number: u16) -> Option<Cause>
@@ -46,7 +40,7 @@ pub fn no_events() -> [Event; 8]
     [Event {
         ate_food: false,
         died: false,
-        death_cause: None,
+        death_cause: DeathCause::new(None),
         killed_opponent: false,
         won: false,
         lost: false,

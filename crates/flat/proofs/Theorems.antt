@@ -23,7 +23,7 @@ use Rattle.rules.specs.declared.Setting.{Setting}
 use Rattle.rules.specs.declared.Cause.{Cause}
 use Rattle.rules.specs.declared.Cause.TheVariants.{Wall, SelfBody, OppBody, HeadOn}
 use Rattle.rules.specs.declared.Event.{Event}
-use Rattle.events.specs.Causes.{cause_in, cause_number}
+use Rattle.rules.specs.Causes.{cause_in, cause_number}
 use Rattle.standing.specs.Standing.{fresh}
 use Rattle.standing.specs.declared.Match.{Match}
 use Rattle.flat.specs.Flat.{flag_in, limit_in, grid_in, setting_in, event_in, event_bytes, events_bytes, refusal_number, refusal_in}

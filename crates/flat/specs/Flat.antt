@@ -4,7 +4,7 @@ use Rattle.std.specs.Float.{nan}
 use Rattle.lists.specs.Choice.{◌if◌else◌, bit}
 use Rattle.lists.specs.Below.{each_below}
 use Rattle.rules.specs.Events.{blank}
-use Rattle.events.specs.Causes.{cause_number, cause_in}
+use Rattle.rules.specs.Causes.{cause_number, cause_in}
 use Rattle.rules.specs.declared.refusal.Refusal.{Refusal}
 use Rattle.rules.specs.declared.Setting.{Setting}
 use Rattle.rules.specs.declared.Weights.{Weights}

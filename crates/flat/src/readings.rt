@@ -3,7 +3,7 @@ ghost use Rattle.std.specs.Prelude.{◌≡◌};
 ghost use Rattle.flat.specs.Flat.{limit_in, grid_in, setting_in, weights_in, event_in};
 
 use events::cause_in;
-use rules::{Event, Setting, Weights};
+use rules::{DeathCause, Event, Setting, Weights};
 
 fn limit_in(set: u64, number: u64) -> Option<u64>
     ensures { result ≡ limit_in set number }
@@ -62,7 +62,7 @@ pub fn event_in(e: &[u8; 8]) -> Event
     Event {
         ate_food: e[0] != 0,
         died: e[1] != 0,
-        death_cause: cause_in(e[2] as u16),
+        death_cause: DeathCause::new(cause_in(e[2] as u16)),
         killed_opponent: e[3] != 0,
         won: e[4] != 0,
         lost: e[5] != 0,

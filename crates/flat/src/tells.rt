@@ -3,7 +3,6 @@ ghost use Rattle.std.specs.Prelude.{◌≡◌};
 ghost use Rattle.lists.specs.Choice.{bit};
 ghost use Rattle.flat.specs.Flat.{refusal_number, event_bytes, events_bytes, hit_words, hits_words};
 
-use events::cause_number;
 use rules::{Event, Hit, Refusal};
 
 // The number, and 256 times the word: no refusal's word is above 65,535.
@@ -31,7 +30,7 @@ pub fn event_bytes(e: Event) -> [u8; 8]
     [
         byte(e.ate_food),
         byte(e.died),
-        cause_number(e.death_cause) as u8,
+        e.death_cause.number(),
         byte(e.killed_opponent),
         byte(e.won),
         byte(e.lost),

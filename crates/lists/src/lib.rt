@@ -24,7 +24,10 @@ pub fn write_at(out: &mut [u16], at: usize, src: &[u16])
     requires { at + length src.now ≤ length out.old }
     ensures { out.new ≡ write_at out.old at src.now }
 {
-    out[at..at + src.len()].copy_from_slice(src);
+    // A loop: the library's copy between slices needs `memmove` of whoever links the archive.
+    for (j, word) in src.iter().enumerate() {
+        out[at + j] = *word;
+    }
 }
 
 // Whether the word stands in the list. It reads all words, since without an exit the loop runs on vectors.

@@ -1,11 +1,13 @@
 // A page that a line shows: its words are counted in the first pass and written in the second.
-ghost use Rattle.std.specs.Prelude.{◌<◌, ◌≤◌, length};
+ghost use Rattle.std.specs.Prelude.{◌≡◌, ◌+◌, ◌<◌, ◌≤◌, length};
 
 use crate::words::put_words;
 use crate::{Fault, Tally};
 use stream::Progress;
 
-pub(crate) fn stop(t: Tally, fault: Fault) -> Tally {
+pub(crate) fn stop(t: Tally, fault: Fault) -> Tally
+    ensures { result.pages ≡ t.pages }
+{
     Tally {
         fault: Some(fault),
         ..t
@@ -14,6 +16,7 @@ pub(crate) fn stop(t: Tally, fault: Fault) -> Tally {
 
 fn go_on(t: Tally) -> Tally
     requires { t.pages < 65535 }
+    ensures { result.pages ≡ t.pages + 1 }
 {
     Tally {
         pages: t.pages + 1,
@@ -40,7 +43,9 @@ fn put_page(t: Tally, page: &[u16], lengths: &[u16; 65535], bytes: &mut [u8]) ->
     go_on(t)
 }
 
-fn refused(t: Tally) -> Tally {
+fn refused(t: Tally) -> Tally
+    ensures { result.pages ≡ t.pages }
+{
     if t.writes {
         return stop(t, Fault::Changed);
     }

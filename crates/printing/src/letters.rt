@@ -24,7 +24,8 @@ fn put_deeds(out: &mut [u8], at: usize, e: Event) -> usize
     ensures { Wrote out.old out.new at result (deeds_text e) 3 }
 {
     let i = put_if(out, at, e.ate_food, b'a');
-    let j = put_if(out, i, is_death(e.death_cause), letter_of(e.death_cause));
+    let cause = e.death_cause.get();
+    let j = put_if(out, i, is_death(cause), letter_of(cause));
     put_if(out, j, e.killed_opponent, b'k')
 }
 
@@ -43,8 +44,9 @@ pub fn put_events(out: &mut [u8], at: usize, e: Event) -> usize
     requires { at + 7 ≤ length out.old }
     ensures { Wrote out.old out.new at result (events_text e) 7 }
 {
-    let i = put_deeds(out, at, e);
-    let j = put_ends(out, i, e);
+    let event = &e;
+    let i = put_deeds(out, at, *event);
+    let j = put_ends(out, i, *event);
     if j == at { put(out, at, b'-') } else { j }
 }
 

@@ -92,8 +92,8 @@ fn show_move(m: Match, over: bool, image: &[u16], events: [Event; 8], out: &mut 
     requires { (snakes_in image.now ≤ 8) × (462 ≤ length out.old) }
     ensures { Shows (moved m over events) 109 over image.now (events_shown m over image.now events) out.old out.new result }
 {
+    let game = after_move(m, over, &events);
     let shown = events_shown(m, over, image, events);
-    let game = after_move(m, over, events);
     show(game, b'm', over, image, shown, out)
 }
 

@@ -9,11 +9,19 @@ pub fn book_room() -> [u16; 262144] {
     [PATTERN; 262144]
 }
 
-// Whether each word from there on is as it was made.
+// Whether each word from there on is as it was made. All are read, since without an exit the loop runs on vectors, and none is ever changed.
 pub fn kept(words: &[u16], from: usize) -> bool {
-    words.iter().skip(from).all(|word| *word == PATTERN)
+    match words.get(from..) {
+        Some(rest) => rest
+            .iter()
+            .fold(true, |same, word| same & (*word == PATTERN)),
+        None => true,
+    }
 }
 
 pub fn planes_kept(planes: &[f32], from: usize) -> bool {
-    planes.iter().skip(from).all(|light| *light == 0.5)
+    match planes.get(from..) {
+        Some(rest) => rest.iter().fold(true, |same, light| same & (*light == 0.5)),
+        None => true,
+    }
 }

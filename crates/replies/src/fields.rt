@@ -3,7 +3,7 @@ ghost use Rattle.std.specs.Prelude.{◌≤◌, length};
 
 use events::cause_in;
 use parsing::next_number;
-use rules::Event;
+use rules::{DeathCause, Event};
 
 // The fields of a call: the next one starts at that byte, a byte past the line where the last was read.
 #[derive(Clone, Copy)]
@@ -90,7 +90,7 @@ pub fn event_of(e: &[u64]) -> Event
     Event {
         ate_food: e[0] == 1,
         died: e[1] == 1,
-        death_cause: cause_in((e[2] % 65536) as u16),
+        death_cause: DeathCause::new(cause_in((e[2] % 65536) as u16)),
         killed_opponent: e[3] == 1,
         won: e[4] == 1,
         lost: e[5] == 1,

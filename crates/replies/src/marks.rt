@@ -1,6 +1,5 @@
 // Events and hits as numbers.
 use crate::reply::put_numbers;
-use events::cause_number;
 use rules::{Event, Hit};
 
 // E, an event's eight numbers.
@@ -8,7 +7,7 @@ pub fn event_numbers(e: Event) -> [u64; 8] {
     [
         u64::from(e.ate_food),
         u64::from(e.died),
-        u64::from(cause_number(e.death_cause)),
+        u64::from(e.death_cause.number()),
         u64::from(e.killed_opponent),
         u64::from(e.won),
         u64::from(e.lost),

@@ -23,7 +23,7 @@ use Rattle.rules.specs.Image.{due_in, image_of, state_of, well_formed}
 use Rattle.rules.specs.Chance.{free, draw_size, outcomes, drawn, with_food, after_draw, rank_of, can_rank}
 use Rattle.rules.specs.Fair.{Fair, Countable, Drawable, DrawWrote, RanksAsOne, Changed, Drawing}
 use Rattle.rules.specs.Births.{after_draws, Ends, InRange}
-use Rattle.rules.specs.Says.{Says, seen, beside, lent}
+use Rattle.rules.specs.Says.{Says, seen, lent}
 use Rattle.rules.specs.Faults.{image_rows}
 use Rattle.rules.specs.Orders.{due_rows, count_order, draw_rows, draw_order, rank_rows, rank_order}
 use Rattle.rules.specs.Calls.{Draw, drawn_of, count_says, draw_says, rank_says}

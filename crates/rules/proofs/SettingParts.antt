@@ -1,12 +1,11 @@
 -- The check of a setting is its first half, and its second where the first finds nothing. Assumes nothing.
 use Prim.Native.Nat.{ℕ, ◌≤◌, ◌^◌}
 use native.Mathlib.Omega.{arith}
-use mathlib.Core.Path.{◌≡◌, refl, sym, ◌∙◌}
+use mathlib.Core.Path.{◌≡◌, sym, ◌∙◌}
 use mathlib.Core.Bool.{true, false, not, ◌&&◌}
 use lib.Dec.{ltb, eqb}
 use lib.ListN.{get_or}
 use borrow.Author.Tests.{ltb-false, eqb-false}
-use Rattle.lists.specs.Lists.{all}
 use Rattle.rules.specs.Tables.{none_hold}
 use Rattle.rules.proofs.Tables.{and_then, then_first, then_gives, table_after, table_gives, table_given, fault_none, none_fault, row_out}
 use Rattle.lists.proofs.Tests.{or_false_left, or_false_right}

@@ -20,8 +20,8 @@ use Rattle.rules.specs.SettingParts.{place_says}
 use Rattle.rules.specs.declared.Place.{Place}
 use Rattle.rules.specs.declared.Heading.{Heading}
 use Rattle.rules.proofs.Placement.{none_left, shut_first, trail_shut}
-use Rattle.std.specs.Prelude.{Ok, Err}
-use Rattle.rules.specs.Says.{Says, by_table}
+use Rattle.std.specs.Prelude.{Err}
+use Rattle.rules.specs.Says.{by_table}
 use Rattle.rules.specs.declared.refusal.Refusal.TheVariants as Refusal
 
 -- 9 by a body that is short

@@ -3,10 +3,10 @@ use Rattle.std.specs.Prelude.{Ok, Err}
 use Prim.Native.Nat.{ℕ, zero, suc}
 use native.Mathlib.Nat.{suc-ne-zero}
 use native.Mathlib.Omega.{arith}
-use borrow.Author.Tests.{not-true, eqb-true, eq-eqb}
-use mathlib.Core.Path.{◌≡◌, refl, sym, ap, ◌∙◌}
+use borrow.Author.Tests.{not-true, eq-eqb}
+use mathlib.Core.Path.{◌≡◌, refl, ap, ◌∙◌}
 use mathlib.Core.Bool.{Bool, true, false, not, ◌&&◌, ◌||◌, or-true, false≢true}
-use mathlib.Core.List.{[], ◌∷◌, ◌++◌, append-nil}
+use mathlib.Core.List.{[], ◌∷◌, ◌++◌}
 use lib.Dec.{ltb, eqb}
 use lib.ListN.{length, get_or}
 use Rattle.lists.specs.Choice.{◌if◌else◌}
@@ -20,7 +20,6 @@ use Rattle.rules.specs.Calls.{setting_says, initial_says}
 use Rattle.rules.specs.Says.{Says, by_table, seen}
 use Rattle.rules.specs.declared.Setting.{Setting}
 use Rattle.rules.specs.declared.refusal.Refusal.{Refusal}
-use Rattle.rules.specs.declared.refusal.Refusal.TheVariants as Refusal
 use Rattle.rules.specs.Refusals.{code_of}
 
 -- no refusal has the number 0

@@ -9,6 +9,7 @@ pub mod Placement
 pub mod Setting
 pub mod SettingParts
 pub mod SettingFacts
+pub mod Causes
 pub mod Events
 pub mod Step
 pub mod Struck

@@ -2,7 +2,6 @@
 use Rattle.std.specs.Prelude.{ℕ, eqb}
 use Rattle.lists.specs.Choice.{◌if◌else◌}
 use Rattle.rules.specs.declared.refusal.Refusal.{Refusal}
-use Rattle.rules.specs.declared.refusal.Refusal.TheVariants as Refusal
 
 abbrev pub code_of : Refusal → ℕ
 code_of Refusal.Snakes = 1

@@ -1,8 +1,10 @@
 // The types that the calls of the arena share. No rule is coded here: the rules are definitions, in specs/.
 #![tactic(auto)]
 
+mod death;
 mod refusal;
 
+pub use death::DeathCause;
 pub use refusal::Refusal;
 
 #[derive(Clone, Copy, PartialEq, Eq)]
@@ -54,7 +56,7 @@ pub enum Cause {
 pub struct Event {
     pub ate_food: bool,
     pub died: bool,
-    pub death_cause: Option<Cause>,
+    pub death_cause: DeathCause,
     pub killed_opponent: bool,
     pub won: bool,
     pub lost: bool,

@@ -1,4 +1,5 @@
 -- What the words of an image show: a snake's part of a line, the events marked; the last line. Assumes nothing.
+use Rattle.std.proofs.lemmas.List.{get_or_default}
 use Prim.Native.Nat.{ℕ, ◌+◌, ◌*◌, ◌≤◌, ◌<◌}
 use mathlib.Core.Path.{◌≡◌, ap, ◌∙◌}
 use mathlib.Core.List.{List, [], ◌∷◌}
@@ -42,11 +43,11 @@ module _ (w : List ℕ) (es : List Event) (n : ℕ) where
   marked_none out p = record { within = omega arith; table = p ∙ filled_none (mark_shown w es) 8 blank }
 
   module _ (i : ℕ) (out : List Event) (m : Marked w es n i out) where
-    pub marked_next : i < length (take n es) → n ≤ 8 → (l alive : ℕ) (e : Event) → l ≡ 8 + 4 * i → alive ≡ get_or w l 0 → e ≡ truncated (get_or (take n es) i blank) (eqb alive 1)
+    pub marked_next : i < length (take n es) → n ≤ 8 → (l alive : ℕ) (e d : Event) → l ≡ 8 + 4 * i → alive ≡ get_or w l 0 → e ≡ truncated (get_or (take n es) i d) (eqb alive 1)
         → Marked w es n (i + 1) (set out i e)
-    marked_next h k l alive e pl pa pe =
+    marked_next h k l alive e d pl pa pe =
         let lt : i < n = omega (arith, length-take n es) in
-        let q : e ≡ mark_shown w es i = pe ∙ rw (get_or-take, pa, pl) in
+        let q : e ≡ mark_shown w es i = pe ∙ rw (get_or_default (take n es) i d blank h, get_or-take, pa, pl) in
         record {
           within = omega arith;
           table = ap (λ (x : List Event). set x i e) m.table ∙ rw q (filled_more (mark_shown w es) i 8 blank (omega arith));

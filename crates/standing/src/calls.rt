@@ -28,8 +28,9 @@ pub fn take_move(m: Match, over: bool, image: &[u16], events: [Event; 8]) -> Res
     if m.over {
         return Err(Refusal::Over);
     }
+    let game = after_move(m, over, &events);
     Ok(Taken {
-        game: after_move(m, over, events),
+        game,
         events: events_shown(m, over, image, events),
     })
 }

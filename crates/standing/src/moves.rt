@@ -69,8 +69,8 @@ pub fn events_shown(m: Match, over: bool, image: &[u16], events: [Event; 8]) -> 
 }
 
 // For each snake the move on which it died: move k for those that die on it.
-fn deaths_after(k: u64, deaths: [u64; 8], events: [Event; 8]) -> [u64; 8]
-    ensures { result ≡ deaths_after k deaths events }
+fn deaths_after(k: u64, deaths: [u64; 8], events: &[Event; 8]) -> [u64; 8]
+    ensures { result ≡ deaths_after k deaths events.now }
 {
     let mut after = deaths;
     for (i, event) in events.iter().enumerate() {
@@ -88,15 +88,20 @@ fn lost_alive(e: Event) -> bool
 }
 
 // For each snake whether it lost on this move and lives.
-fn behind_after(events: [Event; 8]) -> [bool; 8]
-    ensures { result ≡ behind_after events }
+fn behind_after(events: &[Event; 8]) -> [bool; 8]
+    ensures { result ≡ behind_after events.now }
 {
-    events.map(lost_alive)
+    // A loop: the library's map fills an array of Options first.
+    let mut behind = [false; 8];
+    for (i, event) in events.iter().enumerate() {
+        behind[i] = lost_alive(*event);
+    }
+    behind
 }
 
 // The match after a move.
-pub fn after_move(m: Match, over: bool, events: [Event; 8]) -> Match
-    ensures { result ≡ moved m over events }
+pub fn after_move(m: Match, over: bool, events: &[Event; 8]) -> Match
+    ensures { result ≡ moved m over events.now }
 {
     let moves = count_on(m.moves);
     let timeout = ends_by(m, over);

@@ -6,12 +6,13 @@ ghost use Rattle.standing.specs.Standing.{places_of, snakes_of};
 
 use crate::Match;
 use crate::moves::snakes_of;
+use lists::more_if;
 
 // Whether a snake is alive, or died on a later move than d.
 fn does_outlive(d: u64, x: u64) -> bool
     ensures { result ≡ outlives d x }
 {
-    x == 0 || d < x
+    (x == 0) | (d < x)
 }
 
 // How many snakes of the match outlive snake i.
@@ -19,11 +20,11 @@ fn outlast_count(m: &Match, i: usize) -> usize
     requires { i < 8 }
     ensures { result ≡ count_below (snakes_of m.now) (outlasts m.now.deaths i) }
 {
-    let mine = m.deaths[i];
-    m.deaths[..snakes_of(*m)]
-        .iter()
-        .filter(|other| does_outlive(mine, **other))
-        .count()
+    let mut k = 0;
+    for j in 0..snakes_of(*m) {
+        k = more_if(k, does_outlive(m.deaths[i], m.deaths[j]));
+    }
+    k
 }
 
 fn placing_of(m: &Match, i: usize) -> u64

@@ -1,9 +1,10 @@
 -- Demand 2 of each call: where no row of its table holds, it answers what its definition says. Assumes nothing.
-use Rattle.std.specs.Prelude.{Option, Ok}
+use Rattle.std.specs.Prelude.{Option, Ok, Err}
 use Prim.Native.Nat.{ℕ}
 use mathlib.Core.Path.{◌≡◌, sym, ap, ◌∙◌}
 use mathlib.Core.Bool.{Bool, true, false}
-use mathlib.Core.List.{List}
+use mathlib.Core.List.{List, [], ◌∷◌}
+use native.Mathlib.Omega.{arith}
 use lib.IntN.{ℤ}
 use lib.Ieee.{Float}
 use lib.ListN.{length, take, replicate}
@@ -12,7 +13,7 @@ use Rattle.rules.specs.Headings.{turned}
 use Rattle.rules.specs.Events.{blank, eight}
 use Rattle.rules.specs.State.{State, snake_of}
 use Rattle.rules.specs.Image.{image_of, state_of, well_formed}
-use Rattle.rules.specs.Setting.{side_of, setting_order, initial_state}
+use Rattle.rules.specs.Setting.{side_of, setting_order, setting_check, initial_state}
 use Rattle.rules.specs.Step.{Transition, stepped}
 use Rattle.rules.specs.Chance.{outcomes, drawn, after_draw, rank_of}
 use Rattle.rules.specs.View.{view, lit}
@@ -36,7 +37,10 @@ use Rattle.rules.specs.declared.Space.TheVariants.{Box, Discrete}
 use Rattle.rules.proofs.Answers.{seen_one, space_of}
 use denote.Ref.{Bor}
 use Rattle.image.specs.Memory.{word_place, start_asked}
-use Rattle.rules.specs.Tables.{Table, none_hold}
+use Rattle.lists.specs.Choice.{◌if◌else◌}
+use Rattle.rules.specs.Refusals.{code_of}
+use Rattle.rules.specs.declared.refusal.Refusal.{Refusal}
+use Rattle.rules.specs.Tables.{Table, none_hold, fault}
 use Rattle.rules.specs.Orders.{initial_order, step_order, observe_order, count_order, draw_order, rank_order, image_order, agent_order, reward_order, space_order}
 use Rattle.rules.proofs.Tables.{table_gives}
 use Rattle.theorems.specs.Answers.{StepIs, DrawIs}
@@ -66,6 +70,21 @@ examine_is w r p h = (p.answer ∙ lawful (image_order w) tt h)
 pub validate_is : (s : Setting) (r : Says (Unit {0})) → Validates s r → none_hold (setting_order s) ≡ true → r ≡ Ok tt
 unfolding setting_says
 validate_is s r p h = (p.answer ∙ lawful (setting_order s) tt h)
+
+-- and where it refuses, its number is the one of which document 01's examples speak
+fault_is : (t : Table) (k : Refusal) → by_table t (Ok (tt {0})) ≡ Err k → fault t ≡ code_of k
+unfolding by_table fault
+fault_is [] k e = let z : ◌≡◌ {A = ℕ} 0 1 = cc in absurd (omega arith)
+fault_is (x ∷ xs) k e = go x.0 x.1 (fault_is xs k) e
+  where
+    go : (n : Refusal) (c : Bool) → (by_table xs (Ok (tt {0})) ≡ Err k → fault xs ≡ code_of k) → (Err n if c else by_table xs (Ok (tt {0}))) ≡ Err k
+        → (code_of n if c else fault xs) ≡ code_of k
+    go n true later q = let same : n ≡ k = cc in ap code_of same
+    go n false later q = later q
+
+pub validate_number : (s : Setting) (k : Refusal) → Validates s (Err k) → setting_check s ≡ code_of k
+unfolding setting_says setting_check
+validate_number s k p = fault_is (setting_order s) k (sym p.answer)
 
 -- the words written are the image of the initial state
 pub initial_is : (s : Setting) (old new : List ℕ) (r : Says ℕ) → Starts s old new r → none_hold (initial_order s (length old)) ≡ true

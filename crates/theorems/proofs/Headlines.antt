@@ -18,6 +18,8 @@ pub use Rattle.theorems.proofs.Refusals.{initial_after, step_after, observe_afte
 pub use Rattle.theorems.proofs.Definitions.{turn_is, check_is, examine_is, body_is, validate_is, initial_is, step_is, observe_is, count_is, draw_is, rank_is, actor_is, legal_is, key_is, truncation_is, reward_is, space_is, action_space_is}
 -- Demand 2: document 01's twelve examples, one table; a second one for wrong definitions that neither they nor a law shuts out
 pub use Rattle.rules.proofs.Examples.{examples_hold, more_hold}
+-- Demand 2: the number by which `validate` refuses is the one of which the examples speak
+pub use Rattle.theorems.proofs.Definitions.{validate_number}
 -- Demand 2: what a program prints that takes the lines of its input one by one is the replay of that input
 pub use Rattle.referee.proofs.Whole.{run_prints}
 -- Demand 2: what the stream gives to print, part by part of what is read, is the replay of all that is read

@@ -1,5 +1,7 @@
 -- Which word each search finds: a law for each return and each turn of a loop. Assumes nothing.
-use Rattle.std.specs.Prelude.{Option, Some, None}
+use Rattle.lists.specs.Search.{found_in}
+use Rattle.lists.proofs.Search.{found_member}
+use Rattle.std.specs.Prelude.{Option, Some, None, is_some}
 use Prim.Native.Nat.{ℕ, ◌+◌, ◌-◌, ◌*◌, ◌<◌, ◌≤◌, max}
 use native.Mathlib.Omega.{arith}
 use mathlib.Core.Path.{◌≡◌, sym, ap, ◌∙◌}
@@ -98,12 +100,15 @@ module _ (l : List ℕ) where
   once_none = pass_none _ (length l)
 
   module _ (k : ℕ) (q : Twice k) where
-    module _ (h : k < length l) (b : Bool) (e : b ≡ member (get_or l k 0) (take k l)) where
+    module _ (h : k < length l) (r : Option ℕ) (f : r ≡ found_in (take k l) (get_or l k 0)) (b : Bool) (g : b ≡ is_some r) where
+      seen : b ≡ member (get_or l k 0) (take k l)
+      seen = g ∙ ap is_some f ∙ found_member (get_or l k 0) (take k l)
+
       pub once_here : b ≡ true → k ≡ twice_in l
-      once_here t = pass_here _ (length l) _ k q h (sym e ∙ t)
+      once_here t = pass_here _ (length l) _ k q h (sym seen ∙ t)
 
       pub once_on : b ≡ false → Twice (k + 1)
-      once_on t = pass_on _ (length l) _ k q h (sym e ∙ t)
+      once_on t = pass_on _ (length l) _ k q h (sym seen ∙ t)
 
     pub once_all : length l ≤ k → k ≤ length l → length l ≡ twice_in l
     once_all h m = let e : length l ≡ k = omega arith in e ∙ pass_all _ (length l) _ k q h

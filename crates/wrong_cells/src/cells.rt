@@ -43,7 +43,7 @@ fn twice_in(body: &[u16]) -> usize
     ensures { result ≡ twice_in body.now }
 {
     for (k, cell) in body.iter().enumerate() {
-        if lists::holds(&body[..k], *cell) {
+        if lists::find(&body[..k], *cell).is_some() {
             return k;
         }
     }

@@ -26,4 +26,5 @@ returns-in-SelfBody c =
 pub returns-in-OppBody : goal.returns-in-OppBody
 returns-in-OppBody c =
     let r = c.requires in
-    hit_other _ _ _ _ r.judging _ r.cause_value (c.in_ok-cause.was ∙ ap Some c.in-OppBody.is) _ c.find_other.ensures
+    let e = c.in_ok-cause.was ∙ ap Some c.in-OppBody.is in
+    search (hit_other _ _ _ _ r.judging _ r.cause_value e)

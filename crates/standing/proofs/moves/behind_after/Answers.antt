@@ -1,9 +1,13 @@
--- `standing::behind_after` meets its contract: each call of `lost_alive` is at a snake's event (`Tables`). Assumes nothing.
-use Rattle.std.proofs.Common.{rules, false}
-use Rattle.rules.specs.Events.{blank}
-use Rattle.standing.specs.Standing.{lost_alive}
-use Rattle.standing.proofs.Tables.{filled_map}
+-- `standing::behind_after` meets its contract. The invariant: the first i snakes are noted (`Noted` in `Behind`). Assumes nothing.
+use Rattle.std.proofs.Common.{rules}
+use Rattle.standing.proofs.Behind.{noted_none, noted_next, noted_all}
 use Rattle.standing.proofs.moves.behind_after.Goals as goal
 
+pub loop-i-init : goal.loop-i-init
+loop-i-init c = search noted_none
+
+pub loop-i-preserved : goal.loop-i-preserved
+loop-i-preserved c = search (rules, noted_next)
+
 pub returns : goal.returns
-returns c = filled_map _ _ lost_alive c.args.events blank c.map.result 8 false (λ p q x y k. search rules) c.map.ensures.items
+returns c = search noted_all

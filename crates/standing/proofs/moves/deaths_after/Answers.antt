@@ -5,4 +5,4 @@ use Rattle.standing.proofs.Tables.{filled_full}
 use Rattle.standing.proofs.moves.deaths_after.Goals as goal
 
 pub returns : goal.returns
-returns c = filled_full (death_at c.args.k c.args.deaths c.args.events) 8 0 c.loop-i.after (search rules) (λ i h. c.loop-i.invariant.below i (omega arith))
+returns c = filled_full (death_at c.args.k c.args.deaths c.args.events.now) 8 0 c.loop-i.after (search rules) (λ i h. c.loop-i.invariant.below i (omega arith))

@@ -6,6 +6,6 @@ use Rattle.standing.proofs.moves.deaths_after.Given as goal
 abbrev pub invariant-loop-i : goal.invariant-loop-i
 invariant-loop-i l = record {
   long : length l.after ≡ length l.fn.deaths;
-  below : (j : ℕ) → j < l.i → get_or l.after j 0 ≡ death_at l.k l.fn.deaths l.fn.events j;
+  below : (j : ℕ) → j < l.i → get_or l.after j 0 ≡ death_at l.k l.fn.deaths l.events j;
   rest : (j : ℕ) → l.i ≤ j → get_or l.after j 0 ≡ get_or l.fn.deaths j 0;
 }

@@ -6,8 +6,8 @@ use Rattle.wrong_cells.proofs.cells.twice_in.Goals as goal
 pub loop-k-init : goal.loop-k-init
 loop-k-init c = search once_none
 
-pub returns-then-holds : goal.returns-then-holds
-returns-then-holds c = search once_here
+pub returns-then-is_some : goal.returns-then-is_some
+returns-then-is_some c = search once_here
 
 pub loop-k-preserved : goal.loop-k-preserved
 loop-k-preserved c = search once_on
